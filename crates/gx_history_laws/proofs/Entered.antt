@@ -1,0 +1,251 @@
+-- A granted Enter takes effect: its order is live with all its shares, the last of those that wait.
+use Rattle.std.proofs.Common.{◌≡◌, ℕ, ◌+◌, ◌-◌, ◌<◌, ◌≤◌, Bool, true, false, List, [], ◌∷◌, ◌++◌, refl, ◌∙◌, ap, sym, map, length, length-append, arith, cond}
+use Rattle.std.proofs.Math.Path.{subst}
+use Rattle.std.specs.Prelude.{Option, Some, None, ◌&&◌, ◌||◌, ◌==◌, not, nat_lt, unwrap_or, option_map, option_to_list}
+use Rattle.std.specs.Option.{option_map_or}
+use Rattle.std.specs.List.{list_any, filter, AllByRecursion}
+use Rattle.std.proofs.lemmas.Bool.{ne_eqb}
+use Rattle.std.proofs.lemmas.List.{append-nil}
+use Rattle.std.proofs.lemmas.List.Elements.{filter-append}
+use Rattle.gx_units.specs.declared.names.AccountName.{AccountName}
+use Rattle.gx_units.specs.declared.names.UserName.{UserName}
+use Rattle.gx_ouch.specs.declared.inbound.EnterOrder.{EnterOrder}
+use Rattle.gx_history.specs.declared.policy.PolicyData.{PolicyData}
+use Rattle.gx_history.specs.declared.record.Asked.{Asked}
+use Rattle.gx_history.specs.declared.record.RecordData.{RecordData}
+use Rattle.gx_history.specs.declared.record.Request.{Request}
+use Rattle.gx_history.specs.declared.record.Request.TheVariants as requests
+use Rattle.gx_history.specs.declared.record.Step.{Step}
+use Rattle.gx_history.specs.declared.record.Step.TheVariants as steps
+use Rattle.gx_history.specs.declared.record.Verdict.{Verdict}
+use Rattle.gx_history.specs.declared.record.Verdict.TheVariants as verdicts
+use Rattle.gx_history.specs.Book.{incoming, rested, rested_of, has_rested}
+use Rattle.gx_history.specs.Effects.{TakesEffect, whole_order}
+use Rattle.gx_history.specs.Executions.{executions, done, Standing, standing, standings, is_live, live_orders}
+use Rattle.gx_history.specs.Matching.{matching, first_outcome, outcome, unmatched, crosses, filled}
+use Rattle.gx_history.specs.Orders.{Order, orders, orders_added, entered, total, ends, size_set}
+use Rattle.gx_history.specs.OuchValues.{immediate_or_cancel}
+use Rattle.gx_history.specs.People.{account_of, role_of}
+use Rattle.gx_history.specs.Requests.{is_judged}
+use Rattle.gx_history.specs.Verdicts.{next, step_verdict, moment_of, Follows, IsLegal}
+use Rattle.gx_history_laws.proofs.Denials.{map_same}
+use Rattle.gx_history_laws.proofs.Entering.{HasAccount, entered_has_account, entered_has_shares}
+use Rattle.gx_history_laws.proofs.Granting.{legal_keeps, asked_is_judged}
+use Rattle.gx_history_laws.proofs.NewOrders.{AreBefore, new_is_not_dead, new_has_full_size, new_has_no_fills}
+use Rattle.gx_history_laws.proofs.NextOrders.{standing_after, open_shares_next, open_shares_kept, live_orders_next, rested_next, done_none}
+use Rattle.gx_history_laws.proofs.Numbers.{all_weaker, number_left, records_are_within, NumbersAreWithin, none_within, one_more_within}
+use Rattle.gx_history_laws.proofs.Order.{some_same}
+use Rattle.gx_history_laws.proofs.Owners.{all_both, filtered}
+use Rattle.gx_history_laws.proofs.Runs.{step_left}
+
+-- an order that a matching step puts to rest is one that waits
+pub all_mapped : {X Y : Type 0} (P : Y → Type 0) (f : X → Y) (xs : List X) → AllByRecursion (λ (x : X). P (f x)) xs → AllByRecursion P (map f xs)
+all_mapped P f [] h = tt
+all_mapped P f (x ∷ xs) h = (h.0, all_mapped P f xs h.1)
+
+abbrev IsNumberedWithin : ℕ → Standing → Type 0
+IsNumberedWithin limit s = s.order.number ≤ limit
+
+waiting_are_within : (policy : PolicyData) (history : List RecordData) → NumbersAreWithin policy history → AllByRecursion (IsNumberedWithin (length history)) (incoming policy history)
+unfolding incoming live_orders standings
+waiting_are_within policy history within =
+    filtered (IsNumberedWithin (length history)) (λ (s : Standing). not (has_rested history s)) (live_orders policy history)
+    (filtered (IsNumberedWithin (length history)) is_live (standings policy history)
+    (all_mapped (IsNumberedWithin (length history)) (standing (executions policy history) history) (orders policy history) within))
+
+rests_itself : (o : Order) (n : ℕ) → unmatched o ≡ verdicts.Rested n → n ≡ o.number
+rests_itself o n h = at (o.terms.time_in_force == immediate_or_cancel) h
+  where
+    at : (b : Bool) → elim b [ true ↦ verdicts.Expired o.number | false ↦ verdicts.Rested o.number ] ≡ verdicts.Rested n → n ≡ o.number
+    at true k = cc
+    at false k = cc
+
+rest_is_first : (first : Standing) (opposite : List Standing) (n : ℕ) → outcome first opposite ≡ verdicts.Rested n → n ≡ first.order.number
+rest_is_first first [] n h = rests_itself first.order n h
+rest_is_first first (best ∷ others) n h = at (crosses first.order best.order) h
+  where
+    at : (b : Bool) → elim b [ true ↦ filled first best | false ↦ unmatched first.order ] ≡ verdicts.Rested n → n ≡ first.order.number
+    at true k = cc
+    at false k = rests_itself first.order n k
+
+rest_is_within : (policy : PolicyData) (history : List RecordData) (n : ℕ) → NumbersAreWithin policy history → matching policy history ≡ Some (verdicts.Rested n) → n ≤ length history
+unfolding matching
+rest_is_within policy history n within h = at (incoming policy history) (waiting_are_within policy history within) h
+  where
+    at : (found : List Standing) → AllByRecursion (IsNumberedWithin (length history)) found → first_outcome policy history found ≡ Some (verdicts.Rested n) → n ≤ length history
+    at [] all k = cc
+    at (first ∷ others) all k =
+        let same : n ≡ first.order.number = rest_is_first first _ n (some_same k) in
+        let small : first.order.number ≤ length history = all.0 in
+        omega arith
+
+abbrev matched : ℕ → ℕ → ℕ → Verdict → RecordData
+matched number moment handed v = record { number = number; moment = moment; step = steps.Matching handed; verdict = v }
+
+-- the verdict of a matching step's record
+verdict_of_match : (policy : PolicyData) (history : List RecordData) (handed : ℕ) (r : RecordData) → next policy history (steps.Matching handed) ≡ Some r → matching policy history ≡ Some r.verdict
+unfolding next step_verdict
+verdict_of_match policy history handed r e = at (matching policy history) e
+  where
+    at : (found : Option Verdict) → option_map (matched (length history + 1) (moment_of history (steps.Matching handed)) handed) found ≡ Some r → found ≡ Some r.verdict
+    at None k = cc
+    at (Some v) k = ap (λ (x : RecordData). Some x.verdict) (some_same k)
+
+abbrev RestedAreWithin : List RecordData → Type 0
+RestedAreWithin history = AllByRecursion (λ (n : ℕ). n ≤ length history) (rested history)
+
+new_rest : (policy : PolicyData) (history : List RecordData) (r : RecordData) → NumbersAreWithin policy history → Follows policy (history, r)
+    → AllByRecursion (λ (n : ℕ). n ≤ length history) (option_to_list (rested_of r.verdict))
+new_rest policy history r within follows = by_verdict r.verdict refl
+  where
+    by_step : (n : ℕ) → r.verdict ≡ verdicts.Rested n → (s : Step) → r.step ≡ s → n ≤ length history
+    by_step n e (steps.Asked a) asks =
+        let judged : is_judged r.verdict ≡ true = asked_is_judged policy history a r (ap (next policy history) (sym asks) ∙ follows.is_next) in
+        let not_judged : is_judged r.verdict ≡ false = ap is_judged e in
+        cc
+    by_step n e (steps.Matching handed) asks =
+        rest_is_within policy history n within
+        (verdict_of_match policy history handed r (ap (next policy history) (sym asks) ∙ follows.is_next) ∙ ap (λ (v : Verdict). Some v) e)
+
+    by_verdict : (v : Verdict) → r.verdict ≡ v → AllByRecursion (λ (n : ℕ). n ≤ length history) (option_to_list (rested_of v))
+    by_verdict verdicts.Granted e = tt
+    by_verdict (verdicts.Denied rule) e = tt
+    by_verdict (verdicts.Filled f) e = tt
+    by_verdict (verdicts.Rested n) e = (by_step n e r.step refl, tt)
+    by_verdict (verdicts.Expired n) e = tt
+
+one_more_rest : (policy : PolicyData) (history : List RecordData) (r : RecordData) → NumbersAreWithin policy history → RestedAreWithin history → Follows policy (history, r) → RestedAreWithin (history ++ r ∷ [])
+one_more_rest policy history r within rests follows =
+    let size : length (history ++ r ∷ []) ≡ length history + 1 = length-append history (r ∷ []) in
+    subst (λ (ns : List ℕ). AllByRecursion (λ (n : ℕ). n ≤ length (history ++ r ∷ [])) ns) (sym (rested_next history r))
+    (all_weaker (λ (n : ℕ). n ≤ length history) (λ (n : ℕ). n ≤ length (history ++ r ∷ [])) (λ n h. omega arith) (rested history ++ option_to_list (rested_of r.verdict))
+    (all_both (λ (n : ℕ). n ≤ length history) (rested history) (option_to_list (rested_of r.verdict)) rests (new_rest policy history r within follows)))
+
+pub rested_are_within : (policy : PolicyData) (history : List RecordData) → IsLegal policy history → RestedAreWithin history
+rested_are_within policy history legal =
+    (legal_keeps policy (λ (h : List RecordData). NumbersAreWithin policy h × RestedAreWithin h) (none_within policy, tt)
+    (λ h r kept follows. (one_more_within policy h r kept.0 follows, one_more_rest policy h r kept.0 kept.1 follows)) history legal).1
+
+not_among : (limit number : ℕ) (ns : List ℕ) → limit < number → AllByRecursion (λ (n : ℕ). n ≤ limit) ns → list_any (λ n. n == number) ns ≡ false
+not_among limit number [] late h = refl
+not_among limit number (n ∷ ns) late h =
+    ap (λ (b : Bool). b || list_any (λ n. n == number) ns) (ne_eqb n number (λ same. absurd (at same h.0))) ∙ not_among limit number ns late h.1
+  where
+    at : n ≡ number → n ≤ limit → ⊥
+    at same small = absurd (omega arith)
+
+abbrev asking : (line handed : ℕ) → UserName → EnterOrder → Asked
+asking line handed user m = record { line = line; user = user; request = requests.Enter m; handed = handed }
+
+-- the record of a granted Enter
+abbrev taken_in : (number moment line handed : ℕ) → UserName → EnterOrder → RecordData
+taken_in number moment line handed user m = record { number = number; moment = moment; step = steps.Asked (asking line handed user m); verdict = verdicts.Granted }
+
+-- what it says of other orders
+ends_none : (number moment line handed : ℕ) (user : UserName) (m : EnterOrder) (o : Order) → ends o (taken_in number moment line handed user m) ≡ false
+ends_none number moment line handed user m o = elim (nat_lt o.number number) as (λ b. (b && false) ≡ false) [ true ↦ refl | false ↦ refl ]
+
+sizes_none : (number moment line handed : ℕ) (user : UserName) (m : EnterOrder) (o : Order) → size_set o (taken_in number moment line handed user m) ≡ None
+sizes_none number moment line handed user m o = elim (nat_lt o.number number) as (λ b. cond {A = Option ℕ} b None None ≡ None) [ true ↦ refl | false ↦ refl ]
+
+abbrev stands : Order → ℕ → Standing
+stands o n = record { order = o; open_shares = n }
+
+standings_kept : (policy : PolicyData) (history : List RecordData) (number moment line handed : ℕ) (user : UserName) (m : EnterOrder)
+    → map (standing_after policy history (taken_in number moment line handed user m)) (orders policy history) ≡ standings policy history
+unfolding standings
+standings_kept policy history number moment line handed user m =
+    let r : RecordData = taken_in number moment line handed user m in
+    map_same (standing_after policy history r) (standing (executions policy history) history)
+    (λ (o : Order). ap (λ (n : ℕ). stands o n) (open_shares_kept policy history r o (ends_none number moment line handed user m o) (sizes_none number moment line handed user m o) (done_none o)))
+    (orders policy history)
+
+all_before_it : (policy : PolicyData) (history : List RecordData) (number : ℕ) → IsLegal policy history → number ≡ length history + 1 → AreBefore number history
+all_before_it policy history number legal place =
+    all_weaker (λ (x : RecordData). x.number ≤ length history) (λ (x : RecordData). x.number < number) (λ x h. omega arith) history (records_are_within policy history legal)
+
+-- the new order has all its shares open
+all_open : (policy : PolicyData) (history : List RecordData) (number moment line handed : ℕ) (user : UserName) (m : EnterOrder) (account : AccountName)
+    → IsLegal policy history → number ≡ length history + 1
+    → standing_after policy history (taken_in number moment line handed user m) (entered policy (taken_in number moment line handed user m) user account m)
+    ≡ whole_order policy (taken_in number moment line handed user m) user account m
+all_open policy history number moment line handed user m account legal place =
+    let r : RecordData = taken_in number moment line handed user m in
+    let o : Order = entered policy r user account m in
+    let fills : ℕ = done (executions policy history) o + done [] o in
+    let before : AreBefore number history = all_before_it policy history number legal place in
+    let late : length history < number = omega arith in
+    let no_fills : done (executions policy history) o ≡ 0 = new_has_no_fills policy history o legal late refl in
+    let no_more : done [] o ≡ 0 = done_none o in
+    let none_done : done (executions policy history) o + done [] o ≡ 0 = omega arith in
+    let all : m.shares - 0 ≡ m.shares = omega arith in
+    ap (λ (n : ℕ). stands o n)
+    (open_shares_next policy history r o
+    ∙ ap (λ (b : Bool). cond (b || ends o r) 0 (unwrap_or (size_set o r) (total history o) - fills)) (new_is_not_dead history o before)
+    ∙ ap (λ (b : Bool). cond b 0 (unwrap_or (size_set o r) (total history o) - fills)) (ends_none number moment line handed user m o)
+    ∙ ap (λ (n : Option ℕ). unwrap_or n (total history o) - fills) (sizes_none number moment line handed user m o)
+    ∙ ap (λ (n : ℕ). n - fills) (new_has_full_size history o before)
+    ∙ ap (λ (n : ℕ). m.shares - n) none_done
+    ∙ all)
+
+kept_one : {X : Type 0} (p : X → Bool) (x : X) → p x ≡ true → filter p (x ∷ []) ≡ x ∷ []
+kept_one p x h = ap (λ (b : Bool). cond b (x ∷ []) []) h
+
+live_then : (policy : PolicyData) (history : List RecordData) (number moment line handed : ℕ) (user : UserName) (m : EnterOrder) (account : AccountName)
+    → IsLegal policy history → number ≡ length history + 1 → account_of policy user ≡ Some account → nat_lt 0 m.shares ≡ true
+    → live_orders policy (history ++ taken_in number moment line handed user m ∷ []) ≡ live_orders policy history ++ whole_order policy (taken_in number moment line handed user m) user account m ∷ []
+unfolding live_orders
+live_then policy history number moment line handed user m account legal place his some =
+    let r : RecordData = taken_in number moment line handed user m in
+    live_orders_next policy history r
+    ∙ ap (λ (ss : List Standing). filter is_live ss ++ filter is_live (map (standing_after policy history r) (orders_added policy (orders policy history) r))) (standings_kept policy history number moment line handed user m)
+    ∙ ap (λ (found : Option AccountName). live_orders policy history ++ filter is_live (map (standing_after policy history r) (option_map_or (λ (a : AccountName). entered policy r user a m ∷ []) found []))) his
+    ∙ ap (λ (s : Standing). live_orders policy history ++ filter is_live (s ∷ [])) (all_open policy history number moment line handed user m account legal place)
+    ∙ ap (λ (ss : List Standing). live_orders policy history ++ ss) (kept_one is_live (whole_order policy r user account m) some)
+
+abbrev is_in : List ℕ → Standing → Bool
+is_in ns s = list_any (λ n. n == s.order.number) ns
+
+waiting_then : (policy : PolicyData) (history : List RecordData) (number moment line handed : ℕ) (user : UserName) (m : EnterOrder) (account : AccountName)
+    → IsLegal policy history → number ≡ length history + 1 → account_of policy user ≡ Some account → nat_lt 0 m.shares ≡ true
+    → incoming policy (history ++ taken_in number moment line handed user m ∷ []) ≡ incoming policy history ++ whole_order policy (taken_in number moment line handed user m) user account m ∷ []
+unfolding incoming
+waiting_then policy history number moment line handed user m account legal place his some =
+    let r : RecordData = taken_in number moment line handed user m in
+    let s : Standing = whole_order policy r user account m in
+    let late : length history < number = omega arith in
+    ap (λ (ns : List ℕ). filter (λ (x : Standing). not (is_in ns x)) (live_orders policy (history ++ r ∷ []))) (rested_next history r ∙ append-nil (rested history))
+    ∙ ap (filter (λ (x : Standing). not (has_rested history x))) (live_then policy history number moment line handed user m account legal place his some)
+    ∙ filter-append (λ (x : Standing). not (has_rested history x)) (live_orders policy history) (s ∷ [])
+    ∙ ap (λ (ss : List Standing). filter (λ (x : Standing). not (has_rested history x)) (live_orders policy history) ++ ss)
+    (kept_one (λ (x : Standing). not (has_rested history x)) s (ap not (not_among (length history) number (rested history) late (rested_are_within policy history legal))))
+
+taken : (policy : PolicyData) (history : List RecordData) (number moment line handed : ℕ) (user : UserName) (m : EnterOrder) → IsLegal policy history
+    → next policy history (steps.Asked (asking line handed user m)) ≡ Some (taken_in number moment line handed user m)
+    → TakesEffect policy history (history ++ taken_in number moment line handed user m ∷ []) (taken_in number moment line handed user m) user m
+taken policy history number moment line handed user m legal e =
+    let r : RecordData = taken_in number moment line handed user m in
+    let a : Asked = asking line handed user m in
+    let place : number ≡ length history + 1 = number_left policy history (steps.Asked a) r e in
+    let his : HasAccount (role_of policy user) = entered_has_account policy history a r m e refl refl in
+    let some : nat_lt 0 m.shares ≡ true = entered_has_shares policy history a r m e refl refl in
+    record {
+      account = his.0;
+      is_his = his.1;
+      live_more = live_then policy history number moment line handed user m his.0 legal place his.1 some;
+      incoming_more = waiting_then policy history number moment line handed user m his.0 legal place his.1 some;
+    }
+
+-- in a legal history, whatever stands in the book
+pub takes_effect : (policy : PolicyData) (history : List RecordData) (a : Asked) (r : RecordData) (m : EnterOrder) → IsLegal policy history
+    → next policy history (steps.Asked a) ≡ Some r → a.request ≡ requests.Enter m → r.verdict ≡ verdicts.Granted
+    → TakesEffect policy history (history ++ r ∷ []) r a.user m
+takes_effect policy history a r m legal e enters granted =
+    let with_request : Request → Asked = λ (q : Request). record { line = a.line; user = a.user; request = q; handed = a.handed } in
+    let a_is : a ≡ asking a.line a.handed a.user m = ap with_request enters in
+    let r_is : r ≡ taken_in r.number r.moment a.line a.handed a.user m =
+    ap (λ (s : Step). record { number = r.number; moment = r.moment; step = s; verdict = r.verdict }) (step_left policy history (steps.Asked a) r e ∙ ap (λ (x : Asked). steps.Asked x) a_is)
+    ∙ ap (λ (v : Verdict). record { number = r.number; moment = r.moment; step = steps.Asked (asking a.line a.handed a.user m); verdict = v }) granted in
+    subst (λ (x : RecordData). TakesEffect policy history (history ++ x ∷ []) x a.user m) (sym r_is)
+    (taken policy history r.number r.moment a.line a.handed a.user m legal
+    (sym (ap (λ (x : Asked). next policy history (steps.Asked x)) a_is) ∙ e ∙ ap (λ (x : RecordData). Some x) r_is))

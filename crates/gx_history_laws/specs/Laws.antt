@@ -1,0 +1,141 @@
+-- What the definitions say of every policy, every history and every request.
+use Rattle.std.specs.Option.{option_map_or}
+use Rattle.std.specs.Prelude.{◌≡◌, ℕ, ◌+◌, ◌≤◌, length, List, [], ◌∷◌, ◌++◌, map, Some, None, ◌↔◌, IsTrue, IsFalse, Bool, false, ◌&&◌, filter}
+use Rattle.std.specs.List.{list_any, AllByRecursion}
+use Rattle.gx_units.specs.Names.{same_user, same_token}
+use Rattle.gx_units.specs.declared.names.AccountName.{AccountName}
+use Rattle.gx_units.specs.declared.names.UserName.{UserName}
+use Rattle.gx_ouch.specs.declared.inbound.EnterOrder.{EnterOrder}
+use Rattle.gx_desk.specs.declared.Action.{Action}
+use Rattle.gx_history.specs.declared.policy.PolicyData.{PolicyData}
+use Rattle.gx_history.specs.declared.record.Asked.{Asked}
+use Rattle.gx_history.specs.declared.record.RecordData.{RecordData}
+use Rattle.gx_history.specs.declared.record.Request.TheVariants as requests
+use Rattle.gx_history.specs.declared.record.RuleName.{RuleName}
+use Rattle.gx_history.specs.declared.record.Step.{Step}
+use Rattle.gx_history.specs.declared.record.Step.TheVariants as steps
+use Rattle.gx_history.specs.declared.record.Verdict.TheVariants as verdicts
+use Rattle.gx_history.specs.Book.{incoming}
+use Rattle.gx_history.specs.Effects.{IsAsBefore, TakesEffect}
+use Rattle.gx_history.specs.Executions.{Execution, Standing, executions, live_orders, open_shares}
+use Rattle.gx_history.specs.Orders.{Order, orders, ends_account, total}
+use Rattle.gx_history.specs.Requests.{granted, granted_action, is_order}
+use Rattle.gx_history.specs.InForce.{is_killed}
+use Rattle.gx_history.specs.Lists.{are_distinct}
+use Rattle.gx_history.specs.People.{account_of}
+use Rattle.gx_history.specs.Streams.{stream, reports_of}
+use Rattle.gx_history.specs.Rules.{applies, written_order, IsFirstForbidding}
+use Rattle.gx_history.specs.Showing.{is_askable, is_showable}
+use Rattle.gx_history.specs.Soundness.{is_sound}
+use Rattle.gx_history.specs.Verdicts.{verdict, facts_now, rules_now, next, moment_of, run, day_limit, Follows, IsLegal}
+
+-- a request leaves one record: the next number, the moment, the request and its verdict
+abbrev pub RequestsLeaveRecords : Type 0
+RequestsLeaveRecords = (policy : PolicyData) (history : List RecordData) (a : Asked)
+    → next policy history (steps.Asked a)
+    ≡ Some (record { number = length history + 1; moment = moment_of history (steps.Asked a); step = steps.Asked a; verdict = verdict policy history a })
+
+-- a request is granted exactly where no rule of the written order forbids it
+abbrev pub GrantedWhereNoneForbids : Type 0
+GrantedWhereNoneForbids = (policy : PolicyData) (history : List RecordData) (a : Asked)
+    → verdict policy history a ≡ verdicts.Granted ↔ IsFalse (list_any (applies (facts_now policy history a) a.request) (written_order (rules_now policy history a)))
+
+-- a denial names a rule exactly where that rule is the first that forbids
+abbrev pub DeniedByTheFirst : Type 0
+DeniedByTheFirst = (policy : PolicyData) (history : List RecordData) (a : Asked) (name : RuleName)
+    → verdict policy history a ≡ verdicts.Denied name ↔ IsFirstForbidding (rules_now policy history a) (facts_now policy history a) a.request name
+
+-- the audit can show the record of each request, under a sound policy
+abbrev pub RequestsAreShown : Type 0
+RequestsAreShown = (policy : PolicyData) (history : List RecordData) (a : Asked) (r : RecordData)
+    → IsTrue (is_sound policy) → IsTrue (is_askable a) → next policy history (steps.Asked a) ≡ Some r → IsTrue (is_showable r)
+
+-- a matching step leaves no record exactly where no order waits to be matched
+abbrev pub IdleWhereNoneWaits : Type 0
+IdleWhereNoneWaits = (policy : PolicyData) (history : List RecordData) (handed : ℕ)
+    → next policy history (steps.Matching handed) ≡ None ↔ incoming policy history ≡ []
+
+-- a denied record changes no order, no figure, no book and nothing in force
+abbrev pub DenialsChangeNothing : Type 0
+DenialsChangeNothing = (policy : PolicyData) (history : List RecordData) (r : RecordData) (rule : RuleName)
+    → r.verdict ≡ verdicts.Denied rule → IsAsBefore policy history (history ++ r ∷ [])
+
+-- a history is legal exactly where its beginning is, and its last record is what its step leaves
+abbrev pub LegalGoesOn : Type 0
+LegalGoesOn = (policy : PolicyData) (history : List RecordData) (r : RecordData)
+    → IsLegal policy (history ++ r ∷ []) ↔ IsLegal policy history × Follows policy (history, r)
+
+-- the records of any steps are legal, up to the day's limit
+abbrev pub RunsAreLegal : Type 0
+RunsAreLegal = (policy : PolicyData) (taken : List Step) → length taken ≤ day_limit → IsLegal policy (run policy taken)
+
+-- a legal history is what its own steps leave
+abbrev pub LegalAreRuns : Type 0
+LegalAreRuns = (policy : PolicyData) (history : List RecordData)
+    → IsLegal policy history → run policy (map (λ (r : RecordData). r.step) history) ≡ history
+
+-- the last record has the number of its place
+abbrev pub NumbersArePlaces : Type 0
+NumbersArePlaces = (policy : PolicyData) (history : List RecordData) (r : RecordData)
+    → IsLegal policy (history ++ r ∷ []) → r.number ≡ length history + 1
+
+-- an order never has more open than its total
+abbrev pub OpenIsWithinTotal : Type 0
+OpenIsWithinTotal = (made : List Execution) (history : List RecordData) (o : Order) → open_shares made history o ≤ total history o
+
+-- after a granted Kill or Close Day none of the orders that it is for is live, resting or not
+abbrev pub EndedAreNotLive : Type 0
+EndedAreNotLive = (policy : PolicyData) (history : List RecordData) (r : RecordData) (action : Action)
+    → IsLegal policy (history ++ r ∷ []) → granted_action r ≡ Some action
+    → IsFalse (list_any (λ (s : Standing). ends_account s.order.account action) (live_orders policy (history ++ r ∷ [])))
+
+-- the record grants an Enter or a Replace
+abbrev pub grants_order : RecordData → Bool
+grants_order r = option_map_or (λ (a : Asked). is_order a.request) (granted r) false
+
+-- the orders of a legal history are its granted Enters and Replaces, in the order of the records
+abbrev pub OrdersAreGrants : Type 0
+OrdersAreGrants = (policy : PolicyData) (history : List RecordData)
+    → IsLegal policy history
+    → map (λ (o : Order). o.number) (orders policy history) ≡ map (λ (r : RecordData). r.number) (filter grants_order history)
+
+-- an order's number is at most the length
+abbrev pub OrderNumbersAreWithin : Type 0
+OrderNumbersAreWithin = (policy : PolicyData) (history : List RecordData)
+    → IsLegal policy history → AllByRecursion (λ (o : Order). o.number ≤ length history) (orders policy history)
+
+-- the same user and the same token
+abbrev pub is_same_token : Order → Order → Bool
+is_same_token a b = same_user a.user b.user && same_token a.token b.token
+
+-- no user has two orders under one token
+abbrev pub TokensDiffer : Type 0
+TokensDiffer = (policy : PolicyData) (history : List RecordData) → IsLegal policy history → IsTrue (are_distinct is_same_token (orders policy history))
+
+-- an order's account is the one that its user trades for
+abbrev pub AccountsAreTheUsers : Type 0
+AccountsAreTheUsers = (policy : PolicyData) (history : List RecordData)
+    → AllByRecursion (λ (o : Order). account_of policy o.user ≡ Some o.account) (orders policy history)
+
+-- no Enter or Replace of a killed account is granted
+abbrev pub KilledPlaceNoOrders : Type 0
+KilledPlaceNoOrders = (policy : PolicyData) (history : List RecordData) (a : Asked) (r : RecordData) (account : AccountName)
+    → next policy history (steps.Asked a) ≡ Some r → r.verdict ≡ verdicts.Granted → IsTrue (is_order a.request) → account_of policy a.user ≡ Some account
+    → IsFalse (is_killed policy history account)
+
+-- in a legal history no order of a killed account has open shares, resting or not
+abbrev pub KilledAreNotLive : Type 0
+KilledAreNotLive = (policy : PolicyData) (history : List RecordData)
+    → IsLegal policy history
+    → AllByRecursion (λ (o : Order). IsTrue (is_killed policy history o.account) → open_shares (executions policy history) history o ≡ 0) (orders policy history)
+
+-- a granted Enter is live with all its shares, the last of those that wait to be matched
+abbrev pub EntersTakeEffect : Type 0
+EntersTakeEffect = (policy : PolicyData) (history : List RecordData) (a : Asked) (r : RecordData) (m : EnterOrder)
+    → IsLegal policy history → next policy history (steps.Asked a) ≡ Some r → a.request ≡ requests.Enter m → r.verdict ≡ verdicts.Granted
+    → TakesEffect policy history (history ++ r ∷ []) r a.user m
+
+-- one more record adds what it owes to the end of each stream, and changes nothing that was told
+abbrev pub StreamsGrow : Type 0
+StreamsGrow = (policy : PolicyData) (history : List RecordData) (r : RecordData) (user : UserName)
+    → stream policy (history ++ r ∷ []) user ≡ stream policy history user ++ reports_of policy user (history, r)

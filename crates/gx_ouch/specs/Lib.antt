@@ -1,0 +1,5 @@
+pub mod Layout
+pub mod Messages
+pub mod Letters
+pub mod Reading
+pub mod Writing

@@ -1,0 +1,3 @@
+pub mod Owed
+pub mod Slicing
+pub mod Staging

@@ -1,0 +1,76 @@
+//! What kind of request it is, and what it asks for.
+
+ghost use Rattle.std.specs.Prelude.{◌≡◌};
+ghost use Rattle.gx_history.specs.Requests.{is_login, is_command, is_order, is_cancel, names_order};
+ghost use Rattle.gx_history.specs.Rules.{proposed};
+
+use gx_history::facts::{Facts, ProposedOrder};
+use gx_history::record::Request;
+
+pub fn is_login(request: &Request) -> bool
+    ensures { result ≡ is_login request.now }
+{
+    matches!(request, Request::Login(_))
+}
+
+pub fn is_command(request: &Request) -> bool
+    ensures { result ≡ is_command request.now }
+{
+    matches!(request, Request::Command(_))
+}
+
+/// An Enter or a Replace.
+pub fn is_order(request: &Request) -> bool
+    ensures { result ≡ is_order request.now }
+{
+    matches!(request, Request::Enter(_) | Request::Replace(_))
+}
+
+/// A Replace or a Cancel.
+pub fn names_order(request: &Request) -> bool
+    ensures { result ≡ names_order request.now }
+{
+    matches!(request, Request::Replace(_) | Request::Cancel(_))
+}
+
+pub fn is_cancel(request: &Request) -> bool
+    ensures { result ≡ is_cancel request.now }
+{
+    matches!(request, Request::Cancel(_))
+}
+
+/// What the request asks for, if it is an Enter, or a Replace of a live order.
+pub fn proposed(facts: &Facts, request: &Request) -> Option<ProposedOrder>
+    ensures { result ≡ proposed facts.now request.now }
+{
+    match request {
+        Request::Enter(m) => Some(ProposedOrder {
+            side: m.side,
+            stock: m.stock,
+            shares: m.shares,
+            price: m.price,
+            time_in_force: m.time_in_force,
+            display: m.display,
+            intermarket_sweep: m.intermarket_sweep,
+            minimum_quantity: m.minimum_quantity,
+            done: 0,
+            is_new: true,
+        }),
+        Request::Replace(m) => {
+            let order = facts.named?;
+            Some(ProposedOrder {
+                side: order.side,
+                stock: order.stock,
+                shares: m.shares,
+                price: m.price,
+                time_in_force: m.time_in_force,
+                display: m.display,
+                intermarket_sweep: m.intermarket_sweep,
+                minimum_quantity: m.minimum_quantity,
+                done: order.done,
+                is_new: false,
+            })
+        }
+        _ => None,
+    }
+}

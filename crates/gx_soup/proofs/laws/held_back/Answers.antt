@@ -1,0 +1,5 @@
+use Rattle.gx_soup.proofs.PacketLaws.{held_back}
+use Rattle.gx_soup.proofs.laws.held_back.Goals as goal
+
+pub returns : goal.returns
+returns c = held_back

@@ -1,0 +1,5 @@
+use Rattle.gx_soup.proofs.PacketLaws.{nothing_after_fault}
+use Rattle.gx_soup.proofs.laws.nothing_after_fault.Goals as goal
+
+pub returns : goal.returns
+returns c = nothing_after_fault

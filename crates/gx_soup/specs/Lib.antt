@@ -1,0 +1,5 @@
+pub mod Standard
+pub mod Login
+pub mod Packets
+pub mod Feeding
+pub mod Writing

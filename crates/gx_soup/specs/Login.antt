@@ -1,0 +1,21 @@
+-- How a Login Request spells the number that it asks for.
+use Rattle.std.specs.Prelude.{ℕ, ◌+◌, ◌-◌, ◌*◌, ◌^◌, min, if◌then◌else◌, List, Option, Some, None, fold}
+use Rattle.std.specs.List.{list_all}
+use Rattle.std.specs.Char.{is_ascii_digit}
+use Rattle.gx_units.specs.Spelling.{trimmed}
+
+-- the greatest number of 64 bits
+abbrev pub greatest : ℕ
+greatest = 2 ^ 64 - 1
+
+-- one digit more
+abbrev pub with_digit : ℕ → ℕ → ℕ
+with_digit number digit = 10 * number + (digit - 48)
+
+-- the number that digits spell
+abbrev pub spelled : List ℕ → ℕ
+spelled digits = fold with_digit 0 digits
+
+-- digits with spaces around them; none at all is 0, and a number past 64 bits counts as the greatest of 64 bits
+abbrev pub number_of : List ℕ → Option ℕ
+number_of field = if list_all is_ascii_digit (trimmed field) then Some (min (spelled (trimmed field)) greatest) else None

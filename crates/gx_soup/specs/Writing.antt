@@ -1,0 +1,77 @@
+-- The bytes of a packet.
+use Rattle.std.specs.Prelude.{◌≡◌, ℕ, ◌+◌, ◌≤◌, ◌<◌, ◌^◌, ◌/◌, ◌%◌, List, [], ◌∷◌, ◌++◌, length, decimal}
+use Rattle.gx_units.specs.declared.names.LoginRejection.{LoginRejection}
+use Rattle.gx_units.specs.declared.names.LoginRejection.TheVariants.{NotAuthorized, SessionNotAvailable}
+use Rattle.gx_units.specs.declared.names.SessionName.{SessionName}
+use Rattle.gx_units.specs.Spelling.{padded_left, trimmed}
+use Rattle.gx_soup.specs.declared.packet.LoginRequest.{LoginRequest}
+use Rattle.gx_soup.specs.declared.packet.ClientPacket.{ClientPacket}
+use Rattle.gx_soup.specs.declared.packet.ClientPacket.TheVariants as client
+use Rattle.gx_soup.specs.declared.packet.ServerPacket.{ServerPacket}
+use Rattle.gx_soup.specs.declared.packet.ServerPacket.TheVariants.{Accepted, Rejected, Sequenced, Heartbeat, EndOfSession}
+use Rattle.gx_soup.specs.Standard.{login_request, unsequenced_data, client_heartbeat, logout_request, debug, login_accepted, login_rejected, sequenced_data, server_heartbeat, end_of_session, not_authorized, session_not_available, longest_payload}
+
+-- the length, of the type and all behind it, in two bytes; the type; what the packet carries
+abbrev pub framed : ℕ → List ℕ → List ℕ
+framed kind payload = ((length payload + 1) / 256) ∷ ((length payload + 1) % 256) ∷ kind ∷ payload
+
+-- a number on the right of 20 bytes
+abbrev pub number_field : ℕ → List ℕ
+number_field number = padded_left 20 (decimal number)
+
+-- a session on the right of 10 bytes
+abbrev pub session_field : SessionName → List ℕ
+session_field session = padded_left 10 (trimmed session.bytes)
+
+-- the reject reason code
+abbrev pub reason_code : LoginRejection → ℕ
+reason_code NotAuthorized = not_authorized
+reason_code SessionNotAvailable = session_not_available
+
+-- a server's packet: Login Accepted gives the session and the number of the next report
+unfoldable pub server_bytes : ServerPacket → List ℕ
+server_bytes (Accepted session next) = framed login_accepted (session_field session ++ number_field next)
+server_bytes (Rejected why) = framed login_rejected (reason_code why ∷ [])
+server_bytes (Sequenced payload) = framed sequenced_data payload
+server_bytes Heartbeat = framed server_heartbeat []
+server_bytes EndOfSession = framed end_of_session []
+
+-- the length can count what the server's packet carries
+abbrev pub HasRoom : ServerPacket → Type 0
+HasRoom (Sequenced payload) = length payload ≤ longest_payload
+HasRoom (Accepted session next) = Unit {0}
+HasRoom (Rejected why) = Unit {0}
+HasRoom Heartbeat = Unit {0}
+HasRoom EndOfSession = Unit {0}
+
+-- what a Login Request carries, its texts as they are
+abbrev pub login_payload : LoginRequest → List ℕ
+login_payload login = login.user.bytes ++ (login.password.bytes ++ (login.session.bytes ++ number_field login.wanted))
+
+-- a client's packet; the others carry nothing
+unfoldable pub client_bytes : ClientPacket → List ℕ
+client_bytes (client.Login login) = framed login_request (login_payload login)
+client_bytes (client.Data payload) = framed unsequenced_data payload
+client_bytes client.Heartbeat = framed client_heartbeat []
+client_bytes client.Logout = framed logout_request []
+client_bytes client.Debug = framed debug []
+
+-- the length can count what the client's packet carries
+abbrev pub ClientHasRoom : ClientPacket → Type 0
+ClientHasRoom (client.Data payload) = length payload ≤ longest_payload
+ClientHasRoom (client.Login login) = Unit {0}
+ClientHasRoom client.Heartbeat = Unit {0}
+ClientHasRoom client.Logout = Unit {0}
+ClientHasRoom client.Debug = Unit {0}
+
+-- the widths of a login's fields, and 64 bits for its number
+abbrev pub FitsFields : LoginRequest → Type 0
+FitsFields login = (length login.user.bytes ≡ 6) × (length login.password.bytes ≡ 10) × (length login.session.bytes ≡ 10) × (login.wanted < 2 ^ 64)
+
+-- a packet as the program holds it, with room for what it carries
+abbrev pub IsPacket : ClientPacket → Type 0
+IsPacket (client.Login login) = FitsFields login
+IsPacket (client.Data payload) = length payload ≤ longest_payload
+IsPacket client.Heartbeat = Unit {0}
+IsPacket client.Logout = Unit {0}
+IsPacket client.Debug = Unit {0}

@@ -1,0 +1,133 @@
+//! Names, each in a fixed field of bytes, and two small answers that every layer gives.
+
+ghost use Rattle.std.specs.Prelude.{◌≡◌, IsTrue};
+ghost use Rattle.gx_units.specs.Names.{has_no_lower_case};
+ghost use Rattle.gx_units.specs.Spelling.{folded_user, folded_password, folded_session};
+
+use crate::spelling::rejustified;
+use std::alloc::{AllocError, AllocFailed};
+use std::error::Error;
+use std::fmt;
+
+/// The allocator refused what was asked of it.
+#[derive(Clone, Copy, Debug, PartialEq, Eq)]
+pub struct OutOfMemory;
+
+impl fmt::Display for OutOfMemory {
+    fn fmt<W: fmt::Write>(&self, f: &mut fmt::Formatter<W>) -> fmt::Result {
+        write!(f, "out of memory")
+    }
+}
+
+impl Error for OutOfMemory {}
+
+impl From<AllocError> for OutOfMemory {
+    fn from(_refused: AllocError) -> OutOfMemory {
+        OutOfMemory
+    }
+}
+
+impl<T: Drop> From<AllocFailed<T>> for OutOfMemory {
+    fn from(_refused: AllocFailed<T>) -> OutOfMemory {
+        OutOfMemory
+    }
+}
+
+/// An order token: 14 bytes that a trader chooses, compared as bytes.
+#[derive(Clone, Copy, Debug, PartialEq, Eq)]
+pub struct Token {
+    pub bytes: [u8; 14],
+}
+
+/// The name of a stock, padded with spaces.
+#[derive(Clone, Copy, Debug, PartialEq, Eq)]
+pub struct Symbol {
+    pub bytes: [u8; 8],
+}
+
+/// The name of an account, padded with spaces.
+#[derive(Clone, Copy, Debug, PartialEq, Eq)]
+pub struct AccountName {
+    pub bytes: [u8; 8],
+}
+
+/// The name of a rule, padded with spaces.
+#[derive(Clone, Copy, Debug, PartialEq, Eq)]
+pub struct RuleId {
+    pub bytes: [u8; 8],
+}
+
+/// A firm, padded with spaces.
+#[derive(Clone, Copy, Debug, PartialEq, Eq)]
+pub struct Firm {
+    pub bytes: [u8; 4],
+}
+
+/// The name of a user, padded with spaces. It is compared in upper case: `folded` gives the form in which the gate
+/// keeps it.
+#[derive(Clone, Copy, Debug, PartialEq, Eq)]
+pub struct UserName {
+    pub bytes: [u8; 6],
+}
+
+impl UserName {
+    /// The name in upper case.
+    #[tactic(auto, using(crate::proofs::Folding::folded_has_no_lower_case))]
+    pub fn folded(self) -> UserName
+        ensures folded { result ≡ folded_user self }
+        ensures upper_case { IsTrue (has_no_lower_case result.bytes) }
+    {
+        let mut bytes = self.bytes;
+        bytes.make_ascii_uppercase();
+        UserName { bytes }
+    }
+}
+
+/// A password, padded with spaces. It is compared in upper case, as `folded` gives it, and never printed.
+#[derive(Clone, Copy, PartialEq, Eq)]
+pub struct Password {
+    pub bytes: [u8; 10],
+}
+
+impl fmt::Debug for Password {
+    fn fmt<W: fmt::Write>(&self, f: &mut fmt::Formatter<W>) -> fmt::Result {
+        write!(f, "Password(..)")
+    }
+}
+
+impl Password {
+    /// The password in upper case.
+    pub fn folded(self) -> Password
+        ensures { result ≡ folded_password self }
+    {
+        let mut bytes = self.bytes;
+        bytes.make_ascii_uppercase();
+        Password { bytes }
+    }
+}
+
+/// The name of a session, padded with spaces on either side. It is compared without them, as `folded` gives it.
+#[derive(Clone, Copy, Debug, PartialEq, Eq)]
+pub struct SessionName {
+    pub bytes: [u8; 10],
+}
+
+impl SessionName {
+    /// The name on the left of its field.
+    pub fn folded(self) -> SessionName
+        ensures { result ≡ folded_session self }
+    {
+        SessionName {
+            bytes: rejustified(self.bytes),
+        }
+    }
+}
+
+/// Why a login is rejected: the reject reason code of SoupBinTCP's Login Rejected.
+#[derive(Clone, Copy, Debug, PartialEq, Eq)]
+pub enum LoginRejection {
+    /// `A`: the user is unknown or logged in already, or the password is wrong.
+    NotAuthorized,
+    /// `S`: there is no such session, or it has no report of that number.
+    SessionNotAvailable,
+}
