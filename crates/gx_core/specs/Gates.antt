@@ -1,11 +1,11 @@
 -- What a gate is, and what it answers.
-use Rattle.std.specs.Prelude.{List, IsTrue}
+use Rattle.std.specs.Prelude.{◌≤◌, List, length, IsTrue}
 use Rattle.gx_history.specs.declared.policy.PolicyData.{PolicyData}
 use Rattle.gx_history.specs.declared.record.Asked.{Asked}
 use Rattle.gx_history.specs.declared.record.Step.TheVariants as steps
 use Rattle.gx_history.specs.declared.record.RecordData.{RecordData}
 use Rattle.gx_history.specs.Plain.{rules_need_no_figures}
-use Rattle.gx_history.specs.Verdicts.{IsLegal}
+use Rattle.gx_history.specs.Verdicts.{IsLegal, day_limit}
 use Rattle.gx_core.specs.declared.outcome.Outcome.{Outcome}
 use Rattle.gx_plain.specs.Stage.{are_brought}
 
@@ -14,10 +14,11 @@ pub record GateData : Type 0 where
   pub policy : PolicyData
   pub records : List RecordData
 
--- the records are those of a legal day, by requests that are brought, under rules that need no figures
+-- the records are those of a legal day within its limit, by requests that are brought, under rules that need no figures
 pub record IsDay (policy : PolicyData) (records : List RecordData) : Type 0 where
   pub legal : IsLegal policy records
   pub brought : IsTrue (are_brought records)
+  pub within : length records ≤ day_limit
   pub plain : IsTrue (rules_need_no_figures policy)
 
 -- the record of a request with this outcome

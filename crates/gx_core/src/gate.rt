@@ -1,6 +1,8 @@
 //! The gate.
 
-ghost use Rattle.std.specs.Prelude.{◌≡◌, ◌+◌, ◌&&◌, max, nat_lt, ◌≤◌, ◌<◌, ◌↔◌, ◌++◌, [], ◌∷◌, length, IsTrue, IfOk, IfErr, OnErr, Some, None};
+ghost use Rattle.std.specs.Prelude.{◌≡◌, ◌+◌, ◌&&◌, max, nat_lt, ◌≤◌, ◌<◌, ◌↔◌, ◌++◌, [], ◌∷◌, length, IsTrue, IsFalse, IfOk, IfErr, OnErr, Some, None};
+ghost use Rattle.gx_units.specs.declared.names.AccountName.{AccountName};
+ghost use Rattle.gx_desk.specs.declared.Action.TheVariants as actions;
 ghost use Rattle.gx_ouch.specs.declared.inbound.EnterOrder.{EnterOrder};
 ghost use Rattle.gx_units.specs.Spelling.{folded_user, folded_password, folded_session};
 ghost use Rattle.gx_history.specs.declared.record.Request.TheVariants as requests;
@@ -8,17 +10,18 @@ ghost use Rattle.gx_history.specs.declared.record.RuleName.{RuleName};
 ghost use Rattle.gx_history.specs.declared.record.Step.TheVariants as steps;
 ghost use Rattle.gx_history.specs.declared.record.Verdict.TheVariants as verdicts;
 ghost use Rattle.gx_history.specs.Brought.{is_brought};
-ghost use Rattle.gx_history.specs.InForce.{line_of, is_closed};
+ghost use Rattle.gx_history.specs.InForce.{line_of, is_closed, is_killed};
 ghost use Rattle.gx_history.specs.Lists.{slice};
 ghost use Rattle.gx_history.specs.Logins.{login_asked};
 ghost use Rattle.gx_history.specs.Plain.{rules_need_no_figures};
+ghost use Rattle.gx_history.specs.Requests.{action_of};
 ghost use Rattle.gx_history.specs.Rules.{first_forbidding, IsFirstForbidding};
 ghost use Rattle.gx_history.specs.Showing.{is_askable, is_showable};
 ghost use Rattle.gx_history.specs.Streams.{stream};
 ghost use Rattle.gx_history.specs.Verdicts.{next, verdict, facts_now, rules_now, day_limit, IsLegal};
 ghost use Rattle.gx_plain.specs.Stage.{are_brought};
 ghost use Rattle.gx_core.specs.declared.outcome.StepFault.TheVariants as faults;
-ghost use Rattle.gx_history.specs.Effects.{IsAsBefore, TakesEffect};
+ghost use Rattle.gx_history.specs.Effects.{IsAsBefore, TakesEffect, KillsAccount, LiftsAccount, IsGrantedLift, HasNoOrders};
 ghost use Rattle.gx_core.specs.Gates.{left_by};
 ghost use Rattle.gx_core.specs.Logins.{login_answered};
 
@@ -30,9 +33,9 @@ use gx_history::history::History;
 use gx_history::policy::Policy;
 use gx_history::record::{Asked, Record, RecordData, Request, Step, Verdict};
 use gx_plain::judge::judge;
-use gx_plain::records::{last_moment, line_of};
+use gx_plain::records::{is_killed, last_moment, line_of};
 use gx_plain::slices::slice;
-use gx_units::{OutOfMemory, Password, SessionName, UserName};
+use gx_units::{AccountName, OutOfMemory, Password, SessionName, UserName};
 use std::alloc::Global;
 use std::marker::Model;
 
@@ -121,6 +124,9 @@ impl Gate {
         ensures denied { IfOk result (λ o. (name : RuleName) → o.verdict ≡ verdicts.Denied name → IsFirstForbidding (rules_now self.old.policy self.old.records a) (facts_now self.old.policy self.old.records a) a.request name) }
         ensures kept { IfOk result (λ o. (name : RuleName) → o.verdict ≡ verdicts.Denied name → IsAsBefore self.old.policy self.old.records self.new.records) }
         ensures entered { IfOk result (λ o. (m : EnterOrder) → a.request ≡ requests.Enter m → o.verdict ≡ verdicts.Granted → TakesEffect self.old.policy self.old.records self.new.records (left_by a o) a.user m) }
+        ensures killed { IfOk result (λ o. (account : AccountName) → action_of a.request ≡ Some (actions.Kill account) → o.verdict ≡ verdicts.Granted → KillsAccount self.old.policy self.old.records self.new.records (left_by a o) account) }
+        ensures lifted { IfOk result (λ o. (account : AccountName) → action_of a.request ≡ Some (actions.Lift account) → o.verdict ≡ verdicts.Granted → LiftsAccount self.old.policy self.old.records self.new.records account) }
+        ensures lifted_by { IfOk result (λ o. (account : AccountName) → IsTrue (is_killed self.old.policy self.old.records account) → IsFalse (is_killed self.new.policy self.new.records account) → IsGrantedLift self.old.policy account (left_by a o)) }
         ensures unchanged { OnErr result (self.new ≡ self.old) }
         ensures full { day_limit ≤ length self.old.records → result ≡ Err faults.DayFull }
         ensures day_full { IfErr result (λ e. e ≡ faults.DayFull → day_limit ≤ length self.old.records) }
@@ -139,6 +145,14 @@ impl Gate {
         ensures legal { IsLegal self.now.policy self.now.records }
     {
         self.history.len() as u64
+    }
+
+    /// Whether the account is killed: the last granted Kill or Lift of it is a Kill. None of its orders is live then.
+    pub fn is_killed(&self, account: AccountName) -> bool
+        ensures killed { result ≡ is_killed self.now.policy self.now.records account }
+        ensures no_orders { IsTrue result → HasNoOrders self.now.policy self.now.records account }
+    {
+        is_killed(&self.policy, self.history.as_slice(), account)
     }
 
     /// The line that the user is logged in on; None where he is not.

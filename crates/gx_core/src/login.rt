@@ -1,6 +1,6 @@
 //! The request that a login makes, and what it is told.
 
-ghost use Rattle.std.specs.Prelude.{◌≡◌, IsTrue};
+ghost use Rattle.std.specs.Prelude.{◌≡◌, ◌<◌, ◌^◌, length, IsTrue};
 ghost use Rattle.gx_units.specs.Spelling.{folded_user, folded_password, folded_session};
 ghost use Rattle.gx_history.specs.Logins.{password_is, session_is, login_asked, first_wanted};
 ghost use Rattle.gx_core.specs.Logins.{login_answered};
@@ -63,7 +63,8 @@ pub fn login_answered(
     wanted: u64,
     verdict: Verdict,
 ) -> LoginAnswer
-    requires { IsTrue (are_brought records.now) }
+    requires brought { IsTrue (are_brought records.now) }
+    requires few { length records.now < 2 ^ 32 }
     ensures { result ≡ login_answered policy.now records.now user wanted verdict }
 {
     match verdict {

@@ -1,15 +1,23 @@
 -- What the gate knows so far: the one place that changes as more of it is brought.
 use Rattle.std.specs.Prelude.{Bool, true, false}
+use Rattle.gx_desk.specs.declared.Action.{Action}
+use Rattle.gx_desk.specs.declared.Action.TheVariants as actions
 use Rattle.gx_history.specs.declared.record.Request.{Request}
 use Rattle.gx_history.specs.declared.record.Request.TheVariants as requests
 
--- Login, Logout, Unreadable and Enter come first, then Kill and Lift, Cancel, Replace, and the other commands.
+-- The commands so far: Kill and Lift.
+abbrev pub is_command_brought : Action → Bool
+is_command_brought (actions.Kill account) = true
+is_command_brought (actions.Lift account) = true
+is_command_brought other = false
+
+-- Login, Logout, Unreadable, Enter, Kill and Lift come first, then Cancel, Replace, and the other commands.
 abbrev pub is_brought : Request → Bool
 is_brought (requests.Login m) = true
 is_brought requests.Logout = true
 is_brought (requests.Unreadable m) = true
 is_brought (requests.Enter m) = true
-is_brought (requests.Command c) = false
+is_brought (requests.Command c) = is_command_brought c.action
 is_brought (requests.Cancel m) = false
 is_brought (requests.Replace m) = false
 

@@ -28,7 +28,7 @@ use Rattle.gx_history.specs.OuchValues.{immediate_or_cancel}
 use Rattle.gx_history.specs.People.{account_of, role_of}
 use Rattle.gx_history.specs.Requests.{is_judged}
 use Rattle.gx_history.specs.Verdicts.{next, step_verdict, moment_of, Follows, IsLegal}
-use Rattle.gx_history_laws.proofs.Denials.{map_same}
+use Rattle.gx_history_laws.proofs.Keeping.{map_same}
 use Rattle.gx_history_laws.proofs.Entering.{HasAccount, entered_has_account, entered_has_shares}
 use Rattle.gx_history_laws.proofs.Granting.{legal_keeps, asked_is_judged}
 use Rattle.gx_history_laws.proofs.NewOrders.{AreBefore, new_is_not_dead, new_has_full_size, new_has_no_fills}

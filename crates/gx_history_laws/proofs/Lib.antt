@@ -8,6 +8,7 @@ pub mod NextOrders
 pub mod NextReports
 pub mod Order
 pub mod Judging
+pub mod Keeping
 pub mod Denials
 pub mod Legality
 pub mod Placing
@@ -27,3 +28,8 @@ pub mod Adding
 pub mod Tokens
 pub mod Entered
 pub mod NotLive
+pub mod Commanding
+pub mod Lifting
+pub mod Priority
+pub mod Killing
+pub mod Emptied

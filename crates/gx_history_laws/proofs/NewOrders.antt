@@ -63,7 +63,7 @@ one_found : {X : Type 0} (P : X → Type 0) (b : Bool) (y : X) (rest : Option X)
 one_found P true y rest x h k e = subst P (some_same e) h
 one_found P false y rest x h k e = k e
 
-found_is : {X : Type 0} (P : X → Type 0) (test : X → Bool) (xs : List X) (x : X) → AllByRecursion P xs → find test xs ≡ Some x → P x
+pub found_is : {X : Type 0} (P : X → Type 0) (test : X → Bool) (xs : List X) (x : X) → AllByRecursion P xs → find test xs ≡ Some x → P x
 found_is P test [] x h e = cc
 found_is P test (y ∷ xs) x h e = one_found P (test y) y (find test xs) x h.0 (found_is P test xs x h.1) e
 

@@ -47,12 +47,12 @@ StandsDown policy history o = is_killed policy history o.account ≡ true → op
 abbrev IsDown : PolicyData → List RecordData → Standing → Type 0
 IsDown policy history s = (is_killed policy history s.order.account ≡ true → s.open_shares ≡ 0) × (account_of policy s.order.user ≡ Some s.order.account)
 
-all_and : {X : Type 0} (P Q : X → Type 0) (xs : List X) → AllByRecursion P xs → AllByRecursion Q xs → AllByRecursion (λ (x : X). P x × Q x) xs
+pub all_and : {X : Type 0} (P Q : X → Type 0) (xs : List X) → AllByRecursion P xs → AllByRecursion Q xs → AllByRecursion (λ (x : X). P x × Q x) xs
 all_and P Q [] h k = tt
 all_and P Q (x ∷ xs) h k = ((h.0, k.0), all_and P Q xs h.1 k.1)
 
 -- what a granted record says of its verdict and its step
-granted_parts : (r : RecordData) (a : Asked) → granted r ≡ Some a → (r.verdict ≡ verdicts.Granted) × (r.step ≡ steps.Asked a)
+pub granted_parts : (r : RecordData) (a : Asked) → granted r ≡ Some a → (r.verdict ≡ verdicts.Granted) × (r.step ≡ steps.Asked a)
 granted_parts r a h = by_verdict r.verdict refl
   where
     by_step : (s : Step) → r.step ≡ s → r.verdict ≡ verdicts.Granted → asked s ≡ Some a → (r.verdict ≡ verdicts.Granted) × (r.step ≡ steps.Asked a)

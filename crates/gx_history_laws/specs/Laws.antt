@@ -7,6 +7,7 @@ use Rattle.gx_units.specs.declared.names.AccountName.{AccountName}
 use Rattle.gx_units.specs.declared.names.UserName.{UserName}
 use Rattle.gx_ouch.specs.declared.inbound.EnterOrder.{EnterOrder}
 use Rattle.gx_desk.specs.declared.Action.{Action}
+use Rattle.gx_desk.specs.declared.Action.TheVariants as actions
 use Rattle.gx_history.specs.declared.policy.PolicyData.{PolicyData}
 use Rattle.gx_history.specs.declared.record.Asked.{Asked}
 use Rattle.gx_history.specs.declared.record.RecordData.{RecordData}
@@ -16,10 +17,10 @@ use Rattle.gx_history.specs.declared.record.Step.{Step}
 use Rattle.gx_history.specs.declared.record.Step.TheVariants as steps
 use Rattle.gx_history.specs.declared.record.Verdict.TheVariants as verdicts
 use Rattle.gx_history.specs.Book.{incoming}
-use Rattle.gx_history.specs.Effects.{IsAsBefore, TakesEffect}
+use Rattle.gx_history.specs.Effects.{IsAsBefore, TakesEffect, KillsAccount, LiftsAccount, IsGrantedLift, HasNoOrders}
 use Rattle.gx_history.specs.Executions.{Execution, Standing, executions, live_orders, open_shares}
 use Rattle.gx_history.specs.Orders.{Order, orders, ends_account, total}
-use Rattle.gx_history.specs.Requests.{granted, granted_action, is_order}
+use Rattle.gx_history.specs.Requests.{granted, granted_action, action_of, is_order}
 use Rattle.gx_history.specs.InForce.{is_killed}
 use Rattle.gx_history.specs.Lists.{are_distinct}
 use Rattle.gx_history.specs.People.{account_of}
@@ -134,6 +135,29 @@ abbrev pub EntersTakeEffect : Type 0
 EntersTakeEffect = (policy : PolicyData) (history : List RecordData) (a : Asked) (r : RecordData) (m : EnterOrder)
     → IsLegal policy history → next policy history (steps.Asked a) ≡ Some r → a.request ≡ requests.Enter m → r.verdict ≡ verdicts.Granted
     → TakesEffect policy history (history ++ r ∷ []) r a.user m
+
+-- a granted Kill kills the account and ends its orders, and no other changes
+abbrev pub KillsTakeEffect : Type 0
+KillsTakeEffect = (policy : PolicyData) (history : List RecordData) (a : Asked) (r : RecordData) (account : AccountName)
+    → IsLegal policy history → next policy history (steps.Asked a) ≡ Some r → action_of a.request ≡ Some (actions.Kill account) → r.verdict ≡ verdicts.Granted
+    → KillsAccount policy history (history ++ r ∷ []) r account
+
+-- a granted Lift lifts the account, and brings no order back
+abbrev pub LiftsTakeEffect : Type 0
+LiftsTakeEffect = (policy : PolicyData) (history : List RecordData) (a : Asked) (r : RecordData) (account : AccountName)
+    → IsLegal policy history → next policy history (steps.Asked a) ≡ Some r → action_of a.request ≡ Some (actions.Lift account) → r.verdict ≡ verdicts.Granted
+    → LiftsAccount policy history (history ++ r ∷ []) account
+
+-- a killed account is killed no longer only by a Lift, granted to an officer with the power and the account
+abbrev pub KillsEndByLifts : Type 0
+KillsEndByLifts = (policy : PolicyData) (history : List RecordData) (r : RecordData) (account : AccountName)
+    → Follows policy (history, r) → IsTrue (is_killed policy history account) → IsFalse (is_killed policy (history ++ r ∷ []) account)
+    → IsGrantedLift policy account r
+
+-- in a legal history a killed account has no order that is live, waits or rests
+abbrev pub KilledHaveNoOrders : Type 0
+KilledHaveNoOrders = (policy : PolicyData) (history : List RecordData) (account : AccountName)
+    → IsLegal policy history → IsTrue (is_killed policy history account) → HasNoOrders policy history account
 
 -- one more record adds what it owes to the end of each stream, and changes nothing that was told
 abbrev pub StreamsGrow : Type 0

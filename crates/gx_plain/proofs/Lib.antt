@@ -1,3 +1,4 @@
 pub mod Owed
 pub mod Slicing
 pub mod Staging
+pub mod Standing

@@ -1,22 +1,27 @@
 //! A request judged on the records so far.
 
-ghost use Rattle.std.specs.Prelude.{◌≡◌, IsTrue};
-ghost use Rattle.gx_history.specs.Asking.{facts, is_on_line, knows_user, is_available, fits_role};
+ghost use Rattle.std.specs.Prelude.{◌≡◌, ◌^◌, ◌<◌, length, is_some, IsTrue};
+ghost use Rattle.gx_history.specs.Asking.{facts, is_on_line, knows_user, is_available, fits_role, of_command, knows_names, has_power, are_his, changes};
 ghost use Rattle.gx_history.specs.Brought.{is_brought};
-ghost use Rattle.gx_history.specs.People.{role_of};
+ghost use Rattle.gx_history.specs.People.{account_named, role_of};
 ghost use Rattle.gx_history.specs.Plain.{needs_no_figures, rules_need_no_figures};
 ghost use Rattle.gx_history.specs.Showing.{answers};
 ghost use Rattle.gx_history.specs.Verdicts.{verdict, verdict_by};
+ghost use Rattle.gx_plain.specs.Owing.{holds_account};
 ghost use Rattle.gx_plain.specs.Stage.{are_brought};
 
-use crate::people::{account_of, fits_firm, is_trader, is_user, lists_its_stock};
+use crate::people::{
+    account_named, account_of, fits_firm, has_power, holds_account, is_officer, is_trader, is_user,
+    lists_its_stock,
+};
 use crate::records::{is_closed, is_killed, is_token_used, last_moment, line_of, new_token};
 use crate::streams::count_reports;
+use gx_desk::Action;
 use gx_history::facts::Facts;
 use gx_history::policy::{Policy, RuleKind};
 use gx_history::record::{Asked, Record, Request, RuleName, Verdict};
 use gx_rules::first_forbidding_without_figures;
-use gx_units::Moment;
+use gx_units::{AccountName, Moment, UserName};
 
 fn is_on_line(on: Option<u16>, line: u16) -> bool
     ensures { result ≡ is_on_line on line }
@@ -34,13 +39,15 @@ fn knows_user(policy: &Policy, a: &Asked) -> bool
 }
 
 fn is_available(policy: &Policy, records: &[Record], a: &Asked) -> bool
-    requires { IsTrue (are_brought records.now) }
+    requires records { IsTrue (are_brought records.now) }
+    requires few { length records.now < 2 ^ 32 }
     ensures { result ≡ is_available policy.now records.now a.now.user a.now.request }
 {
     match &a.request {
         Request::Login(m) => {
             m.session_is_right
-                && m.wanted.saturating_sub(1) <= count_reports(policy, records, a.user) as u64
+                && (m.wanted <= 1
+                    || m.wanted - 1 <= count_reports(policy, records, a.user) as u64)
         }
         _ => true,
     }
@@ -52,7 +59,71 @@ fn fits_role(policy: &Policy, a: &Asked) -> bool
 {
     match &a.request {
         Request::Enter(_) => is_trader(policy, a.user),
+        Request::Command(_) => is_officer(policy, a.user),
         _ => true,
+    }
+}
+
+/// What the rules ask about a command.
+#[derive(Clone, Copy)]
+struct CommandFacts {
+    names_are_known: bool,
+    has_power: bool,
+    accounts_are_his: bool,
+    would_change: bool,
+}
+
+/// What is said of requests that are no commands.
+const NO_COMMAND: CommandFacts = CommandFacts {
+    names_are_known: true,
+    has_power: true,
+    accounts_are_his: true,
+    would_change: true,
+};
+
+/// What the rules ask about a command that concerns one account.
+fn on_account(
+    policy: &Policy,
+    user: UserName,
+    action: &Action,
+    account: AccountName,
+    would_change: bool,
+) -> CommandFacts
+    ensures names { result.names_are_known ≡ is_some (account_named policy.now account) }
+    ensures power { result.has_power ≡ has_power (role_of policy.now user) action.now }
+    ensures his { result.accounts_are_his ≡ holds_account (role_of policy.now user) account }
+    ensures changes { result.would_change ≡ would_change }
+{
+    CommandFacts {
+        names_are_known: account_named(policy, account).is_some(),
+        has_power: has_power(policy, user, action),
+        accounts_are_his: holds_account(policy, user, account),
+        would_change,
+    }
+}
+
+/// What the rules ask about a command, where it is brought.
+#[tactic(auto, using(crate::proofs::Staging::his_account))]
+fn command_facts(policy: &Policy, records: &[Record], a: &Asked) -> CommandFacts
+    requires { IsTrue (is_brought a.now.request) }
+    ensures names { result.names_are_known ≡ of_command (knows_names policy.now records.now) a.now.request }
+    ensures power { result.has_power ≡ of_command (has_power (role_of policy.now a.now.user)) a.now.request }
+    ensures his { result.accounts_are_his ≡ of_command (are_his policy.now records.now (role_of policy.now a.now.user)) a.now.request }
+    ensures changes { result.would_change ≡ of_command (changes policy.now records.now a.now.user) a.now.request }
+{
+    let Request::Command(c) = a.request else {
+        return NO_COMMAND;
+    };
+    match c.action {
+        Action::Kill(account) => {
+            let would_change = !is_killed(policy, records, account);
+            on_account(policy, a.user, &c.action, account, would_change)
+        }
+        Action::Lift(account) => {
+            let would_change = is_killed(policy, records, account);
+            on_account(policy, a.user, &c.action, account, would_change)
+        }
+        _ => NO_COMMAND,
     }
 }
 
@@ -61,10 +132,12 @@ fn fits_role(policy: &Policy, a: &Asked) -> bool
 pub fn facts_of(policy: &Policy, records: &[Record], a: &Asked, moment: Moment) -> Facts
     requires request { IsTrue (is_brought a.now.request) }
     requires records { IsTrue (are_brought records.now) }
+    requires few { length records.now < 2 ^ 32 }
     ensures { result ≡ facts policy.now records.now a.now moment }
 {
     let account = account_of(policy, a.user);
     let on = line_of(records, a.user);
+    let command = command_facts(policy, records, a);
     Facts {
         may_log_in: knows_user(policy, a),
         is_logged_in: on.is_some(),
@@ -80,10 +153,10 @@ pub fn facts_of(policy: &Policy, records: &[Record], a: &Asked, moment: Moment) 
         account_is_killed: account.is_some_and(|name| is_killed(policy, records, name)),
         firm_fits: fits_firm(policy, account, &a.request),
         stock_is_listed: lists_its_stock(policy, &a.request),
-        names_are_known: true,
-        has_power: true,
-        accounts_are_his: true,
-        would_change: true,
+        names_are_known: command.names_are_known,
+        has_power: command.has_power,
+        accounts_are_his: command.accounts_are_his,
+        would_change: command.would_change,
         account,
         moment,
     }
@@ -127,6 +200,7 @@ fn verdict_by(found: Option<RuleName>) -> Verdict
 pub fn judge(policy: &Policy, records: &[Record], a: &Asked) -> Verdict
     requires request { IsTrue (is_brought a.now.request) }
     requires records { IsTrue (are_brought records.now) }
+    requires few { length records.now < 2 ^ 32 }
     requires plain { IsTrue (rules_need_no_figures policy.now) }
     ensures verdict { result ≡ verdict policy.now records.now a.now }
     ensures shown { IsTrue (answers a.now.request result) }

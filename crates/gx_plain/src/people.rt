@@ -2,12 +2,15 @@
 
 ghost use Rattle.std.specs.Prelude.{◌≡◌, option_copied, find, is_some};
 ghost use Rattle.gx_units.specs.Names.{same_user, same_account, same_stock, same_rule, same_firm};
-ghost use Rattle.gx_history.specs.Asking.{fits_firm, lists_its_stock};
+ghost use Rattle.gx_history.specs.Asking.{fits_firm, lists_its_stock, power_for, has_power};
 ghost use Rattle.gx_history.specs.Orders.{firm_of};
-ghost use Rattle.gx_history.specs.People.{account_of, account_named, is_trader, role_of, stock_named, user_named};
+ghost use Rattle.gx_history.specs.People.{account_of, account_named, covers, is_officer, is_trader, role_of, stock_named, user_named};
+ghost use Rattle.gx_plain.specs.Owing.{holds_account};
 
-use gx_history::policy::{Account, FileRule, Policy, Role, Stock, User};
+use gx_desk::Action;
+use gx_history::policy::{Account, FileRule, Policy, Powers, Role, Stock, User};
 use gx_history::record::Request;
+use gx_rules::covers;
 use gx_units::{AccountName, Firm, RuleId, Symbol, UserName};
 
 const BLANK_FIRM: Firm = Firm { bytes: *b"    " };
@@ -65,6 +68,55 @@ pub fn is_trader(policy: &Policy, name: UserName) -> bool
 {
     match find_user(policy.users(), name) {
         Some(user) => matches!(user.role, Role::Trader(_)),
+        None => false,
+    }
+}
+
+/// Whether the user is an officer.
+pub fn is_officer(policy: &Policy, name: UserName) -> bool
+    ensures { result ≡ is_officer (role_of policy.now name) }
+{
+    match find_user(policy.users(), name) {
+        Some(user) => matches!(user.role, Role::Officer(_, _)),
+        None => false,
+    }
+}
+
+fn power_for(powers: Powers, action: &Action) -> bool
+    ensures { result ≡ power_for powers action.now }
+{
+    match action {
+        Action::Kill(_) => powers.kill,
+        Action::Lift(_) => powers.lift,
+        Action::SetLimit(_, _) => powers.limits,
+        Action::Restrict(_, _) | Action::Unrestrict(_, _) => powers.symbols,
+        Action::Grant(_, _) | Action::Revoke(_, _) => powers.people,
+        Action::CloseDay => powers.close,
+    }
+}
+
+/// Whether the user is an officer with the power for the command.
+pub fn has_power(policy: &Policy, name: UserName, action: &Action) -> bool
+    ensures { result ≡ has_power (role_of policy.now name) action.now }
+{
+    match find_user(policy.users(), name) {
+        Some(user) => match &user.role {
+            Role::Officer(powers, _) => power_for(*powers, action),
+            _ => false,
+        },
+        None => false,
+    }
+}
+
+/// Whether the user is an officer with this account in his scope.
+pub fn holds_account(policy: &Policy, name: UserName, account: AccountName) -> bool
+    ensures { result ≡ holds_account (role_of policy.now name) account }
+{
+    match find_user(policy.users(), name) {
+        Some(user) => match &user.role {
+            Role::Officer(_, scope) => covers(scope, account),
+            _ => false,
+        },
         None => false,
     }
 }

@@ -7,8 +7,8 @@ ghost use Rattle.gx_history.specs.Plain.{rules_need_no_figures};
 
 use crate::judge::{facts_of, judge, rules_need_no_figures};
 use crate::people::{
-    account_named, account_of, find_rule, find_user, firm_of, fits_firm, is_trader, is_user,
-    lists_its_stock, stock_named,
+    account_named, account_of, find_rule, find_user, firm_of, fits_firm, has_power, holds_account,
+    is_officer, is_trader, is_user, lists_its_stock, stock_named,
 };
 use crate::records::{is_closed, is_killed, is_token_used, last_moment, line_of, new_token};
 use crate::slices::slice;
@@ -188,6 +188,9 @@ fn names_are_looked_up(rt: HostRuntime) -> Result<(), Fail> {
     assert!(rt; stock_named(&policy, m.stock).is_none());
     assert!(rt; !is_user(&policy, ALICE));
     assert!(rt; !is_trader(&policy, ALICE));
+    assert!(rt; !is_officer(&policy, OLGA));
+    assert!(rt; !has_power(&policy, OLGA, &Action::CloseDay));
+    assert!(rt; !holds_account(&policy, OLGA, ALFA));
     assert!(rt; account_of(&policy, ALICE).is_none());
     assert_eq!(rt; firm_of(&policy, ALFA, m.firm), m.firm);
     assert!(rt; !fits_firm(&policy, None, &enter(m)));

@@ -24,7 +24,8 @@ fn names_account(names: &[AccountName], account: AccountName) -> bool
     names.iter().any(|name| *name == account)
 }
 
-fn covers(scope: &Scope, account: AccountName) -> bool
+/// Whether the scope holds the account.
+pub fn covers(scope: &Scope, account: AccountName) -> bool
     ensures { result ≡ covers scope.now account }
 {
     match scope {

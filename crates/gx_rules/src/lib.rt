@@ -10,7 +10,7 @@ mod order;
 mod request;
 
 pub use built_in::is_forbidden;
-pub use file_rule::{is_forbidden_by_kind, is_forbidden_by_rule};
+pub use file_rule::{covers, is_forbidden_by_kind, is_forbidden_by_rule};
 pub use order::{first_forbidding, first_forbidding_without_figures};
 
 #[cfg(test)]

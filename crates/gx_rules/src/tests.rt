@@ -1,10 +1,10 @@
 use crate::{
-    first_forbidding, first_forbidding_without_figures, is_forbidden, is_forbidden_by_kind,
+    covers, first_forbidding, first_forbidding_without_figures, is_forbidden, is_forbidden_by_kind,
     is_forbidden_by_rule,
 };
 use gx_desk::{Action, Command, Tag};
 use gx_history::facts::{Facts, ProposedOrder, RuleFigures};
-use gx_history::policy::{Count, FileRule, Rate, RuleKind, Scope};
+use gx_history::policy::{AccountNames, Count, FileRule, Rate, RuleKind, Scope};
 use gx_history::record::{Request, RuleName};
 use gx_ouch::EnterOrder;
 use gx_units::{AccountName, Firm, RuleId, Symbol, Token};
@@ -311,5 +311,17 @@ fn officers_are_judged_behind_the_file(rt: HostRuntime) -> Result<(), Fail> {
         first_forbidding_without_figures(&none, &NOTHING_WRONG, &kill),
         None
     );
+    Ok(())
+}
+
+#[test]
+fn scopes_hold_their_accounts(rt: HostRuntime) -> Result<(), Fail> {
+    let beta = AccountName {
+        bytes: *b"BETA    ",
+    };
+    let one = Scope::Only(AccountNames::new(Vec::from_array(rt.alloc(), [ALFA])?));
+    assert!(rt; covers(&Scope::All, beta));
+    assert!(rt; covers(&one, ALFA));
+    assert!(rt; !covers(&one, beta));
     Ok(())
 }

@@ -4,7 +4,7 @@ mod cases;
 mod devices;
 
 use crate::{Counted, PipeFault, run_pipe};
-use cases::CASES;
+use cases::Case;
 use gx_core::{Gate, sample_policy};
 use gx_history::record::{RuleName, Verdict};
 use gx_units::OutOfMemory;
@@ -56,12 +56,10 @@ fn bytes_of(alloc: Global, text: &str) -> Result<Vec<u8>, Fail> {
     Ok(hex::decode(alloc, digits.as_slice())?)
 }
 
-/// The bytes of several texts in hex, one after the other.
-fn joined(alloc: Global, texts: &[&str]) -> Result<Vec<u8>, Fail> {
-    let mut all = Vec::new(alloc);
-    for text in texts {
-        all.extend_from_slice(bytes_of(alloc, text)?.as_slice())?;
-    }
+/// The bytes of two texts in hex, one after the other.
+fn joined(alloc: Global, first: &str, rest: &str) -> Result<Vec<u8>, Fail> {
+    let mut all = bytes_of(alloc, first)?;
+    all.extend_from_slice(bytes_of(alloc, rest)?.as_slice())?;
     Ok(all)
 }
 
@@ -71,101 +69,143 @@ fn sample_gate(alloc: Global) -> Result<Gate, OutOfMemory> {
     Gate::open(alloc, &policy)
 }
 
-/// What a new gate writes on this input.
-fn written(alloc: Global, gate: &mut Gate, input: &[u8]) -> Result<Vec<u8>, PipeFault> {
-    let mut reader = Counted::new(input);
+/// What the gate writes on these texts in hex, one after the other.
+fn written(alloc: Global, gate: &mut Gate, first: &str, rest: &str) -> Result<Vec<u8>, Fail> {
+    let input = joined(alloc, first, rest)?;
+    let mut reader = Counted::new(input.as_slice());
     let mut writer = Counted::new(Vec::new(alloc));
     run_pipe(alloc, gate, 1, &mut reader, &mut writer)?;
     Ok(writer.device)
 }
 
-/// The verdict of the last record.
-fn last_verdict(gate: &Gate) -> Result<Option<Verdict>, OutOfMemory> {
+/// Whether a new gate answers the one with the other.
+fn is_answered(alloc: Global, input: &str, output: &str) -> Result<bool, Fail> {
+    let mut gate = sample_gate(alloc)?;
+    let got = written(alloc, &mut gate, input, "")?;
+    Ok(got.as_slice() == bytes_of(alloc, output)?.as_slice())
+}
+
+/// Whether a new gate answers a login and what follows it with Login Accepted and this.
+fn is_answered_on(alloc: Global, input: &str, output: &str) -> Result<bool, Fail> {
+    let mut gate = sample_gate(alloc)?;
+    let got = written(alloc, &mut gate, LOGIN, input)?;
+    Ok(got.as_slice() == joined(alloc, ACCEPTED_LOGIN, output)?.as_slice())
+}
+
+/// Whether the model's answer is given.
+fn passes(alloc: Global, case: Case) -> Result<bool, Fail> {
+    is_answered(alloc, case.input, case.output)
+}
+
+/// The verdict of the last record of a new gate after these texts.
+fn last_verdict(alloc: Global, first: &str, rest: &str) -> Result<Option<Verdict>, Fail> {
+    let mut gate = sample_gate(alloc)?;
+    written(alloc, &mut gate, first, rest)?;
     let records = gate.records(gate.length(), 1)?;
     Ok(records.first().map(|last| last.content().verdict))
 }
 
+/// The verdict of the last record but one, behind which stands the Logout at the input's end.
+fn last_request(alloc: Global, rest: &str) -> Result<Option<Verdict>, Fail> {
+    let mut gate = sample_gate(alloc)?;
+    written(alloc, &mut gate, LOGIN, rest)?;
+    let records = gate.records(gate.length().saturating_sub(1), 1)?;
+    Ok(records.first().map(|last| last.content().verdict))
+}
+
 #[test]
-fn connections_are_answered(rt: HostRuntime) -> Result<(), Fail> {
-    let alloc = rt.alloc();
-    let runs: [(&str, &[&str], &[&str]); 9] = [
-        ("no input", &[], &[]),
-        ("a login", &[LOGIN], &[ACCEPTED_LOGIN]),
-        ("a wrong password", &[WRONG_PASSWORD, LOGIN], &["00024a41"]),
-        (
-            "a number past the next one",
-            &[SECOND_NUMBER],
-            &["00024a53"],
-        ),
-        (
-            "a login and an order",
-            &[LOGIN, ENTER],
-            &[ACCEPTED_LOGIN, ACCEPTED_ORDER],
-        ),
-        (
-            "the same token twice",
-            &[LOGIN, ENTER, ENTER],
-            &[ACCEPTED_LOGIN, ACCEPTED_ORDER],
-        ),
-        (
-            "a packet of length 0, and more",
-            &[LOGIN, "0000", ENTER],
-            &[ACCEPTED_LOGIN],
-        ),
-        (
-            "a message cut short",
-            &[LOGIN, CUT_MESSAGE],
-            &[ACCEPTED_LOGIN],
-        ),
-        ("a second login", &[LOGIN, LOGIN, ENTER], &[ACCEPTED_LOGIN]),
-    ];
-    for (name, input, output) in runs {
-        let mut gate = sample_gate(alloc)?;
-        let got = written(alloc, &mut gate, joined(alloc, input)?.as_slice())?;
-        assert_eq!(rt; got, joined(alloc, output)?, "{name}");
-    }
+fn logins_are_answered(rt: HostRuntime) -> Result<(), Fail> {
+    assert!(rt; is_answered(rt.alloc(), "", "")?);
+    assert!(rt; is_answered_on(rt.alloc(), "", "")?);
+    assert!(rt; is_answered(rt.alloc(), WRONG_PASSWORD, "00024a41")?);
+    assert!(rt; is_answered(rt.alloc(), SECOND_NUMBER, "00024a53")?);
+    Ok(())
+}
+
+#[test]
+fn nothing_follows_a_rejected_login(rt: HostRuntime) -> Result<(), Fail> {
+    let mut gate = sample_gate(rt.alloc())?;
+    let got = written(rt.alloc(), &mut gate, WRONG_PASSWORD, LOGIN)?;
+    assert_eq!(rt; got, bytes_of(rt.alloc(), "00024a41")?);
+    assert_eq!(rt; gate.length(), 1);
+    Ok(())
+}
+
+#[test]
+fn orders_are_answered(rt: HostRuntime) -> Result<(), Fail> {
+    assert!(rt; is_answered_on(rt.alloc(), ENTER, ACCEPTED_ORDER)?);
+    assert!(rt; is_answered_on(rt.alloc(), CUT_MESSAGE, "")?);
+    assert!(rt; is_answered_on(rt.alloc(), LOGIN, "")?);
+    Ok(())
+}
+
+#[test]
+fn a_token_is_used_once(rt: HostRuntime) -> Result<(), Fail> {
+    let mut gate = sample_gate(rt.alloc())?;
+    let orders = joined(rt.alloc(), ENTER, ENTER)?;
+    let twice = hex::encode(rt.alloc(), orders.as_slice())?;
+    let got = written(rt.alloc(), &mut gate, LOGIN, twice.as_str())?;
+    assert_eq!(rt; got, joined(rt.alloc(), ACCEPTED_LOGIN, ACCEPTED_ORDER)?);
+    Ok(())
+}
+
+#[test]
+fn nothing_follows_a_fault(rt: HostRuntime) -> Result<(), Fail> {
+    let mut gate = sample_gate(rt.alloc())?;
+    let rest = joined(rt.alloc(), "0000", ENTER)?;
+    let behind = hex::encode(rt.alloc(), rest.as_slice())?;
+    let got = written(rt.alloc(), &mut gate, LOGIN, behind.as_str())?;
+    assert_eq!(rt; got, bytes_of(rt.alloc(), ACCEPTED_LOGIN)?);
     Ok(())
 }
 
 #[test]
 fn denied_requests_are_recorded(rt: HostRuntime) -> Result<(), Fail> {
-    let alloc = rt.alloc();
-    let runs: [(&[&str], RuleName, u64); 3] = [
-        (&[WRONG_PASSWORD], RuleName::L1, 1),
-        (&[LOGIN, ENTER, ENTER], RuleName::I1, 3),
-        (&[LOGIN, CUT_MESSAGE], RuleName::G3, 2),
-    ];
-    for (input, rule, number) in runs {
-        let mut gate = sample_gate(alloc)?;
-        let _ = written(alloc, &mut gate, joined(alloc, input)?.as_slice())?;
-        let records = gate.records(number, 1)?;
-        let verdict = records.first().map(|r| r.content().verdict);
-        assert_eq!(rt; verdict, Some(Verdict::Denied(rule)));
-    }
+    let wrong = last_verdict(rt.alloc(), WRONG_PASSWORD, "")?;
+    let cut = last_request(rt.alloc(), CUT_MESSAGE)?;
+    assert_eq!(rt; wrong, Some(Verdict::Denied(RuleName::L1)));
+    assert_eq!(rt; cut, Some(Verdict::Denied(RuleName::G3)));
     Ok(())
 }
 
+#[test]
+fn a_used_token_is_recorded(rt: HostRuntime) -> Result<(), Fail> {
+    let orders = joined(rt.alloc(), ENTER, ENTER)?;
+    let twice = hex::encode(rt.alloc(), orders.as_slice())?;
+    let verdict = last_request(rt.alloc(), twice.as_str())?;
+    assert_eq!(rt; verdict, Some(Verdict::Denied(RuleName::I1)));
+    Ok(())
+}
+
+/// The order's last byte is missing: it is no request, and the end of the input logs out.
 #[test]
 fn the_end_of_the_input_logs_out(rt: HostRuntime) -> Result<(), Fail> {
-    let alloc = rt.alloc();
-    let mut gate = sample_gate(alloc)?;
-    let mut input = joined(alloc, &[LOGIN, ENTER])?;
-    let _ = input.pop();
-    let got = written(alloc, &mut gate, input.as_slice())?;
-    assert_eq!(rt; got, bytes_of(alloc, ACCEPTED_LOGIN)?);
+    let mut cut = bytes_of(rt.alloc(), ENTER)?;
+    let _ = cut.pop();
+    let text = hex::encode(rt.alloc(), cut.as_slice())?;
+    let mut gate = sample_gate(rt.alloc())?;
+    let got = written(rt.alloc(), &mut gate, LOGIN, text.as_str())?;
+    assert_eq!(rt; got, bytes_of(rt.alloc(), ACCEPTED_LOGIN)?);
     assert_eq!(rt; gate.length(), 2);
-    assert_eq!(rt; last_verdict(&gate)?, Some(Verdict::Granted));
     Ok(())
 }
 
 #[test]
-fn other_connections_are_answered(rt: HostRuntime) -> Result<(), Fail> {
-    let alloc = rt.alloc();
-    for case in CASES {
-        let mut gate = sample_gate(alloc)?;
-        let got = written(alloc, &mut gate, bytes_of(alloc, case.input)?.as_slice())?;
-        let name = case.name;
-        assert_eq!(rt; got, bytes_of(alloc, case.output)?, "{name}");
-    }
+fn logins_of_the_model(rt: HostRuntime) -> Result<(), Fail> {
+    assert!(rt; passes(rt.alloc(), cases::SHORT_PACKET)?);
+    assert!(rt; passes(rt.alloc(), cases::NUMBER_NOT_THERE_YET)?);
+    assert!(rt; passes(rt.alloc(), cases::LOGIN_AND_LOGOUT)?);
+    assert!(rt; passes(rt.alloc(), cases::LOGIN_NOT_AUTHORIZED)?);
+    assert!(rt; passes(rt.alloc(), cases::SESSION_NOT_THERE)?);
+    Ok(())
+}
+
+#[test]
+fn orders_of_the_model(rt: HostRuntime) -> Result<(), Fail> {
+    assert!(rt; passes(rt.alloc(), cases::LOGIN_AND_ORDER)?);
+    assert!(rt; passes(rt.alloc(), cases::ORDERS_OF_ONE_USER)?);
+    assert!(rt; passes(rt.alloc(), cases::OTHER_ORDERS)?);
+    assert!(rt; passes(rt.alloc(), cases::SOME_NOT_ANSWERED)?);
+    assert!(rt; passes(rt.alloc(), cases::GRANTED_AND_DENIED)?);
     Ok(())
 }

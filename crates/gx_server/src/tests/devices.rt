@@ -1,6 +1,6 @@
 //! Connections over devices that give or take little, or fail.
 
-use super::{ACCEPTED_LOGIN, ACCEPTED_ORDER, ENTER, LOGIN, joined, sample_gate};
+use super::{ACCEPTED_LOGIN, ACCEPTED_ORDER, ENTER, LOGIN, bytes_of, joined, sample_gate};
 use crate::{Counted, PipeFault, run_pipe};
 use gx_units::UserName;
 use std::io;
@@ -60,7 +60,7 @@ const ALICE: UserName = UserName { bytes: *b"ALICE " };
 #[test]
 fn a_byte_at_a_time(rt: HostRuntime) -> Result<(), Fail> {
     let alloc = rt.alloc();
-    let input = joined(alloc, &[LOGIN, ENTER])?;
+    let input = joined(alloc, LOGIN, ENTER)?;
     let mut gate = sample_gate(alloc)?;
     let mut reader = Counted::new(Drips {
         rest: input.as_slice(),
@@ -73,7 +73,7 @@ fn a_byte_at_a_time(rt: HostRuntime) -> Result<(), Fail> {
     run_pipe(alloc, &mut gate, 1, &mut reader, &mut writer)?;
     assert_eq!(rt;
         writer.device.taken,
-        joined(alloc, &[ACCEPTED_LOGIN, ACCEPTED_ORDER])?
+        joined(alloc, ACCEPTED_LOGIN, ACCEPTED_ORDER)?
     );
     assert_eq!(rt; gate.length(), 3);
     Ok(())
@@ -82,7 +82,7 @@ fn a_byte_at_a_time(rt: HostRuntime) -> Result<(), Fail> {
 #[test]
 fn a_read_that_fails(rt: HostRuntime) -> Result<(), Fail> {
     let alloc = rt.alloc();
-    let input = joined(alloc, &[LOGIN, ENTER])?;
+    let input = joined(alloc, LOGIN, ENTER)?;
     let mut gate = sample_gate(alloc)?;
     let mut reader = Counted::new(Drips {
         rest: input.as_slice(),
@@ -92,7 +92,7 @@ fn a_read_that_fails(rt: HostRuntime) -> Result<(), Fail> {
     let fault = run_pipe(alloc, &mut gate, 1, &mut reader, &mut writer);
     assert_eq!(rt; fault, Err(PipeFault::ReadFailed));
     assert_eq!(rt; reader.failed, 1);
-    assert_eq!(rt; writer.device, joined(alloc, &[ACCEPTED_LOGIN])?);
+    assert_eq!(rt; writer.device, bytes_of(alloc, ACCEPTED_LOGIN)?);
     assert_eq!(rt; gate.on(ALICE), None);
     assert_eq!(rt; gate.length(), 2);
     Ok(())
@@ -101,7 +101,7 @@ fn a_read_that_fails(rt: HostRuntime) -> Result<(), Fail> {
 #[test]
 fn a_write_that_takes_nothing(rt: HostRuntime) -> Result<(), Fail> {
     let alloc = rt.alloc();
-    let input = joined(alloc, &[LOGIN, ENTER])?;
+    let input = joined(alloc, LOGIN, ENTER)?;
     let mut gate = sample_gate(alloc)?;
     let mut reader = Counted::new(input.as_slice());
     let mut writer = Counted::new(Sips {
@@ -111,7 +111,7 @@ fn a_write_that_takes_nothing(rt: HostRuntime) -> Result<(), Fail> {
     let fault = run_pipe(alloc, &mut gate, 1, &mut reader, &mut writer);
     assert_eq!(rt; fault, Err(PipeFault::WriteFailed));
     assert_eq!(rt; writer.failed, 1);
-    let mut taken = joined(alloc, &[ACCEPTED_LOGIN])?;
+    let mut taken = bytes_of(alloc, ACCEPTED_LOGIN)?;
     taken.truncate(10);
     assert_eq!(rt; writer.device.taken, taken);
     assert_eq!(rt; gate.on(ALICE), None);

@@ -1,13 +1,17 @@
-use Rattle.std.proofs.Common.{◌∙◌, ◌++◌, ◌∷◌, [], List, ap, sym}
+use Rattle.std.proofs.Common.{◌∙◌, ◌++◌, ◌∷◌, [], List, ap, sym, inl}
 use Rattle.std.proofs.Math.Path.{subst}
 use Rattle.gx_history.specs.declared.record.RecordData.{RecordData}
 use Rattle.gx_history.specs.declared.record.RuleName.{RuleName}
 use Rattle.gx_history_laws.proofs.Granting.{denied_names_first, granted_exactly}
 use Rattle.gx_ouch.specs.declared.inbound.EnterOrder.{EnterOrder}
-use Rattle.gx_history.specs.Effects.{IsAsBefore, TakesEffect}
+use Rattle.gx_units.specs.declared.names.AccountName.{AccountName}
+use Rattle.gx_history.specs.Effects.{IsAsBefore, TakesEffect, KillsAccount, LiftsAccount}
+use Rattle.gx_history.specs.InForce.{is_killed}
 use Rattle.gx_core.specs.Gates.{IsDay, left_by}
 use Rattle.gx_history_laws.proofs.Effects.{as_before}
 use Rattle.gx_history_laws.proofs.Entered.{takes_effect}
+use Rattle.gx_history_laws.proofs.Killing.{kill_takes_effect}
+use Rattle.gx_history_laws.proofs.Lifting.{lift_takes_effect, kill_ends_by_lift}
 use Rattle.gx_core.proofs.Stepping.{day_next}
 use Rattle.gx_core.proofs.gate.Gate.step.Goals as goal
 
@@ -40,3 +44,27 @@ returns-clause-entered c =
     subst (λ (records : List RecordData). TakesEffect c.self.inside.policy c.self.inside.history.records records (left_by c.args.a c.outcome_of-outcome.result) c.args.a.user m)
     (sym (c.in_ok-push.ensures.ok ∙ ap (λ (r : RecordData). c.self.inside.history.records ++ r ∷ []) c.record_of.ensures))
     (takes_effect c.self.inside.policy c.self.inside.history.records c.args.a (left_by c.args.a c.outcome_of-outcome.result) m c.self.invariant.legal c.outcome_of-outcome.ensures.next enters granted))
+
+pub returns-clause-killed : goal.returns-clause-killed
+returns-clause-killed c =
+    rw (← c.self.view_is) (λ (account : AccountName) kills granted.
+    subst (λ (records : List RecordData). KillsAccount c.self.inside.policy c.self.inside.history.records records (left_by c.args.a c.outcome_of-outcome.result) account)
+    (sym (c.in_ok-push.ensures.ok ∙ ap (λ (r : RecordData). c.self.inside.history.records ++ r ∷ []) c.record_of.ensures))
+    (kill_takes_effect c.self.inside.policy c.self.inside.history.records c.args.a (left_by c.args.a c.outcome_of-outcome.result) account c.self.invariant.legal c.outcome_of-outcome.ensures.next kills granted))
+
+pub returns-clause-lifted : goal.returns-clause-lifted
+returns-clause-lifted c =
+    rw (← c.self.view_is) (λ (account : AccountName) lifts granted.
+    subst (λ (records : List RecordData). LiftsAccount c.self.inside.policy c.self.inside.history.records records account)
+    (sym (c.in_ok-push.ensures.ok ∙ ap (λ (r : RecordData). c.self.inside.history.records ++ r ∷ []) c.record_of.ensures))
+    (lift_takes_effect c.self.inside.policy c.self.inside.history.records c.args.a (left_by c.args.a c.outcome_of-outcome.result) account c.self.invariant.legal c.outcome_of-outcome.ensures.next lifts granted))
+
+pub returns-clause-lifted_by : goal.returns-clause-lifted_by
+returns-clause-lifted_by c =
+    rw (← c.self.view_is) (λ (account : AccountName) killed lifted.
+    kill_ends_by_lift c.self.inside.policy c.self.inside.history.records (left_by c.args.a c.outcome_of-outcome.result) account
+    (record { is_next = c.outcome_of-outcome.ensures.next; fits_day = record { fits = inl c.outcome_of-outcome.ensures.fits } }) killed
+    (sym
+    (ap (λ (records : List RecordData). is_killed c.self.inside.policy records account)
+    (c.in_ok-push.ensures.ok ∙ ap (λ (r : RecordData). c.self.inside.history.records ++ r ∷ []) c.record_of.ensures))
+    ∙ lifted))
