@@ -1,6 +1,6 @@
 //! The gate.
 
-ghost use Rattle.std.specs.Prelude.{◌≡◌, ◌+◌, ◌&&◌, max, nat_lt, ◌≤◌, ◌<◌, ◌↔◌, ◌++◌, [], ◌∷◌, length, IsTrue, IsFalse, IfOk, IfErr, OnErr, Some, None};
+ghost use Rattle.std.specs.Prelude.{◌≡◌, ◌+◌, ◌&&◌, max, nat_lt, ◌≤◌, ◌<◌, ◌↔◌, ◌++◌, [], ◌∷◌, length, IsTrue, IsFalse, IfOk, IfErr, OnErr, Some, None, is_some};
 ghost use Rattle.gx_units.specs.declared.names.AccountName.{AccountName};
 ghost use Rattle.gx_desk.specs.declared.Action.TheVariants as actions;
 ghost use Rattle.gx_ouch.specs.declared.inbound.EnterOrder.{EnterOrder};
@@ -13,6 +13,7 @@ ghost use Rattle.gx_history.specs.Brought.{is_brought};
 ghost use Rattle.gx_history.specs.InForce.{line_of, is_closed, is_killed};
 ghost use Rattle.gx_history.specs.Lists.{slice};
 ghost use Rattle.gx_history.specs.Logins.{login_asked};
+ghost use Rattle.gx_history.specs.People.{user_named};
 ghost use Rattle.gx_history.specs.Plain.{rules_need_no_figures};
 ghost use Rattle.gx_history.specs.Requests.{action_of};
 ghost use Rattle.gx_history.specs.Rules.{first_forbidding, IsFirstForbidding};
@@ -33,6 +34,7 @@ use gx_history::history::History;
 use gx_history::policy::Policy;
 use gx_history::record::{Asked, Record, RecordData, Request, Step, Verdict};
 use gx_plain::judge::judge;
+use gx_plain::people::is_user;
 use gx_plain::records::{is_killed, last_moment, line_of};
 use gx_plain::slices::slice;
 use gx_units::{AccountName, OutOfMemory, Password, SessionName, UserName};
@@ -160,6 +162,13 @@ impl Gate {
         ensures { result ≡ line_of self.now.records user }
     {
         line_of(self.history.as_slice(), user)
+    }
+
+    /// Whether the policy has this user.
+    pub fn knows(&self, user: UserName) -> bool
+        ensures { result ≡ is_some (user_named self.now.policy user) }
+    {
+        is_user(&self.policy, user)
     }
 
     /// The records from this number on, 0 counting as 1, and at most so many.

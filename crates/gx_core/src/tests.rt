@@ -38,6 +38,7 @@ fn a_login_is_on_its_line(rt: HostRuntime) -> Result<(), Fail> {
     played(rt.alloc(), &mut gate, "A")?;
     assert_eq!(rt; gate.on(ALICE), Some(1));
     assert_eq!(rt; gate.on(OLGA), None);
+    assert!(rt; gate.knows(OLGA));
     Ok(())
 }
 

@@ -46,8 +46,7 @@ fn is_available(policy: &Policy, records: &[Record], a: &Asked) -> bool
     match &a.request {
         Request::Login(m) => {
             m.session_is_right
-                && (m.wanted <= 1
-                    || m.wanted - 1 <= count_reports(policy, records, a.user) as u64)
+                && (m.wanted <= 1 || m.wanted - 1 <= count_reports(policy, records, a.user) as u64)
         }
         _ => true,
     }

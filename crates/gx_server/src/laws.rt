@@ -1,4 +1,4 @@
-//! Laws of the transcript: what a connection is sent, in other words than the session table's.
+//! Laws of the transcript: what a connection is sent, in other words than the session table's. And laws of scripts.
 
 ghost use Rattle.std.specs.Prelude.{◌≡◌, ℕ, List, ◌++◌, IsTrue};
 ghost use Rattle.gx_units.specs.declared.names.UserName.{UserName};
@@ -6,6 +6,8 @@ ghost use Rattle.gx_core.specs.Gates.{GateData};
 ghost use Rattle.gx_server.specs.declared.session.Phase.TheVariants.{Fresh, On};
 ghost use Rattle.gx_server.specs.Transcript.{run_of, pipe, is_over};
 ghost use Rattle.gx_server.specs.Serving.{Serves, IsServed};
+ghost use Rattle.gx_server.specs.Scripting.{cut_of, script_of, is_settled};
+ghost use Rattle.gx_server.specs.ScriptTexts.{joined, are_lines};
 
 /// Before a login is answered nothing is written and no step is made.
 pub fn silent_before_login()
@@ -25,4 +27,16 @@ pub fn stream_is_sent()
 pub fn nothing_follows()
     ensures { (gate : GateData) (first : ℕ) (bytes more : List ℕ) → IsTrue (is_over gate first bytes)
         → pipe gate first (bytes ++ more) ≡ pipe gate first bytes }
+{}
+
+/// Once a line of a script is bad, or too long already, nothing that follows makes a step or is printed.
+pub fn nothing_follows_a_bad_line()
+    ensures { (gate : GateData) (bytes more : List ℕ) → IsTrue (is_settled gate bytes)
+        → script_of gate (bytes ++ more) ≡ script_of gate bytes }
+{}
+
+/// The lines of a text, with their LFs, and what is behind them are the text, and no LF stands in a line.
+pub fn lines_make_the_text()
+    ensures text { (text : List ℕ) → joined (cut_of text) ≡ text }
+    ensures lines { (text : List ℕ) → IsTrue (are_lines (cut_of text)) }
 {}

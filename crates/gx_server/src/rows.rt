@@ -21,7 +21,7 @@ use std::alloc::Global;
 /// The one line of a connection over standard input.
 const LINE: u16 = 1;
 
-fn asked(user: UserName, request: Request, moment: u64) -> Asked
+pub(crate) fn asked(user: UserName, request: Request, moment: u64) -> Asked
     requires { IsTrue (has_its_first request) }
     ensures asked { result ≡ asked_by user request moment }
     ensures askable { IsTrue (is_askable result) }
@@ -34,7 +34,7 @@ fn asked(user: UserName, request: Request, moment: u64) -> Asked
     }
 }
 
-fn login_request(gate: &Gate, login: &LoginRequest) -> Request
+pub(crate) fn login_request(gate: &Gate, login: &LoginRequest) -> Request
     ensures asked { result ≡ login_of gate.now login.now }
     ensures first { IsTrue (has_its_first result) }
     ensures brought { IsTrue (is_brought result) }
@@ -169,7 +169,7 @@ fn answer(
     }
 }
 
-fn append(text: &mut Vec<u8>, more: &[u8]) -> Result<(), OutOfMemory>
+pub(crate) fn append(text: &mut Vec<u8>, more: &[u8]) -> Result<(), OutOfMemory>
     ensures { OnOk result (text.new.items ≡ text.old.items ++ more.now) }
 {
     text.extend_from_slice(more)?;
@@ -197,7 +197,7 @@ fn reports_text(alloc: Global, reports: &[Report]) -> Result<Vec<u8>, OutOfMemor
 }
 
 /// How many reports there are: fewer than a pull may ask for.
-fn count_of(reports: &[Report]) -> u64
+pub(crate) fn count_of(reports: &[Report]) -> u64
     ensures count { result ≡ length reports.now }
     ensures within { length reports.now < 2 ^ 64 - 1 }
 {

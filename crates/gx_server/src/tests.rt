@@ -2,6 +2,7 @@
 
 mod cases;
 mod devices;
+mod scripts;
 
 use crate::{Counted, PipeFault, run_pipe};
 use cases::Case;

@@ -9,9 +9,9 @@ use std::test::Fail;
 
 /// A reader that gives one byte at a time, and fails after so many.
 #[derive(Drop)]
-struct Drips<'a> {
-    rest: &'a [u8],
-    until_failure: usize,
+pub struct Drips<'a> {
+    pub rest: &'a [u8],
+    pub until_failure: usize,
 }
 
 impl Read for Drips<'_> {
@@ -34,9 +34,9 @@ impl Read for Drips<'_> {
 
 /// A writer that takes one byte at a time, and none once it is full.
 #[derive(Drop)]
-struct Sips {
-    taken: Vec<u8>,
-    room: usize,
+pub struct Sips {
+    pub taken: Vec<u8>,
+    pub room: usize,
 }
 
 impl Write for Sips {
