@@ -1,0 +1,34 @@
+-- What was answered, where a policy is meant.
+use Rattle.std.proofs.Common.{◌≡◌, ◌≢◌, false, Result, Ok, Err, refl, sym, IfOk, IfErr}
+use Rattle.gx_policyfile.specs.declared.fault.FaultKind.{FaultKind}
+use Rattle.gx_policyfile.specs.declared.fault.FaultKind.TheVariants.{NotToml, MissingKey, UnknownKey, BadValue, UnknownName, DuplicateName, TooMany, OutOfMemory}
+use Rattle.gx_policyfile.specs.declared.fault.PolicyFault.{PolicyFault}
+use Rattle.gx_policyfile.specs.Field.{is_memory}
+
+pub not_memory : (kind : FaultKind) → kind ≢ OutOfMemory → is_memory kind ≡ false
+not_memory OutOfMemory h = absurd (h refl)
+not_memory NotToml h = refl
+not_memory MissingKey h = refl
+not_memory UnknownKey h = refl
+not_memory BadValue h = refl
+not_memory UnknownName h = refl
+not_memory DuplicateName h = refl
+not_memory TooMany h = refl
+
+pub read_value : {X : Type 0} (r : Result X PolicyFault) (meant : Result X FaultKind) (x : X) → meant ≡ Ok x → IfOk r (λ y. meant ≡ Ok y) → IfOk r (λ y. y ≡ x)
+read_value (Ok y) meant x is h = let e : Ok y ≡ meant = sym h in cc
+read_value (Err e) meant x is h = tt
+
+only_memory : {X : Type 0} (kind : FaultKind) (meant : Result X FaultKind) (x : X) → meant ≡ Ok x → (kind ≢ OutOfMemory → meant ≡ Err kind) → kind ≡ OutOfMemory
+only_memory OutOfMemory meant x is h = refl
+only_memory NotToml meant x is h = let k = h (λ e. cc) in cc
+only_memory MissingKey meant x is h = let k = h (λ e. cc) in cc
+only_memory UnknownKey meant x is h = let k = h (λ e. cc) in cc
+only_memory BadValue meant x is h = let k = h (λ e. cc) in cc
+only_memory UnknownName meant x is h = let k = h (λ e. cc) in cc
+only_memory DuplicateName meant x is h = let k = h (λ e. cc) in cc
+only_memory TooMany meant x is h = let k = h (λ e. cc) in cc
+
+pub read_memory : {X : Type 0} (r : Result X PolicyFault) (meant : Result X FaultKind) (x : X) → meant ≡ Ok x → IfErr r (λ e. e.kind ≢ OutOfMemory → meant ≡ Err e.kind) → IfErr r (λ e. e.kind ≡ OutOfMemory)
+read_memory (Ok y) meant x is h = tt
+read_memory (Err e) meant x is h = only_memory e.kind meant x is h

@@ -1,0 +1,13 @@
+pub mod Keys
+pub mod Trees
+pub mod Parts
+pub mod Placed
+pub mod Spelled
+pub mod WasRead
+pub mod SoundNames
+pub mod SoundEntries
+pub mod SoundRules
+pub mod SoundPolicy
+pub mod Giving
+pub mod SampleText
+pub mod WhatIsRead

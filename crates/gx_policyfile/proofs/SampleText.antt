@@ -1,0 +1,16 @@
+-- The text of the sample policy means the sample policy, as computed.
+use Rattle.std.proofs.Common.{◌≡◌, refl, Ok}
+use Rattle.gx_policyfile.specs.declared.samples.TheConstants.{SAMPLE}
+use Rattle.gx_policyfile.specs.Sample.{sample}
+use Rattle.std.specs.Str.{is_utf8, chars}
+use Rattle.toml.proofs.OnLiterals.{toml_on_literals}
+use Rattle.gx_policyfile.specs.Policies.{account, stock, accounts, stocks, users, rules, policy, tree, means}
+use Rattle.gx_policyfile.specs.Place.{is_taken}
+use Rattle.gx_policyfile.specs.Users.{user, role, powers}
+use Rattle.gx_policyfile.specs.Rules.{rule, rule_name, kind, kind_words}
+use Rattle.gx_policyfile.specs.Known.{with_account, with_stock, known_account, known_accounts, known_stocks, scope}
+use Rattle.gx_history.specs.RuleNames.{rules_before, rules_behind}
+
+pub sample_is_read : means SAMPLE.now ≡ Ok sample
+unfolding toml_on_literals is_utf8 chars account stock accounts stocks users rules policy tree means is_taken user role powers rule rule_name kind kind_words with_account with_stock known_account known_accounts known_stocks scope rules_before rules_behind sample
+sample_is_read = refl

@@ -1,0 +1,5 @@
+use Rattle.gx_policyfile.proofs.WhatIsRead.{read_sound}
+use Rattle.gx_policyfile.proofs.laws.each_is_sound.Goals as goal
+
+pub returns : goal.returns
+returns c = read_sound

@@ -1,0 +1,5 @@
+use Rattle.gx_policyfile.proofs.WhatIsRead.{read_order}
+use Rattle.gx_policyfile.proofs.laws.order_is_kept.Goals as goal
+
+pub returns : goal.returns
+returns c = read_order

@@ -1,0 +1,37 @@
+-- A place of several entries: an array of tables.
+use Rattle.std.specs.Prelude.{ℕ, Bool, nat_lt, List, [], ◌∷◌, ◌++◌, length, Result, Ok, Err, if◌then◌else◌}
+use Rattle.std.specs.List.{list_any}
+use Rattle.std.specs.Option.{ok_or}
+use Rattle.toml.specs.Data.{Data, Members, as_array, as_table}
+use Rattle.gx_policyfile.specs.declared.fault.FaultKind.{FaultKind}
+use Rattle.gx_policyfile.specs.declared.fault.FaultKind.TheVariants.{BadValue, DuplicateName, TooMany}
+use Rattle.gx_policyfile.specs.Field.{◌>>=◌, optional, each_item}
+
+-- a table
+abbrev pub table : Data → Result Members FaultKind
+table value = ok_or (as_table value) BadValue
+
+-- an array of tables
+abbrev pub tables : Data → Result (List Members) FaultKind
+tables value = ok_or (as_array value) BadValue >>= each_item table (λ found entry. found ++ entry ∷ []) []
+
+-- the array of tables under a key, which may be absent
+abbrev pub tables_at : List ℕ → Members → Result (List Members) FaultKind
+tables_at key top = optional key tables [] top
+
+-- an entry of this name stands among these
+unfoldable pub is_taken : {X : Type 0} → (X → X → Bool) → List X → X → Bool
+is_taken is_same earlier x = list_any (λ other. is_same other x) earlier
+
+-- the entry, unless one before it has its name
+abbrev pub next : {X : Type 0} → (X → X → Bool) → (Members → Result X FaultKind) → List X → Members → Result X FaultKind
+next is_same meant earlier entry = meant entry >>= λ x. if is_taken is_same earlier x then Err DuplicateName else Ok x
+
+-- each entry in turn, behind those before it
+abbrev pub each : {X : Type 0} → (X → X → Bool) → (Members → Result X FaultKind) → List X → List Members → Result (List X) FaultKind
+each is_same meant earlier [] = Ok earlier
+each is_same meant earlier (entry ∷ entries) = next is_same meant earlier entry >>= λ x. each is_same meant (earlier ++ x ∷ []) entries
+
+-- the entries of a place, at most so many
+abbrev pub place_of : {X : Type 0} → ℕ → (X → X → Bool) → (Members → Result X FaultKind) → List Members → Result (List X) FaultKind
+place_of most is_same meant entries = if nat_lt most (length entries) then Err TooMany else each is_same meant [] entries

@@ -1,0 +1,87 @@
+-- What a policy file says: in each place the keys in the order in which they are checked.
+use Rattle.std.specs.Prelude.{ℕ, List, [], ◌∷◌, codes, Result, Ok, Err, if◌then◌else◌}
+use Rattle.std.specs.Option.{ok_or}
+use Rattle.std.specs.Str.{is_utf8}
+use Rattle.toml.specs.Data.{Members}
+use Rattle.toml.specs.Parse.{parse_document}
+use Rattle.gx_units.specs.Names.{same_account, same_stock, same_user, same_rule}
+use Rattle.gx_history.specs.declared.policy.PolicyData.{PolicyData}
+use Rattle.gx_history.specs.declared.policy.Account.{Account}
+use Rattle.gx_history.specs.declared.policy.Stock.{Stock}
+use Rattle.gx_history.specs.declared.policy.User.{User}
+use Rattle.gx_history.specs.declared.policy.FileRule.{FileRule}
+use Rattle.gx_policyfile.specs.Users.{user}
+use Rattle.gx_policyfile.specs.Rules.{rule}
+use Rattle.gx_policyfile.specs.declared.fault.FaultKind.{FaultKind}
+use Rattle.gx_policyfile.specs.declared.fault.FaultKind.TheVariants.{NotToml}
+use Rattle.gx_policyfile.specs.declared.fault.Letters.TheVariants.{Plain, Visible}
+use Rattle.gx_policyfile.specs.Field.{◌>>=◌, number_at, field_at, only_keys}
+use Rattle.gx_policyfile.specs.Place.{tables_at, place_of}
+
+-- the keys of the whole file
+abbrev pub top_keys : List (List ℕ)
+top_keys = codes "version" ∷ codes "session" ∷ codes "account" ∷ codes "stock" ∷ codes "user" ∷ codes "rule" ∷ []
+
+-- the keys of an account
+abbrev pub account_keys : List (List ℕ)
+account_keys = codes "name" ∷ codes "firm" ∷ []
+
+-- the keys of a stock
+abbrev pub stock_keys : List (List ℕ)
+stock_keys = codes "name" ∷ codes "reference" ∷ []
+
+-- what an entry of the place `account` says
+unfoldable pub account : Members → Result Account FaultKind
+account entry = do
+  known ← only_keys account_keys entry
+  name ← field_at (codes "name") Plain 8 entry
+  firm ← field_at (codes "firm") Plain 4 entry
+  Ok (record { name = record { bytes = name }; firm = record { bytes = firm } })
+
+-- what an entry of the place `stock` says
+unfoldable pub stock : Members → Result Stock FaultKind
+stock entry = do
+  known ← only_keys stock_keys entry
+  name ← field_at (codes "name") Visible 8 entry
+  reference ← number_at (codes "reference") 1 1999999900 entry
+  Ok (record { name = record { bytes = name }; reference = reference })
+
+-- at most 64 accounts, no two of one name
+unfoldable pub accounts : List Members → Result (List Account) FaultKind
+accounts entries = place_of 64 (λ (a b : Account). same_account a.name b.name) account entries
+
+-- at most 1,024 stocks, no two of one name
+unfoldable pub stocks : List Members → Result (List Stock) FaultKind
+stocks entries = place_of 1024 (λ (a b : Stock). same_stock a.name b.name) stock entries
+
+-- at most 256 users, no two of one name
+unfoldable pub users : List Account → List Members → Result (List User) FaultKind
+users known entries = place_of 256 (λ (a b : User). same_user a.name b.name) (user known) entries
+
+-- at most 128 rules, no two of one name
+unfoldable pub rules : List Account → List Stock → List Members → Result (List FileRule) FaultKind
+rules known listed entries = place_of 128 (λ (a b : FileRule). same_rule a.name b.name) (rule known listed) entries
+
+-- what the whole file says: the keys at the top, then the accounts, the stocks, the users and the rules
+unfoldable pub policy : Members → Result PolicyData FaultKind
+policy top = do
+  known ← only_keys top_keys top
+  version ← number_at (codes "version") 1 1 top
+  session ← field_at (codes "session") Visible 10 top
+  account_tables ← tables_at (codes "account") top
+  stock_tables ← tables_at (codes "stock") top
+  user_tables ← tables_at (codes "user") top
+  rule_tables ← tables_at (codes "rule") top
+  found_accounts ← accounts account_tables
+  found_stocks ← stocks stock_tables
+  found_users ← users found_accounts user_tables
+  found_rules ← rules found_accounts found_stocks rule_tables
+  Ok (record { session = record { bytes = session }; accounts = found_accounts; stocks = found_stocks; users = found_users; rules = found_rules })
+
+-- the tree that the bytes are
+unfoldable pub tree : List ℕ → Result Members FaultKind
+tree bytes = if is_utf8 bytes then ok_or (parse_document bytes) NotToml else Err NotToml
+
+-- what the bytes of a policy file mean: a policy, or their first fault
+unfoldable pub means : List ℕ → Result PolicyData FaultKind
+means bytes = tree bytes >>= policy

@@ -1,0 +1,227 @@
+//! Why a policy file is refused, and where.
+
+ghost use Rattle.gx_policyfile.specs.declared.fault.FaultKind.TheVariants.{OutOfMemory};
+ghost use Rattle.gx_policyfile.specs.Field.{is_memory};
+ghost use Rattle.std.specs.Prelude.{◌≡◌, false};
+
+use std::alloc::{AllocError, AllocFailed};
+use std::error::Error;
+use std::fmt;
+
+/// Why a policy file is refused: the first fault in the order of the format. The kinds have the numbers 1 to 8.
+#[derive(Clone, Copy, Debug, PartialEq, Eq)]
+pub enum FaultKind {
+    /// The bytes are no TOML, or not UTF-8.
+    NotToml = 1,
+    /// A key is absent that has to be there.
+    MissingKey,
+    /// A key stands where it is not one of the keys of its place.
+    UnknownKey,
+    /// A value is of another type, out of its range, or not spelled as it may be.
+    BadValue,
+    /// A name is of no account or stock of the file.
+    UnknownName,
+    /// An entry is named as one before it in its place.
+    DuplicateName,
+    /// A place has more entries than it may have.
+    TooMany,
+    /// A growth was refused. It says nothing of the file.
+    OutOfMemory,
+}
+
+impl fmt::Display for FaultKind {
+    fn fmt<W: fmt::Write>(&self, f: &mut fmt::Formatter<W>) -> fmt::Result {
+        let text = match self {
+            FaultKind::NotToml => "1 NotToml",
+            FaultKind::MissingKey => "2 MissingKey",
+            FaultKind::UnknownKey => "3 UnknownKey",
+            FaultKind::BadValue => "4 BadValue",
+            FaultKind::UnknownName => "5 UnknownName",
+            FaultKind::DuplicateName => "6 DuplicateName",
+            FaultKind::TooMany => "7 TooMany",
+            FaultKind::OutOfMemory => "8 OutOfMemory",
+        };
+        f.write_str(text)
+    }
+}
+
+/// The letters that a name is made of.
+#[derive(Clone, Copy, Debug)]
+pub enum Letters {
+    /// `A` to `Z`, `0` to `9` and `_`.
+    Plain,
+    /// ASCII `!` to `~`.
+    Visible,
+}
+
+/// What a key allows.
+#[derive(Clone, Copy, Debug)]
+pub enum Allowed {
+    /// An integer from the first to the second.
+    Number(u64, u64),
+    /// A string of one to so many of these letters.
+    Text(Letters, usize),
+    /// At most so many entries.
+    Entries(usize),
+    /// What the text says.
+    Words(&'static str),
+}
+
+impl fmt::Display for Allowed {
+    fn fmt<W: fmt::Write>(&self, f: &mut fmt::Formatter<W>) -> fmt::Result {
+        match self {
+            Allowed::Number(least, most) => {
+                if least == most {
+                    write!(f, "the integer {least}")
+                } else {
+                    write!(f, "an integer from {least} to {most}")
+                }
+            }
+            Allowed::Text(Letters::Plain, most) => {
+                write!(f, "a string of 1 to {most} of A to Z, 0 to 9 and _")
+            }
+            Allowed::Text(Letters::Visible, most) => {
+                write!(f, "a string of 1 to {most} of the ASCII characters ! to ~")
+            }
+            Allowed::Entries(most) => write!(f, "at most {most} entries"),
+            Allowed::Words(text) => f.write_str(text),
+        }
+    }
+}
+
+/// What is wrong there.
+#[derive(Debug, Drop)]
+pub enum Cause {
+    /// Nothing of the file: a growth was refused.
+    Memory,
+    /// The text, as the reader of TOML tells it.
+    Text(String),
+    /// The value of this key, or that it is absent, and what is allowed.
+    Key(&'static str, Allowed),
+    /// This key, where the others are the known ones.
+    UnknownKey(String, &'static [&'static str]),
+}
+
+/// An entry of the file.
+#[derive(Debug, Drop)]
+pub struct EntryPlace {
+    /// `account`, `stock`, `user` or `rule`.
+    pub place: &'static str,
+    /// From 1, in the file's order.
+    pub number: usize,
+    /// As it is written, where that is a string.
+    pub name: Option<String>,
+}
+
+impl fmt::Display for EntryPlace {
+    fn fmt<W: fmt::Write>(&self, f: &mut fmt::Formatter<W>) -> fmt::Result {
+        let (place, number) = (self.place, self.number);
+        write!(f, "{place} {number}")?;
+        match &self.name {
+            Some(name) => write!(f, " {name:?}"),
+            None => Ok(()),
+        }
+    }
+}
+
+/// Why a policy file is refused. `kind` is the first fault; the rest helps who writes the file.
+#[derive(Debug, Drop)]
+pub struct PolicyFault {
+    pub kind: FaultKind,
+    /// The entry that has the fault, or None at the top of the file.
+    pub entry: Option<EntryPlace>,
+    pub cause: Cause,
+}
+
+impl PolicyFault {
+    /// A fault at the value of a key, or that the key is absent.
+    pub(crate) fn at(kind: FaultKind, key: &'static str, allowed: Allowed) -> PolicyFault
+        ensures { result.kind ≡ kind }
+    {
+        PolicyFault {
+            kind,
+            entry: None,
+            cause: Cause::Key(key, allowed),
+        }
+    }
+
+    /// A growth was refused.
+    pub(crate) fn memory() -> PolicyFault
+        ensures { result.kind ≡ OutOfMemory }
+    {
+        PolicyFault {
+            kind: FaultKind::OutOfMemory,
+            entry: None,
+            cause: Cause::Memory,
+        }
+    }
+
+    /// The fault within this entry.
+    pub(crate) fn within(self, entry: EntryPlace) -> PolicyFault
+        ensures { result.kind ≡ self.kind }
+    {
+        let PolicyFault { kind, cause, .. } = self;
+        PolicyFault {
+            kind,
+            entry: Some(entry),
+            cause,
+        }
+    }
+}
+
+/// The keys, with commas between them.
+#[derive(Clone, Copy)]
+struct KeyList(&'static [&'static str]);
+
+impl fmt::Display for KeyList {
+    fn fmt<W: fmt::Write>(&self, f: &mut fmt::Formatter<W>) -> fmt::Result {
+        let mut gap = "";
+        for key in self.0 {
+            write!(f, "{gap}{key}")?;
+            gap = ", ";
+        }
+        Ok(())
+    }
+}
+
+/// A line that names the fault, a line that says where it is, and a line that says what is allowed there.
+impl fmt::Display for PolicyFault {
+    fn fmt<W: fmt::Write>(&self, f: &mut fmt::Formatter<W>) -> fmt::Result {
+        let kind = self.kind;
+        write!(f, "policy fault {kind}")?;
+        if let Cause::Memory = &self.cause {
+            return Ok(());
+        }
+        f.write_str("\n")?;
+        if let Some(entry) = &self.entry {
+            write!(f, "{entry}, ")?;
+        }
+        match &self.cause {
+            Cause::Memory => Ok(()),
+            Cause::Text(text) => f.write_str(text.as_str().trim_end()),
+            Cause::Key(key, allowed) => write!(f, "key {key}\nallowed: {allowed}"),
+            Cause::UnknownKey(key, known) => {
+                let keys = KeyList(known);
+                write!(f, "key {key:?}\nallowed: the keys {keys}")
+            }
+        }
+    }
+}
+
+impl From<AllocError> for PolicyFault {
+    ghost from_gives = { λ _ e. e.kind ≡ OutOfMemory };
+
+    fn from(_refused: AllocError) -> PolicyFault {
+        PolicyFault::memory()
+    }
+}
+
+impl<T: Drop> From<AllocFailed<T>> for PolicyFault {
+    ghost from_gives = { λ _ e. e.kind ≡ OutOfMemory };
+
+    fn from(_refused: AllocFailed<T>) -> PolicyFault {
+        PolicyFault::memory()
+    }
+}
+
+impl Error for PolicyFault {}

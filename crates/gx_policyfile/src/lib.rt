@@ -1,0 +1,24 @@
+//! The policy file: what a broker's staff writes, read into a policy.
+#![tactic(auto)]
+
+mod account;
+mod fault;
+mod field;
+mod known;
+mod laws;
+mod place;
+mod reading;
+mod rule;
+mod samples;
+mod stock;
+mod user;
+
+pub use fault::{Allowed, Cause, EntryPlace, FaultKind, Letters, PolicyFault};
+pub use laws::{
+    each_is_sound, keys_are_known, names_in_places_differ, order_is_kept, places_are_short,
+};
+pub use reading::read_policy;
+pub use samples::{SAMPLE, sample};
+
+#[cfg(test)]
+mod tests;

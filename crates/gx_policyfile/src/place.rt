@@ -1,0 +1,180 @@
+//! A place of several entries: an array of tables.
+
+ghost use Rattle.std.specs.Prelude.{◌≡◌, [], ◌∷◌, ◌++◌, map, false};
+ghost use Rattle.toml.specs.View.{table_view, items_view};
+ghost use Rattle.gx_policyfile.specs.Field.{Gives, is_memory, each_item};
+ghost use Rattle.gx_policyfile.specs.Place.{tables_at, table, is_taken, next, each, place_of};
+
+use crate::fault::{Allowed, EntryPlace, FaultKind, PolicyFault};
+use crate::field;
+use gx_history::policy::{Account, Stock};
+use std::alloc::{AllocError, Global};
+use toml::{Table, Value};
+
+/// What a key of several entries allows.
+const TABLES: Allowed = Allowed::Words("an array of tables");
+
+/// What the name of an entry allows, once it is spelled as it may be.
+const ANOTHER_NAME: Allowed = Allowed::Words("a name that no entry before it has");
+
+/// What an array of tables holds.
+pub trait Entry: Drop + Sized {
+    ghost use Rattle.std.specs.Prelude.{Bool, Result, List};
+    ghost use Rattle.toml.specs.Data.{Members};
+    ghost use Rattle.gx_history.specs.declared.policy.Account.{Account};
+    ghost use Rattle.gx_history.specs.declared.policy.Stock.{Stock};
+    ghost use Rattle.gx_policyfile.specs.declared.fault.FaultKind.{FaultKind};
+
+    /// What a table means beside the file's accounts and stocks.
+    ghost meant: { List Account → List Stock → Members → Result Self FaultKind };
+
+    /// The two have one name.
+    ghost is_same: { Self → Self → Bool };
+
+    fn read(
+        alloc: Global,
+        accounts: &[Account],
+        stocks: &[Stock],
+        entry: &Table,
+    ) -> Result<Self, PolicyFault>
+        ensures { Gives (λ x. x) result (meant accounts.now stocks.now (table_view entry.now)) };
+
+    fn is_same(&self, other: &Self) -> bool
+        ensures { result ≡ is_same self.now other.now };
+}
+
+fn tables<'a>(
+    alloc: Global,
+    key: &'static str,
+    values: &'a [Value],
+) -> Result<Vec<&'a Table>, PolicyFault>
+    ensures { Gives (λ v. map (λ t. table_view t.now) v.items) result
+        (each_item table (λ found entry. found ++ entry ∷ []) [] (items_view values.now)) }
+{
+    let mut found = Vec::new(alloc);
+    for value in values {
+        match value.as_table() {
+            Some(table) => found.push(table)?,
+            None => return Err(PolicyFault::at(FaultKind::BadValue, key, TABLES)),
+        }
+    }
+    Ok(found)
+}
+
+/// The tables under a key, none where the key is absent.
+pub fn tables_at<'a>(
+    alloc: Global,
+    top: &'a Table,
+    key: &'static str,
+) -> Result<Vec<&'a Table>, PolicyFault>
+    ensures { Gives (λ v. map (λ t. table_view t.now) v.items) result
+        (tables_at key.now (table_view top.now)) }
+{
+    match field::find(top, key) {
+        Some(value) => match value.as_array() {
+            Some(values) => tables(alloc, key, values.as_slice()),
+            None => Err(PolicyFault::at(FaultKind::BadValue, key, TABLES)),
+        },
+        None => Ok(Vec::new(alloc)),
+    }
+}
+
+/// The name of an entry as it is written, where it is a string.
+fn written_name(alloc: Global, entry: &Table) -> Result<Option<String>, AllocError> {
+    match field::find(entry, "name") {
+        Some(value) => match value.as_str() {
+            Some(name) => Ok(Some(String::from_str(alloc, name)?)),
+            None => Ok(None),
+        },
+        None => Ok(None),
+    }
+}
+
+/// The fault within the entry of this place and number.
+fn within(
+    alloc: Global,
+    fault: PolicyFault,
+    place: &'static str,
+    number: usize,
+    entry: &Table,
+) -> PolicyFault
+    ensures { is_memory result.kind ≡ false → result.kind ≡ fault.kind }
+{
+    match written_name(alloc, entry) {
+        Ok(name) => fault.within(EntryPlace {
+            place,
+            number,
+            name,
+        }),
+        Err(_) => PolicyFault::memory(),
+    }
+}
+
+#[tactic(auto, unfolding(crate::specs::Place::is_taken))]
+fn is_among<E: Entry>(found: &[E], entry: &E) -> bool
+    ensures { result ≡ is_taken E.is_same found.now entry.now }
+{
+    found.iter().any(|other| other.is_same(entry))
+}
+
+/// One more entry, named as none before it.
+fn next<E: Entry>(
+    alloc: Global,
+    accounts: &[Account],
+    stocks: &[Stock],
+    found: &[E],
+    entry: &Table,
+) -> Result<E, PolicyFault>
+    ensures { Gives (λ x. x) result
+        (next E.is_same (E.meant accounts.now stocks.now) found.now (table_view entry.now)) }
+{
+    let read = E::read(alloc, accounts, stocks, entry)?;
+    if is_among(found, &read) {
+        return Err(PolicyFault::at(FaultKind::DuplicateName, "name", ANOTHER_NAME));
+    }
+    Ok(read)
+}
+
+fn each<E: Entry>(
+    alloc: Global,
+    place: &'static str,
+    accounts: &[Account],
+    stocks: &[Stock],
+    tables: &[&Table],
+) -> Result<Vec<E>, PolicyFault>
+    ensures { Gives (λ v. v.items) result
+        (each E.is_same (E.meant accounts.now stocks.now) [] (map (λ t. table_view t.now) tables.now)) }
+{
+    let mut found = Vec::new(alloc);
+    for table in tables {
+        match next(alloc, accounts, stocks, &found, table) {
+            Ok(entry) => found.push(entry)?,
+            Err(fault) => return Err(within(
+                alloc,
+                fault,
+                place,
+                found.len().saturating_add(1),
+                table,
+            )),
+        }
+    }
+    Ok(found)
+}
+
+/// The entries of a place, in the file's order.
+pub fn entries<E: Entry>(
+    alloc: Global,
+    place: &'static str,
+    accounts: &[Account],
+    stocks: &[Stock],
+    most: usize,
+    tables: &[&Table],
+) -> Result<Vec<E>, PolicyFault>
+    ensures { Gives (λ v. v.items) result
+        (place_of most E.is_same (E.meant accounts.now stocks.now) (map (λ t. table_view t.now) tables.now)) }
+{
+    if tables.len() > most {
+        return Err(PolicyFault::at(FaultKind::TooMany, place, Allowed::Entries(most)));
+    }
+    each(alloc, place, accounts, stocks, tables)
+}

@@ -1,0 +1,225 @@
+//! The file's users.
+
+ghost use Rattle.std.specs.Prelude.{◌≡◌, [], map, codes, ok_or};
+ghost use Rattle.toml.specs.View.{view, table_view, items_view};
+ghost use Rattle.gx_units.specs.Names.{same_user};
+ghost use Rattle.gx_policyfile.specs.declared.fault.FaultKind.TheVariants.{BadValue};
+ghost use Rattle.gx_policyfile.specs.Field.{Gives, seen, choice, word_at, optional, each_item};
+ghost use Rattle.gx_policyfile.specs.Known.{known_accounts};
+ghost use Rattle.gx_policyfile.specs.Users.{role_words, user_keys, power_words, no_powers, with_power, powers, role, user};
+ghost use Rattle.gx_policyfile.specs.Policies.{users};
+
+use crate::fault::{Allowed, FaultKind, Letters, PolicyFault};
+use crate::field;
+use crate::known::{AN_ACCOUNT, known_account, known_accounts, scope};
+use crate::place::{Entry, entries};
+use gx_history::policy::{Account, AccountNames, Powers, Role, Stock, User};
+use gx_units::{AccountName, Password, UserName};
+use std::alloc::Global;
+use toml::{Table, Value};
+
+/// What a user is.
+#[derive(Clone, Copy)]
+pub enum RoleWord {
+    Trader,
+    Officer,
+    Reader,
+}
+
+/// One power of an officer.
+#[derive(Clone, Copy)]
+pub enum Power {
+    Kill,
+    Lift,
+    Limits,
+    Symbols,
+    People,
+    Close,
+}
+
+/// The words of the key `role`.
+const ROLE_WORDS: [(&str, RoleWord); 3] = [
+    ("trader", RoleWord::Trader),
+    ("officer", RoleWord::Officer),
+    ("reader", RoleWord::Reader),
+];
+
+/// What the key `role` allows.
+const ROLES: Allowed = Allowed::Words("\"trader\", \"officer\" or \"reader\"");
+
+/// The words of the key `powers`.
+const POWER_WORDS: [(&str, Power); 6] = [
+    ("kill", Power::Kill),
+    ("lift", Power::Lift),
+    ("limits", Power::Limits),
+    ("symbols", Power::Symbols),
+    ("people", Power::People),
+    ("close", Power::Close),
+];
+
+/// What the key `powers` allows.
+const POWERS: Allowed = Allowed::Words(
+    "an array of \"kill\", \"lift\", \"limits\", \"symbols\", \"people\" and \"close\"",
+);
+
+fn role_word(entry: &Table) -> Option<RoleWord>
+    ensures { result ≡ word_at (codes "role") role_words (table_view entry.now) }
+{
+    field::word_at(entry, "role", &ROLE_WORDS)
+}
+
+/// The keys of a user of this role.
+fn keys_of(word: Option<RoleWord>) -> &'static [&'static str]
+    ensures { map (λ k. k.now) result.now ≡ user_keys word }
+{
+    match word {
+        Some(RoleWord::Trader) => &["name", "password", "role", "account"],
+        Some(RoleWord::Officer) => &["name", "password", "role", "powers", "accounts"],
+        Some(RoleWord::Reader) => &["name", "password", "role", "accounts"],
+        None => &["name", "password", "role", "account", "powers", "accounts"],
+    }
+}
+
+fn power_word(value: &Value) -> Option<Power>
+    ensures { ok_or result BadValue ≡ choice power_words (view value.now) }
+{
+    field::choice(value, &POWER_WORDS)
+}
+
+fn with_power(powers: Powers, power: Power) -> Powers
+    ensures { result ≡ with_power powers power }
+{
+    let mut powers = powers;
+    match power {
+        Power::Kill => powers.kill = true,
+        Power::Lift => powers.lift = true,
+        Power::Limits => powers.limits = true,
+        Power::Symbols => powers.symbols = true,
+        Power::People => powers.people = true,
+        Power::Close => powers.close = true,
+    }
+    powers
+}
+
+fn power_list(values: &[Value]) -> Option<Powers>
+    ensures { ok_or result BadValue
+        ≡ each_item (choice power_words) with_power no_powers (items_view values.now) }
+{
+    let mut powers = Powers {
+        kill: false,
+        lift: false,
+        limits: false,
+        symbols: false,
+        people: false,
+        close: false,
+    };
+    for value in values {
+        match power_word(value) {
+            Some(power) => powers = with_power(powers, power),
+            None => return None,
+        }
+    }
+    Some(powers)
+}
+
+#[tactic(auto, unfolding(crate::specs::Users::powers))]
+fn powers(value: &Value) -> Result<Powers, PolicyFault>
+    ensures { seen (λ p. p) result ≡ powers (view value.now) }
+{
+    let bad = Err(PolicyFault::at(FaultKind::BadValue, "powers", POWERS));
+    match value.as_array() {
+        Some(values) => match power_list(values.as_slice()) {
+            Some(powers) => Ok(powers),
+            None => bad,
+        },
+        None => bad,
+    }
+}
+
+fn reader_accounts(
+    alloc: Global,
+    accounts: &[Account],
+    entry: &Table,
+) -> Result<Vec<AccountName>, PolicyFault>
+    ensures { Gives (λ v. v.items) result
+        (optional (codes "accounts") (known_accounts accounts.now) [] (table_view entry.now)) }
+{
+    match field::find(entry, "accounts") {
+        Some(value) => known_accounts(alloc, accounts, value),
+        None => Ok(Vec::new(alloc)),
+    }
+}
+
+#[tactic(auto, unfolding(crate::specs::Users::role))]
+fn role(
+    alloc: Global,
+    accounts: &[Account],
+    word: RoleWord,
+    entry: &Table,
+) -> Result<Role, PolicyFault>
+    ensures { Gives (λ r. r) result (role accounts.now word (table_view entry.now)) }
+{
+    match word {
+        RoleWord::Trader => {
+            let value = field::value_at(entry, "account", AN_ACCOUNT)?;
+            Ok(Role::Trader(known_account(accounts, value)?))
+        }
+        RoleWord::Officer => {
+            let powers = powers(field::value_at(entry, "powers", POWERS)?)?;
+            let scope = scope(alloc, accounts, entry)?;
+            Ok(Role::Officer(powers, scope))
+        }
+        RoleWord::Reader => {
+            let names = reader_accounts(alloc, accounts, entry)?;
+            Ok(Role::Reader(AccountNames::new(names)))
+        }
+    }
+}
+
+#[tactic(auto, unfolding(crate::specs::Users::user))]
+fn user(alloc: Global, accounts: &[Account], entry: &Table) -> Result<User, PolicyFault>
+    ensures { Gives (λ u. u) result (user accounts.now (table_view entry.now)) }
+{
+    field::only_keys(entry, keys_of(role_word(entry)))?;
+    let name = field::field_at(entry, "name", Letters::Visible)?;
+    let password = field::field_at(entry, "password", Letters::Visible)?;
+    let word = field::choice_at(entry, "role", &ROLE_WORDS, ROLES)?;
+    let role = role(alloc, accounts, word, entry)?;
+    Ok(User {
+        name: UserName { bytes: name }.folded(),
+        password: Password { bytes: password }.folded(),
+        role,
+    })
+}
+
+impl Entry for User {
+    ghost meant = { λ accounts _ entry. user accounts entry };
+
+    ghost is_same = { λ a b. same_user a.name b.name };
+
+    fn read(
+        alloc: Global,
+        accounts: &[Account],
+        _stocks: &[Stock],
+        entry: &Table,
+    ) -> Result<User, PolicyFault> {
+        user(alloc, accounts, entry)
+    }
+
+    fn is_same(&self, other: &User) -> bool {
+        self.name == other.name
+    }
+}
+
+/// The users of the file, in its order.
+#[tactic(auto, unfolding(crate::specs::Policies::users))]
+pub fn users(
+    alloc: Global,
+    accounts: &[Account],
+    tables: &[&Table],
+) -> Result<Vec<User>, PolicyFault>
+    ensures { Gives (λ v. v.items) result
+        (users accounts.now (map (λ t. table_view t.now) tables.now)) }
+{
+    entries(alloc, "user", accounts, &[], 256, tables)
+}
