@@ -2,16 +2,26 @@
 #![tactic(auto)]
 
 use clap::error::ErrorKind;
-use clap::{ArgMatches, Command, Error};
-use gx_core::{Gate, sample_policy};
-use gx_server::{Counted, Explained, PipeFault, ScriptFault, run_pipe, run_script_explained};
-use gx_units::OutOfMemory;
+use clap::{Arg, ArgMatches, Command, Error};
+use gx_core::Gate;
+use gx_history::policy::Policy;
+use gx_plain::judge::first_that_needs_figures;
+use gx_policyfile::{FaultKind, PolicyFault, read_policy};
+use gx_server::{
+    Counted, Explained, PipeFault, ScriptFault, policy_line, run_pipe, run_script_explained,
+    sample_without_figures,
+};
+use gx_units::{OutOfMemory, RuleId, unpadded};
 use std::alloc::Global;
-use std::io;
+use std::io::Write;
 use std::process::ExitCode;
+use std::{fs, io};
 
 /// The moment of a connection's first packet.
 const FIRST_MOMENT: u64 = 1;
+
+/// The status of a policy file with a fault.
+const POLICY_FAULT: u8 = 3;
 
 /// The status of a script with a bad line.
 const BAD_LINE: u8 = 4;
@@ -32,27 +42,49 @@ Each step prints `N granted`, `N denied RULE` or `refused DayFull`, N being the 
 `stream` prints `USER K HEX` for each report. A bad line ends the script with status 4.";
 
 /// Why the program gave up.
-enum Fault {
+enum Fault<'a> {
     Pipe(PipeFault),
     Script(Explained),
+    /// The file of this name can't be read.
+    Unread(&'a str, io::Error),
+    Policy(PolicyFault),
+    /// The policy has a rule whose kind asks for figures that are not there yet.
+    NotJudged(RuleId),
 }
 
-impl From<PipeFault> for Fault {
-    fn from(fault: PipeFault) -> Fault {
+impl<'a> From<PipeFault> for Fault<'a> {
+    fn from(fault: PipeFault) -> Fault<'a> {
         Fault::Pipe(fault)
     }
 }
 
-impl From<Explained> for Fault {
-    fn from(fault: Explained) -> Fault {
+impl<'a> From<Explained> for Fault<'a> {
+    fn from(fault: Explained) -> Fault<'a> {
         Fault::Script(fault)
     }
 }
 
-impl From<OutOfMemory> for Fault {
-    fn from(refused: OutOfMemory) -> Fault {
+impl<'a> From<OutOfMemory> for Fault<'a> {
+    fn from(refused: OutOfMemory) -> Fault<'a> {
         Fault::Pipe(refused.into())
     }
+}
+
+impl<'a> From<PolicyFault> for Fault<'a> {
+    fn from(fault: PolicyFault) -> Fault<'a> {
+        match fault.kind {
+            FaultKind::OutOfMemory => Fault::Pipe(PipeFault::OutOfMemory),
+            _ => Fault::Policy(fault),
+        }
+    }
+}
+
+/// The option `--policy FILE` of a run.
+fn policy_option<'a>(alloc: Global) -> Arg<'a> {
+    Arg::new(alloc, "policy")
+        .long("policy")
+        .value_name("FILE")
+        .help("The policy file to run under; without it the sample policy holds")
 }
 
 /// The command line: what may be asked, with its help.
@@ -63,6 +95,13 @@ fn command_line<'a>(alloc: Global) -> Result<Command<'a>, OutOfMemory> {
     let script = Command::new(alloc, "script")
         .about("Runs a script of steps from standard input, and prints what becomes of each")
         .after_help(SCRIPT_LINES);
+    let file = Arg::new(alloc, "file")
+        .value_name("FILE")
+        .required(true)
+        .help("The policy file to read");
+    let policy = Command::new(alloc, "policy").about(
+        "Reads a policy file, and tells how much it holds or what is wrong with it",
+    );
     let gate = Command::new(alloc, "gate")
         .version("0.1.0")
         .about(
@@ -70,8 +109,9 @@ fn command_line<'a>(alloc: Global) -> Result<Command<'a>, OutOfMemory> {
         )
         .subcommand_required(true)
         .arg_required_else_help(true)
-        .subcommand(pipe)?
-        .subcommand(script)?;
+        .subcommand(pipe.arg(policy_option(alloc))?)?
+        .subcommand(script.arg(policy_option(alloc))?)?
+        .subcommand(policy.arg(file)?)?;
     Ok(gate)
 }
 
@@ -83,15 +123,32 @@ fn words_of(rt: &HostRuntime) -> Result<Vec<String>, OutOfMemory> {
     }
 }
 
-/// A gate under the sample policy.
-fn sample_gate(rt: &HostRuntime) -> Result<Gate, OutOfMemory> {
-    let policy = sample_policy(rt.alloc())?;
-    Gate::open(rt.alloc(), &policy)
+/// The policy that a file means.
+fn policy_of<'a>(rt: &HostRuntime, path: &'a str) -> Result<Policy, Fault<'a>> {
+    match fs::read(rt, path) {
+        Ok(bytes) => Ok(read_policy(rt.alloc(), bytes.as_slice())?),
+        Err(error) => match error.kind() {
+            io::ErrorKind::OutOfMemory => Err(PipeFault::OutOfMemory.into()),
+            _ => Err(Fault::Unread(path, error)),
+        },
+    }
+}
+
+/// A gate under the policy of the file that was asked for, or else under the sample policy.
+fn open_gate<'a>(rt: &HostRuntime, file: Option<&'a str>) -> Result<Gate, Fault<'a>> {
+    let policy = match file {
+        Some(path) => policy_of(rt, path)?,
+        None => sample_without_figures(rt.alloc())?,
+    };
+    match first_that_needs_figures(&policy) {
+        Some(rule) => Err(Fault::NotJudged(rule)),
+        None => Ok(Gate::open(rt.alloc(), &policy)?),
+    }
 }
 
 /// Serves one connection.
-fn pipe(rt: &HostRuntime) -> Result<(), Fault> {
-    let mut gate = sample_gate(rt)?;
+fn pipe<'a>(rt: &HostRuntime, file: Option<&'a str>) -> Result<(), Fault<'a>> {
+    let mut gate = open_gate(rt, file)?;
     let mut reader = Counted::new(rt.reader());
     let mut writer = Counted::new(io::writer(rt));
     run_pipe(
@@ -105,42 +162,47 @@ fn pipe(rt: &HostRuntime) -> Result<(), Fault> {
 }
 
 /// Runs a script.
-fn script(rt: &HostRuntime) -> Result<(), Fault> {
-    let mut gate = sample_gate(rt)?;
+fn script<'a>(rt: &HostRuntime, file: Option<&'a str>) -> Result<(), Fault<'a>> {
+    let mut gate = open_gate(rt, file)?;
     let mut reader = Counted::new(rt.reader());
     let mut writer = Counted::new(io::writer(rt));
     run_script_explained(rt.alloc(), &mut gate, &mut reader, &mut writer)?;
     Ok(())
 }
 
+/// Tells how much a policy file holds.
+fn policy<'a>(rt: &HostRuntime, path: &'a str) -> Result<(), Fault<'a>> {
+    let policy = policy_of(rt, path)?;
+    let line = policy_line(rt.alloc(), &policy)?;
+    match io::writer(rt).write_all(line.as_slice()) {
+        Ok(()) => Ok(()),
+        Err(_) => Err(PipeFault::WriteFailed.into()),
+    }
+}
+
 /// Does what was asked: status 0 where all was done.
-fn run(rt: &HostRuntime, asked: &ArgMatches) -> Result<ExitCode, Fault> {
-    match asked.subcommand_name() {
-        Some("pipe") => pipe(rt)?,
-        Some("script") => script(rt)?,
+fn run<'a>(rt: &HostRuntime, asked: &ArgMatches<'a>) -> Result<ExitCode, Fault<'a>> {
+    match asked.subcommand() {
+        Some(("pipe", given)) => pipe(rt, given.get_str("policy"))?,
+        Some(("script", given)) => script(rt, given.get_str("policy"))?,
+        Some(("policy", given)) => {
+            if let Some(path) = given.get_str("file") {
+                policy(rt, path)?;
+            }
+        }
         _ => {}
     }
     Ok(ExitCode::SUCCESS)
 }
 
 /// Tells what is wrong with the arguments, or gives the help or the version that was asked for.
-fn tell_usage(rt: &HostRuntime, error: &Error) -> Result<ExitCode, Fault> {
+fn tell_usage<'a>(rt: &HostRuntime, error: &Error) -> Result<ExitCode, Fault<'a>> {
     if error.kind() == ErrorKind::OutOfMemory {
         return Err(PipeFault::OutOfMemory.into());
     }
     match error.print(rt) {
         Ok(()) => Ok(ExitCode::from(error.exit_code() as u8)),
         Err(_) => Err(PipeFault::WriteFailed.into()),
-    }
-}
-
-/// Reads the arguments and does what they ask.
-fn act(rt: &HostRuntime) -> Result<ExitCode, Fault> {
-    let alloc = rt.alloc();
-    let words = words_of(rt)?;
-    match command_line(alloc)?.try_get_matches_from(words.as_slice()) {
-        Ok(asked) => run(rt, &asked),
-        Err(error) => tell_usage(rt, &error),
     }
 }
 
@@ -157,13 +219,50 @@ fn tell_script(rt: &HostRuntime, explained: Explained) -> ExitCode {
     }
 }
 
-fn main(rt: HostRuntime) -> ExitCode {
-    match act(&rt) {
-        Ok(status) => status,
-        Err(Fault::Pipe(fault)) => {
+/// Tells which rule of a policy can't be judged yet.
+fn tell_rule(rt: &HostRuntime, rule: RuleId) -> ExitCode {
+    let name = str::from_utf8(unpadded(&rule.bytes)).unwrap_or("");
+    let _ = eprintln!(rt; "gate: rule {name} is of a kind not judged yet");
+    ExitCode::FAILURE
+}
+
+/// Tells why the program gave up: the status that says so.
+fn tell(rt: &HostRuntime, fault: Fault) -> ExitCode {
+    match fault {
+        Fault::Pipe(fault) => {
             let _ = eprintln!(rt; "gate: {fault}");
             ExitCode::FAILURE
         }
-        Err(Fault::Script(explained)) => tell_script(&rt, explained),
+        Fault::Script(explained) => tell_script(rt, explained),
+        Fault::Unread(path, error) => {
+            let _ = eprintln!(rt; "gate: read failed");
+            let _ = eprintln!(rt; "{path}: {error}");
+            ExitCode::FAILURE
+        }
+        Fault::Policy(fault) => {
+            let _ = eprintln!(rt; "gate: {fault}");
+            ExitCode::from(POLICY_FAULT)
+        }
+        Fault::NotJudged(rule) => tell_rule(rt, rule),
+    }
+}
+
+/// Reads the arguments and does what they ask.
+fn act(rt: &HostRuntime) -> Result<ExitCode, OutOfMemory> {
+    let words = words_of(rt)?;
+    let done = match command_line(rt.alloc())?.try_get_matches_from(words.as_slice()) {
+        Ok(asked) => run(rt, &asked),
+        Err(error) => tell_usage(rt, &error),
+    };
+    match done {
+        Ok(status) => Ok(status),
+        Err(fault) => Ok(tell(rt, fault)),
+    }
+}
+
+fn main(rt: HostRuntime) -> ExitCode {
+    match act(&rt) {
+        Ok(status) => status,
+        Err(OutOfMemory) => tell(&rt, PipeFault::OutOfMemory.into()),
     }
 }

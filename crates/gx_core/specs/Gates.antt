@@ -1,10 +1,11 @@
 -- What a gate is, and what it answers.
-use Rattle.std.specs.Prelude.{◌≤◌, List, length, IsTrue}
+use Rattle.std.specs.Prelude.{◌≤◌, List, filter, length, IsTrue}
 use Rattle.gx_history.specs.declared.policy.PolicyData.{PolicyData}
 use Rattle.gx_history.specs.declared.record.Asked.{Asked}
 use Rattle.gx_history.specs.declared.record.Step.TheVariants as steps
 use Rattle.gx_history.specs.declared.record.RecordData.{RecordData}
-use Rattle.gx_history.specs.Plain.{rules_need_no_figures}
+use Rattle.gx_history.specs.declared.policy.FileRule.{FileRule}
+use Rattle.gx_history.specs.Plain.{needs_no_figures, rules_need_no_figures}
 use Rattle.gx_history.specs.Verdicts.{IsLegal, day_limit}
 use Rattle.gx_core.specs.declared.outcome.Outcome.{Outcome}
 use Rattle.gx_plain.specs.Stage.{are_brought}
@@ -24,3 +25,7 @@ pub record IsDay (policy : PolicyData) (records : List RecordData) : Type 0 wher
 -- the record of a request with this outcome
 abbrev pub left_by : Asked → Outcome → RecordData
 left_by a o = record { number = o.number; moment = o.moment; step = steps.Asked a; verdict = o.verdict }
+
+-- the policy less its rules that ask for figures
+abbrev pub less_figures : PolicyData → PolicyData
+less_figures policy = record policy { rules = filter (λ (rule : FileRule). needs_no_figures rule.kind) policy.rules }

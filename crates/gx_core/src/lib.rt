@@ -9,12 +9,8 @@ mod gate;
 mod login;
 mod outcome;
 mod pulling;
-mod sample;
 
+pub use copies::without_figures;
 pub use gate::Gate;
 pub use outcome::{LoginAnswer, Outcome, StepFault};
 pub use pulling::{Pulled, Reports};
-pub use sample::sample_policy;
-
-#[cfg(test)]
-mod tests;

@@ -1,6 +1,6 @@
 -- What holds where all records are of requests that are brought.
 use Rattle.std.proofs.Common.{◌≡◌, ℕ, ◌<◌, Bool, true, false, List, [], ◌∷◌, refl, ◌∙◌, ap, sym, fold, take, drop, length, get_or}
-use Rattle.std.specs.Prelude.{Option, Some, None, ◌&&◌, cond, option_and_then}
+use Rattle.std.specs.Prelude.{Option, Some, None, ◌&&◌, cond, find, is_none, not, option_and_then}
 use Rattle.std.specs.List.{list_all, cons_option}
 use Rattle.std.proofs.lemmas.List.{take-append-drop}
 use Rattle.std.proofs.lemmas.List.Folds.{list_all-append, list_all_at}
@@ -16,6 +16,7 @@ use Rattle.gx_history.specs.declared.record.Step.TheVariants as steps
 use Rattle.gx_history.specs.declared.record.Verdict.{Verdict}
 use Rattle.gx_history.specs.declared.record.Verdict.TheVariants as verdicts
 use Rattle.gx_history.specs.declared.policy.PolicyData.{PolicyData}
+use Rattle.gx_history.specs.Plain.{needs_no_figures, rules_need_no_figures}
 use Rattle.gx_history.specs.declared.policy.FileRule.{FileRule}
 use Rattle.gx_history.specs.declared.policy.Role.{Role}
 use Rattle.gx_history.specs.declared.policy.Role.TheVariants as roles
@@ -97,3 +98,15 @@ his_account policy history None account = (refl, refl)
 his_account policy history (Some (roles.Trader named)) account = (refl, refl)
 his_account policy history (Some (roles.Officer powers scope)) account = (refl, refl)
 his_account policy history (Some (roles.Reader names)) account = (refl, refl)
+
+-- where no rule asks for figures, none is the first that does
+none_needs : (rules : List FileRule) → is_none (find (λ (r : FileRule). not (needs_no_figures r.kind)) rules) ≡ true → list_all (λ (r : FileRule). needs_no_figures r.kind) rules ≡ true
+none_needs [] h = refl
+none_needs (r ∷ rules) h =
+    (elim (needs_no_figures r.kind) as (λ b. is_none (cond (not b) (Some r) (find (λ (r : FileRule). not (needs_no_figures r.kind)) rules)) ≡ true
+    → (b && list_all (λ (r : FileRule). needs_no_figures r.kind) rules) ≡ true)
+    [ true ↦ none_needs rules | false ↦ λ h. cc ]) h
+
+pub none_needs_figures : (policy : PolicyData) → is_none (find (λ (r : FileRule). not (needs_no_figures r.kind)) policy.rules) ≡ true → rules_need_no_figures policy ≡ true
+unfolding rules_need_no_figures
+none_needs_figures policy h = none_needs policy.rules h

@@ -1,6 +1,7 @@
 //! A request judged on the records so far.
 
-ghost use Rattle.std.specs.Prelude.{◌≡◌, ◌^◌, ◌<◌, length, is_some, IsTrue};
+ghost use Rattle.std.specs.Prelude.{◌≡◌, ◌^◌, ◌<◌, length, is_some, not, find, option_copied, option_map, IfNone, IsTrue};
+ghost use Rattle.gx_history.specs.declared.policy.FileRule.{FileRule};
 ghost use Rattle.gx_history.specs.Asking.{facts, is_on_line, knows_user, is_available, fits_role, of_command, knows_names, has_power, are_his, changes};
 ghost use Rattle.gx_history.specs.Brought.{is_brought};
 ghost use Rattle.gx_history.specs.People.{account_named, role_of};
@@ -18,10 +19,10 @@ use crate::records::{is_closed, is_killed, is_token_used, last_moment, line_of, 
 use crate::streams::count_reports;
 use gx_desk::Action;
 use gx_history::facts::Facts;
-use gx_history::policy::{Policy, RuleKind};
+use gx_history::policy::{FileRule, Policy, RuleKind};
 use gx_history::record::{Asked, Record, Request, RuleName, Verdict};
 use gx_rules::first_forbidding_without_figures;
-use gx_units::{AccountName, Moment, UserName};
+use gx_units::{AccountName, Moment, RuleId, UserName};
 
 fn is_on_line(on: Option<u16>, line: u16) -> bool
     ensures { result ≡ is_on_line on line }
@@ -161,7 +162,8 @@ pub fn facts_of(policy: &Policy, records: &[Record], a: &Asked, moment: Moment) 
     }
 }
 
-fn needs_no_figures(kind: &RuleKind) -> bool
+/// Whether a rule of this kind looks at the order alone.
+pub fn needs_no_figures(kind: &RuleKind) -> bool
     ensures { result ≡ needs_no_figures kind.now }
 {
     match kind {
@@ -183,6 +185,24 @@ pub fn rules_need_no_figures(policy: &Policy) -> bool
         .rules()
         .iter()
         .all(|rule| needs_no_figures(&rule.kind))
+}
+
+fn find_figured(rules: &[FileRule]) -> Option<&FileRule>
+    ensures { option_copied result ≡ find (λ (r : FileRule). not (needs_no_figures r.kind)) rules.now }
+{
+    rules.iter().find(|rule| !needs_no_figures(&rule.kind))
+}
+
+/// The name of the first rule of the policy that asks for figures; None where no rule does.
+#[tactic(auto, using(crate::proofs::Staging::none_needs_figures))]
+pub fn first_that_needs_figures(policy: &Policy) -> Option<RuleId>
+    ensures first { result ≡ option_map (λ (r : FileRule). r.name) (find (λ (r : FileRule). not (needs_no_figures r.kind)) policy.now.rules) }
+    ensures none { IfNone result (IsTrue (rules_need_no_figures policy.now)) }
+{
+    match find_figured(policy.rules()) {
+        Some(rule) => Some(rule.name),
+        None => None,
+    }
 }
 
 fn verdict_by(found: Option<RuleName>) -> Verdict

@@ -9,5 +9,3 @@ pub mod people;
 pub mod records;
 pub mod slices;
 pub mod streams;
-#[cfg(test)]
-mod tests;

@@ -19,6 +19,3 @@ pub use laws::{
 };
 pub use reading::read_policy;
 pub use samples::{SAMPLE, sample};
-
-#[cfg(test)]
-mod tests;

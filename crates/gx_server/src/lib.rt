@@ -6,6 +6,7 @@ mod fault;
 mod laws;
 mod line;
 mod pipe;
+mod policies;
 mod printing;
 mod rows;
 mod running;
@@ -24,9 +25,7 @@ pub use laws::{
 };
 pub use line::{ScriptLine, ScriptStep};
 pub use pipe::run_pipe;
+pub use policies::{policy_line, sample_without_figures};
 pub use script::{run_script, run_script_explained};
 pub use script_fault::{Explained, ScriptFault};
 pub use wrong::{Wanted, Wrong};
-
-#[cfg(test)]
-mod tests;

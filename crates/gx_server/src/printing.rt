@@ -45,7 +45,7 @@ fn rule_text(rule: &RuleName) -> &[u8]
 }
 
 /// The number in decimal digits, at the end of the text.
-fn append_number(text: &mut Vec<u8>, number: u64) -> Result<(), OutOfMemory>
+pub(crate) fn append_number(text: &mut Vec<u8>, number: u64) -> Result<(), OutOfMemory>
     ensures { OnOk result (text.new.items ≡ text.old.items ++ decimal number) }
 {
     let digits = number.to_string(*text.allocator())?;
@@ -53,7 +53,7 @@ fn append_number(text: &mut Vec<u8>, number: u64) -> Result<(), OutOfMemory>
 }
 
 /// The words, and the number of an order behind them.
-fn with_number(alloc: Global, words: &[u8], number: u64) -> Result<Vec<u8>, OutOfMemory>
+pub(crate) fn with_number(alloc: Global, words: &[u8], number: u64) -> Result<Vec<u8>, OutOfMemory>
     ensures { IfOk result (λ text. text.items ≡ words.now ++ decimal number) }
 {
     let mut text = Vec::from_slice(alloc, words)?;

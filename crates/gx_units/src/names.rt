@@ -40,19 +40,19 @@ pub struct Token {
 }
 
 /// The name of a stock, padded with spaces.
-#[derive(Clone, Copy, Debug, PartialEq, Eq)]
+#[derive(Clone, Copy, Debug, PartialEq, Eq, Hash)]
 pub struct Symbol {
     pub bytes: [u8; 8],
 }
 
 /// The name of an account, padded with spaces.
-#[derive(Clone, Copy, Debug, PartialEq, Eq)]
+#[derive(Clone, Copy, Debug, PartialEq, Eq, Hash)]
 pub struct AccountName {
     pub bytes: [u8; 8],
 }
 
 /// The name of a rule, padded with spaces.
-#[derive(Clone, Copy, Debug, PartialEq, Eq)]
+#[derive(Clone, Copy, Debug, PartialEq, Eq, Hash)]
 pub struct RuleId {
     pub bytes: [u8; 8],
 }
@@ -65,7 +65,7 @@ pub struct Firm {
 
 /// The name of a user, padded with spaces. It is compared in upper case: `folded` gives the form in which the gate
 /// keeps it.
-#[derive(Clone, Copy, Debug, PartialEq, Eq)]
+#[derive(Clone, Copy, Debug, PartialEq, Eq, Hash)]
 pub struct UserName {
     pub bytes: [u8; 6],
 }

@@ -4,11 +4,11 @@ mod cases;
 mod kinds;
 mod places;
 
-use crate::{
+use gx_history::policy::Policy;
+use gx_policyfile::{
     FaultKind, PolicyFault, SAMPLE, each_is_sound, keys_are_known, names_in_places_differ,
     order_is_kept, places_are_short, read_policy, sample,
 };
-use gx_history::policy::Policy;
 use std::alloc::Global;
 use std::test::Fail;
 

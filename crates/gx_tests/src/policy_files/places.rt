@@ -1,7 +1,7 @@
 //! The lines that a fault is told in.
 
 use super::{accounts_text, fault_of};
-use crate::SAMPLE;
+use gx_policyfile::SAMPLE;
 use std::alloc::Global;
 use std::test::Fail;
 

@@ -4,10 +4,10 @@ mod cases;
 mod devices;
 mod scripts;
 
-use crate::{Counted, PipeFault, run_pipe};
 use cases::Case;
-use gx_core::{Gate, sample_policy};
+use gx_core::Gate;
 use gx_history::record::{RuleName, Verdict};
+use gx_server::{Counted, PipeFault, run_pipe, sample_without_figures};
 use gx_units::OutOfMemory;
 use std::alloc::Global;
 use std::test::Fail;
@@ -66,7 +66,7 @@ fn joined(alloc: Global, first: &str, rest: &str) -> Result<Vec<u8>, Fail> {
 
 /// A gate under the sample policy.
 fn sample_gate(alloc: Global) -> Result<Gate, OutOfMemory> {
-    let policy = sample_policy(alloc)?;
+    let policy = sample_without_figures(alloc)?;
     Gate::open(alloc, &policy)
 }
 

@@ -5,10 +5,11 @@ ghost use Rattle.gx_units.specs.Names.{has_no_lower_case};
 ghost use Rattle.gx_history.specs.Brought.{is_brought};
 ghost use Rattle.gx_history.specs.Showing.{has_its_first};
 
-use crate::{Gate, StepFault, sample_policy};
+use gx_core::{Gate, StepFault};
 use gx_desk::{Action, Command, Tag};
 use gx_history::record::{Asked, Request, RuleName, Unreadable, Verdict};
 use gx_ouch::EnterOrder;
+use gx_server::sample_without_figures;
 use gx_units::{AccountName, Firm, OutOfMemory, Password, SessionName, Symbol, Token, UserName};
 use std::alloc::Global;
 use std::test::Fail;
@@ -39,9 +40,9 @@ const BLANK: SessionName = SessionName {
 
 /// Opens a gate; one growth may be refused, and then it is tried again.
 pub fn opened(alloc: Global) -> Result<Gate, Fail> {
-    let policy = match sample_policy(alloc) {
+    let policy = match sample_without_figures(alloc) {
         Ok(policy) => policy,
-        Err(OutOfMemory) => sample_policy(alloc)?,
+        Err(OutOfMemory) => sample_without_figures(alloc)?,
     };
     match Gate::open(alloc, &policy) {
         Ok(gate) => Ok(gate),

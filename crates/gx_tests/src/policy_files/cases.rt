@@ -1,7 +1,7 @@
 //! Files worked out by a model of its own, apart from this program.
 
 use super::{counts_of, kind_of};
-use crate::FaultKind;
+use gx_policyfile::FaultKind;
 use std::test::Fail;
 
 const SESSION_IS_ABSENT: &str = "version = 1

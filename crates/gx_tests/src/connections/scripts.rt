@@ -2,7 +2,7 @@
 
 use super::devices::{Drips, Sips};
 use super::sample_gate;
-use crate::{Counted, Explained, ScriptFault, Wanted, run_script, run_script_explained};
+use gx_server::{Counted, Explained, ScriptFault, Wanted, run_script, run_script_explained};
 use gx_units::OutOfMemory;
 use std::alloc::Global;
 use std::test::Fail;

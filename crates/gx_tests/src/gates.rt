@@ -3,8 +3,8 @@
 mod days;
 mod officers;
 
-use crate::{Gate, LoginAnswer};
 use days::{ALFA, ALICE, BETA, OLGA, count_told, opened, perform, played, told, verdict_on};
+use gx_core::{Gate, LoginAnswer};
 use gx_history::record::{RuleName, Verdict};
 use gx_units::{LoginRejection, RuleId, SessionName};
 use officers::officers_of_alfa;

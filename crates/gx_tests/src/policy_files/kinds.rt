@@ -1,7 +1,7 @@
 //! A rule of each kind.
 
-use crate::read_policy;
 use gx_history::policy::{Count, FileRule, Policy, Rate, Repeat, RuleKind, Scope};
+use gx_policyfile::read_policy;
 use gx_units::{AccountName, Symbol};
 use std::alloc::Global;
 use std::test::Fail;

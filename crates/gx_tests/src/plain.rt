@@ -5,14 +5,6 @@ ghost use Rattle.gx_history.specs.Requests.{is_command};
 ghost use Rattle.gx_history.specs.Showing.{is_showable};
 ghost use Rattle.gx_history.specs.Plain.{rules_need_no_figures};
 
-use crate::judge::{facts_of, judge, rules_need_no_figures};
-use crate::people::{
-    account_named, account_of, find_rule, find_user, firm_of, fits_firm, has_power, holds_account,
-    is_officer, is_trader, is_user, lists_its_stock, stock_named,
-};
-use crate::records::{is_closed, is_killed, is_token_used, last_moment, line_of, new_token};
-use crate::slices::slice;
-use crate::streams::{all_reports, count_reports, reject_reason, report_owed, reports};
 use gx_desk::{Action, Command, Tag};
 use gx_history::policy::{
     Accounts, FileRule, FileRules, Policy, PolicyData, Role, RuleKind, Scope, Stocks, User, Users,
@@ -20,6 +12,14 @@ use gx_history::policy::{
 use gx_history::record::{Asked, Login, Record, RecordData, Request, RuleName, Step, Verdict};
 use gx_history::report::{Message, Report};
 use gx_ouch::{EnterOrder, Outbound, RejectReason, Rejected};
+use gx_plain::judge::{facts_of, judge, rules_need_no_figures};
+use gx_plain::people::{
+    account_named, account_of, find_rule, find_user, firm_of, fits_firm, has_power, holds_account,
+    is_officer, is_trader, is_user, lists_its_stock, stock_named,
+};
+use gx_plain::records::{is_closed, is_killed, is_token_used, last_moment, line_of, new_token};
+use gx_plain::slices::slice;
+use gx_plain::streams::{all_reports, count_reports, reject_reason, report_owed, reports};
 use gx_units::{AccountName, Firm, Password, RuleId, SessionName, Symbol, Token, UserName};
 use std::alloc::Global;
 use std::test::Fail;
@@ -199,7 +199,7 @@ fn names_are_looked_up(rt: HostRuntime) -> Result<(), Fail> {
 }
 
 #[test]
-#[tactic(auto, unfolding(crate::specs::Stage::are_brought))]
+#[tactic(auto, unfolding(gx_plain::specs::Stage::are_brought))]
 fn an_unknown_user_is_denied(rt: HostRuntime) -> Result<(), Fail> {
     let policy = empty_policy(rt.alloc());
     let none: [Record; 0] = [];
@@ -242,7 +242,7 @@ fn a_denial_is_told(rt: HostRuntime) -> Result<(), Fail> {
 }
 
 #[test]
-#[tactic(auto, unfolding(crate::specs::Stage::are_brought))]
+#[tactic(auto, unfolding(gx_plain::specs::Stage::are_brought))]
 fn streams_are_cut(rt: HostRuntime) -> Result<(), Fail> {
     let policy = empty_policy(rt.alloc());
     let none: [Record; 0] = [];

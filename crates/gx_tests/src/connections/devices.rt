@@ -1,7 +1,7 @@
 //! Connections over devices that give or take little, or fail.
 
 use super::{ACCEPTED_LOGIN, ACCEPTED_ORDER, ENTER, LOGIN, bytes_of, joined, sample_gate};
-use crate::{Counted, PipeFault, run_pipe};
+use gx_server::{Counted, PipeFault, run_pipe};
 use gx_units::UserName;
 use std::io;
 use std::io::{Read, Write};
