@@ -10,7 +10,7 @@ ghost use Rattle.gx_history.specs.declared.record.RuleName.{RuleName};
 ghost use Rattle.gx_history.specs.declared.record.Step.TheVariants as steps;
 ghost use Rattle.gx_history.specs.declared.record.Verdict.TheVariants as verdicts;
 ghost use Rattle.gx_history.specs.Brought.{is_brought};
-ghost use Rattle.gx_history.specs.InForce.{line_of, is_closed, is_killed};
+ghost use Rattle.gx_history.specs.InForce.{line_of, is_closed, is_killed, rules_in_force};
 ghost use Rattle.gx_history.specs.Lists.{slice};
 ghost use Rattle.gx_history.specs.Logins.{login_asked};
 ghost use Rattle.gx_history.specs.People.{user_named};
@@ -20,6 +20,7 @@ ghost use Rattle.gx_history.specs.Rules.{first_forbidding, IsFirstForbidding};
 ghost use Rattle.gx_history.specs.Showing.{is_askable, is_showable};
 ghost use Rattle.gx_history.specs.Streams.{stream};
 ghost use Rattle.gx_history.specs.Verdicts.{next, verdict, facts_now, rules_now, day_limit, IsLegal};
+ghost use Rattle.gx_people.specs.Entitled.{people_in_force};
 ghost use Rattle.gx_plain.specs.Stage.{are_brought};
 ghost use Rattle.gx_core.specs.declared.outcome.StepFault.TheVariants as faults;
 ghost use Rattle.gx_history.specs.Effects.{IsAsBefore, TakesEffect, KillsAccount, LiftsAccount, IsGrantedLift, HasNoOrders};
@@ -33,10 +34,11 @@ use crate::pulling::{Pulled, pull};
 use gx_history::history::History;
 use gx_history::policy::Policy;
 use gx_history::record::{Asked, Record, RecordData, Request, Step, Verdict};
+use gx_people::people::People;
 use gx_plain::judge::judge;
-use gx_plain::people::is_user;
 use gx_plain::records::{is_killed, last_moment, line_of};
 use gx_plain::slices::slice;
+use gx_rules::RuleBook;
 use gx_units::{AccountName, OutOfMemory, Password, SessionName, UserName};
 use std::alloc::Global;
 use std::marker::Model;
@@ -46,7 +48,15 @@ const DAY_LIMIT: usize = 16_777_216;
 
 /// The number, the moment and the verdict of the record that the request leaves.
 #[tactic(auto, using(gx_history_laws::proofs::Granting::next_in_parts))]
-fn outcome_of(policy: &Policy, history: &History, a: &Asked) -> Outcome
+fn outcome_of(
+    people: &People,
+    rules: &RuleBook,
+    policy: &Policy,
+    history: &History,
+    a: &Asked,
+) -> Outcome
+    requires people { people.now ≡ people_in_force policy.now history.now.records }
+    requires rules { rules.now ≡ rules_in_force policy.now history.now.records }
     requires request { IsTrue (is_brought a.now.request) }
     requires askable { IsTrue (is_askable a.now) }
     requires records { IsTrue (are_brought history.now.records) }
@@ -60,7 +70,7 @@ fn outcome_of(policy: &Policy, history: &History, a: &Asked) -> Outcome
     Outcome {
         number: history.len() as u64 + 1,
         moment: a.handed.max(last_moment(history.as_slice())),
-        verdict: judge(policy, history.as_slice(), a),
+        verdict: judge(people, rules, policy, history.as_slice(), a),
     }
 }
 
@@ -76,22 +86,24 @@ fn record_of(a: &Asked, outcome: Outcome) -> Record
     })
 }
 
-/// A policy, and the records of a day under it, the oldest first.
+/// A policy, and the records of a day under it, the oldest first; people and rules as they are after these.
 #[derive(Debug, Drop)]
 pub struct Gate {
     alloc: Global,
     policy: Policy,
+    people: People,
+    rules: RuleBook,
     history: History,
 }
 
 impl Model for Gate {
-    ghost use Rattle.gx_core.specs.Gates.{GateData, IsDay};
+    ghost use Rattle.gx_core.specs.Gates.{GateData, IsKept};
 
     ghost Value = { GateData };
 
     ghost view = { λ g. record { policy = g.policy; records = g.history.records } };
 
-    ghost invariant = { λ g. IsDay g.policy g.history.records };
+    ghost invariant = { λ g. IsKept g.policy g.history.records g.people g.rules };
 }
 
 impl Gate {
@@ -104,10 +116,15 @@ impl Gate {
         ensures records { IfOk result (λ gate. gate.records ≡ []) }
     {
         let policy = copied(alloc, policy)?;
+        let people = People::new(alloc, &policy)?;
+        let rules = RuleBook::new(alloc, &policy)?;
+        let history = History::new(alloc);
         Ok(Gate {
             alloc,
             policy,
-            history: History::new(alloc),
+            people,
+            rules,
+            history,
         })
     }
 
@@ -136,7 +153,7 @@ impl Gate {
         if self.history.len() >= DAY_LIMIT {
             return Err(StepFault::DayFull);
         }
-        let outcome = outcome_of(&self.policy, &self.history, &a);
+        let outcome = outcome_of(&self.people, &self.rules, &self.policy, &self.history, &a);
         self.history.push(record_of(&a, outcome))?;
         Ok(outcome)
     }
@@ -165,10 +182,11 @@ impl Gate {
     }
 
     /// Whether the policy has this user.
+    #[tactic(auto, using(crate::proofs::Stepping::people_kept))]
     pub fn knows(&self, user: UserName) -> bool
         ensures { result ≡ is_some (user_named self.now.policy user) }
     {
-        is_user(&self.policy, user)
+        self.people.knows(user)
     }
 
     /// The records from this number on, 0 counting as 1, and at most so many.
@@ -199,6 +217,7 @@ impl Gate {
     ///
     /// User and password are compared in upper case, the session without the spaces around it; a blank session
     /// means the gate's.
+    #[tactic(auto, using(crate::proofs::Stepping::people_kept))]
     pub fn login_request(
         &self,
         user: UserName,
@@ -208,7 +227,7 @@ impl Gate {
     ) -> Request
         ensures { result ≡ login_asked self.now.policy (folded_user user) (folded_password password) (folded_session session) wanted }
     {
-        login_asked(&self.policy, user, password, session, wanted)
+        login_asked(&self.people, &self.policy, user, password, session, wanted)
     }
 
     /// What a login is told after its step, which had this verdict: the gate's session and the number of the next

@@ -2,29 +2,20 @@
 
 ghost use Rattle.std.specs.Prelude.{◌≡◌, ◌<◌, ◌^◌, length, IsTrue};
 ghost use Rattle.gx_units.specs.Spelling.{folded_user, folded_password, folded_session};
-ghost use Rattle.gx_history.specs.Logins.{password_is, session_is, login_asked, first_wanted};
+ghost use Rattle.gx_history.specs.Logins.{session_is, login_asked, first_wanted};
 ghost use Rattle.gx_core.specs.Logins.{login_answered};
 ghost use Rattle.gx_plain.specs.Stage.{are_brought};
 
 use crate::outcome::LoginAnswer;
 use gx_history::policy::Policy;
 use gx_history::record::{Login, Record, Request, RuleName, Verdict};
-use gx_plain::people::find_user;
+use gx_people::people::People;
 use gx_plain::streams::count_reports;
 use gx_units::{LoginRejection, Password, SessionName, UserName};
 
 const BLANK_SESSION: SessionName = SessionName {
     bytes: *b"          ",
 };
-
-fn password_is(policy: &Policy, user: UserName, given: Password) -> bool
-    ensures { result ≡ password_is policy.now user given }
-{
-    match find_user(policy.users(), user) {
-        Some(found) => found.password == given,
-        None => false,
-    }
-}
 
 fn session_is(policy: &Policy, given: SessionName) -> bool
     ensures { result ≡ session_is policy.now given }
@@ -34,16 +25,18 @@ fn session_is(policy: &Policy, given: SessionName) -> bool
 
 /// The request of a login with this password, to this session.
 pub fn login_asked(
+    people: &People,
     policy: &Policy,
     user: UserName,
     password: Password,
     session: SessionName,
     wanted: u64,
 ) -> Request
+    requires people { people.now ≡ policy.now.users }
     ensures { result ≡ login_asked policy.now (folded_user user) (folded_password password) (folded_session session) wanted }
 {
     Request::Login(Login {
-        password_is_right: password_is(policy, user.folded(), password.folded()),
+        password_is_right: people.password_is(user.folded(), password.folded()),
         session_is_right: session_is(policy, session.folded()),
         wanted,
     })

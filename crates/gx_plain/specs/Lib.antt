@@ -1,2 +1,3 @@
 pub mod Stage
 pub mod Owing
+pub mod Known

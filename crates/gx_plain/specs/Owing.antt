@@ -13,8 +13,6 @@ use Rattle.gx_ouch.specs.declared.letters.RejectReason.{RejectReason}
 use Rattle.gx_desk.specs.declared.Action.{Action}
 use Rattle.gx_desk.specs.declared.Action.TheVariants as actions
 use Rattle.gx_history.specs.declared.policy.PolicyData.{PolicyData}
-use Rattle.gx_history.specs.declared.policy.Role.{Role}
-use Rattle.gx_history.specs.declared.policy.Role.TheVariants as roles
 use Rattle.gx_history.specs.declared.record.Asked.{Asked}
 use Rattle.gx_history.specs.declared.record.Request.{Request}
 use Rattle.gx_history.specs.declared.record.Request.TheVariants as requests
@@ -25,15 +23,10 @@ use Rattle.gx_history.specs.declared.report.Message.{Message}
 use Rattle.gx_history.specs.declared.report.Message.TheVariants as messages
 use Rattle.gx_history.specs.declared.report.Report.{Report}
 use Rattle.gx_history.specs.Orders.{Order, entered}
-use Rattle.gx_history.specs.People.{account_of, covers}
+use Rattle.gx_history.specs.People.{account_of}
 use Rattle.gx_history.specs.Requests.{asked, granted, granted_action}
 use Rattle.gx_history.specs.Reasons.{reject_reason}
 use Rattle.gx_history.specs.Streams.{reported}
-
--- the user is an officer with this account in his scope
-abbrev pub holds_account : Option Role → AccountName → Bool
-holds_account (Some (roles.Officer powers scope)) account = covers scope account
-holds_account other account = false
 
 abbrev pub accepted_message : Order → Message
 accepted_message o = messages.Order (outbounds.Accepted (record { token = o.token; terms = o.terms; order_reference = o.number }))

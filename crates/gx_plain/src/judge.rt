@@ -2,26 +2,27 @@
 
 ghost use Rattle.std.specs.Prelude.{◌≡◌, ◌^◌, ◌<◌, length, is_some, not, find, option_copied, option_map, IfNone, IsTrue};
 ghost use Rattle.gx_history.specs.declared.policy.FileRule.{FileRule};
-ghost use Rattle.gx_history.specs.Asking.{facts, is_on_line, knows_user, is_available, fits_role, of_command, knows_names, has_power, are_his, changes};
+ghost use Rattle.gx_history.specs.Asking.{facts, is_on_line, is_available, fits_role, of_command, knows_names, has_power, are_his, changes};
 ghost use Rattle.gx_history.specs.Brought.{is_brought};
-ghost use Rattle.gx_history.specs.People.{account_named, role_of};
+ghost use Rattle.gx_history.specs.InForce.{rules_in_force};
+ghost use Rattle.gx_history.specs.People.{account_named};
 ghost use Rattle.gx_history.specs.Plain.{needs_no_figures, rules_need_no_figures};
 ghost use Rattle.gx_history.specs.Showing.{answers};
 ghost use Rattle.gx_history.specs.Verdicts.{verdict, verdict_by};
-ghost use Rattle.gx_plain.specs.Owing.{holds_account};
+ghost use Rattle.gx_people.specs.Entitled.{holds, people_in_force, role_in};
+ghost use Rattle.gx_plain.specs.Known.{is_known_among};
 ghost use Rattle.gx_plain.specs.Stage.{are_brought};
 
-use crate::people::{
-    account_named, account_of, fits_firm, has_power, holds_account, is_officer, is_trader, is_user,
-    lists_its_stock,
-};
+use crate::people::{account_named, fits_firm, lists_its_stock};
 use crate::records::{is_closed, is_killed, is_token_used, last_moment, line_of, new_token};
 use crate::streams::count_reports;
 use gx_desk::Action;
 use gx_history::facts::Facts;
 use gx_history::policy::{FileRule, Policy, RuleKind};
 use gx_history::record::{Asked, Record, Request, RuleName, Verdict};
-use gx_rules::first_forbidding_without_figures;
+use gx_people::people::People;
+use gx_people::power::Power;
+use gx_rules::RuleBook;
 use gx_units::{AccountName, Moment, RuleId, UserName};
 
 fn is_on_line(on: Option<u16>, line: u16) -> bool
@@ -30,11 +31,11 @@ fn is_on_line(on: Option<u16>, line: u16) -> bool
     on == Some(line)
 }
 
-fn knows_user(policy: &Policy, a: &Asked) -> bool
-    ensures { result ≡ knows_user policy.now a.now.user a.now.request }
+fn is_known(people: &People, a: &Asked) -> bool
+    ensures { result ≡ is_known_among people.now a.now.user a.now.request }
 {
     match &a.request {
-        Request::Login(m) => m.password_is_right && is_user(policy, a.user),
+        Request::Login(m) => m.password_is_right && people.knows(a.user),
         _ => true,
     }
 }
@@ -53,13 +54,13 @@ fn is_available(policy: &Policy, records: &[Record], a: &Asked) -> bool
     }
 }
 
-fn fits_role(policy: &Policy, a: &Asked) -> bool
+fn fits_role(people: &People, a: &Asked) -> bool
     requires { IsTrue (is_brought a.now.request) }
-    ensures { result ≡ fits_role (role_of policy.now a.now.user) a.now.request }
+    ensures { result ≡ fits_role (role_in people.now a.now.user) a.now.request }
 {
     match &a.request {
-        Request::Enter(_) => is_trader(policy, a.user),
-        Request::Command(_) => is_officer(policy, a.user),
+        Request::Enter(_) => people.is_trader(a.user),
+        Request::Command(_) => people.is_officer(a.user),
         _ => true,
     }
 }
@@ -82,7 +83,9 @@ const NO_COMMAND: CommandFacts = CommandFacts {
 };
 
 /// What the rules ask about a command that concerns one account.
+#[tactic(auto, using(crate::proofs::Staging::power_asked))]
 fn on_account(
+    people: &People,
     policy: &Policy,
     user: UserName,
     action: &Action,
@@ -90,25 +93,25 @@ fn on_account(
     would_change: bool,
 ) -> CommandFacts
     ensures names { result.names_are_known ≡ is_some (account_named policy.now account) }
-    ensures power { result.has_power ≡ has_power (role_of policy.now user) action.now }
-    ensures his { result.accounts_are_his ≡ holds_account (role_of policy.now user) account }
+    ensures power { result.has_power ≡ has_power (role_in people.now user) action.now }
+    ensures his { result.accounts_are_his ≡ holds people.now user account }
     ensures changes { result.would_change ≡ would_change }
 {
     CommandFacts {
         names_are_known: account_named(policy, account).is_some(),
-        has_power: has_power(policy, user, action),
-        accounts_are_his: holds_account(policy, user, account),
+        has_power: people.has(user, Power::of(action)),
+        accounts_are_his: people.holds(user, account),
         would_change,
     }
 }
 
 /// What the rules ask about a command, where it is brought.
 #[tactic(auto, using(crate::proofs::Staging::his_account))]
-fn command_facts(policy: &Policy, records: &[Record], a: &Asked) -> CommandFacts
+fn command_facts(people: &People, policy: &Policy, records: &[Record], a: &Asked) -> CommandFacts
     requires { IsTrue (is_brought a.now.request) }
     ensures names { result.names_are_known ≡ of_command (knows_names policy.now records.now) a.now.request }
-    ensures power { result.has_power ≡ of_command (has_power (role_of policy.now a.now.user)) a.now.request }
-    ensures his { result.accounts_are_his ≡ of_command (are_his policy.now records.now (role_of policy.now a.now.user)) a.now.request }
+    ensures power { result.has_power ≡ of_command (has_power (role_in people.now a.now.user)) a.now.request }
+    ensures his { result.accounts_are_his ≡ of_command (are_his policy.now records.now (role_in people.now a.now.user)) a.now.request }
     ensures changes { result.would_change ≡ of_command (changes policy.now records.now a.now.user) a.now.request }
 {
     let Request::Command(c) = a.request else {
@@ -117,33 +120,41 @@ fn command_facts(policy: &Policy, records: &[Record], a: &Asked) -> CommandFacts
     match c.action {
         Action::Kill(account) => {
             let would_change = !is_killed(policy, records, account);
-            on_account(policy, a.user, &c.action, account, would_change)
+            on_account(people, policy, a.user, &c.action, account, would_change)
         }
         Action::Lift(account) => {
             let would_change = is_killed(policy, records, account);
-            on_account(policy, a.user, &c.action, account, would_change)
+            on_account(people, policy, a.user, &c.action, account, would_change)
         }
         _ => NO_COMMAND,
     }
 }
 
-/// What the rules ask of the records, for a request that is brought and at this moment.
-#[tactic(auto, unfolding(gx_history::specs::Asking::facts))]
-pub fn facts_of(policy: &Policy, records: &[Record], a: &Asked, moment: Moment) -> Facts
+/// What the rules ask of the records, for a request that is brought and at this moment, where these are the people in
+/// force.
+#[tactic(auto, unfolding(gx_history::specs::Asking::facts), using(crate::proofs::Staging::people_are_the_files, crate::proofs::Staging::known_among))]
+pub fn facts_of(
+    people: &People,
+    policy: &Policy,
+    records: &[Record],
+    a: &Asked,
+    moment: Moment,
+) -> Facts
+    requires people { people.now ≡ people_in_force policy.now records.now }
     requires request { IsTrue (is_brought a.now.request) }
     requires records { IsTrue (are_brought records.now) }
     requires few { length records.now < 2 ^ 32 }
     ensures { result ≡ facts policy.now records.now a.now moment }
 {
-    let account = account_of(policy, a.user);
+    let account = people.account_of(a.user);
     let on = line_of(records, a.user);
-    let command = command_facts(policy, records, a);
+    let command = command_facts(people, policy, records, a);
     Facts {
-        may_log_in: knows_user(policy, a),
+        may_log_in: is_known(people, a),
         is_logged_in: on.is_some(),
         session_is_available: is_available(policy, records, a),
         is_on_this_line: is_on_line(on, a.line),
-        role_fits: fits_role(policy, a),
+        role_fits: fits_role(people, a),
         token_is_used: new_token(&a.request).is_some_and(|token| is_token_used(
             records, a.user, token,
         )),
@@ -214,9 +225,17 @@ fn verdict_by(found: Option<RuleName>) -> Verdict
     }
 }
 
-/// The verdict on a request that is brought, under rules that ask for no figures: denied by the first rule of the
-/// written order that forbids it, and else granted.
-pub fn judge(policy: &Policy, records: &[Record], a: &Asked) -> Verdict
+/// The verdict on a request that is brought, where these are the people and the rules in force, and no rule asks for
+/// figures: denied by the first rule of the written order that forbids it, and else granted.
+pub fn judge(
+    people: &People,
+    rules: &RuleBook,
+    policy: &Policy,
+    records: &[Record],
+    a: &Asked,
+) -> Verdict
+    requires people { people.now ≡ people_in_force policy.now records.now }
+    requires rules { rules.now ≡ rules_in_force policy.now records.now }
     requires request { IsTrue (is_brought a.now.request) }
     requires records { IsTrue (are_brought records.now) }
     requires few { length records.now < 2 ^ 32 }
@@ -225,7 +244,9 @@ pub fn judge(policy: &Policy, records: &[Record], a: &Asked) -> Verdict
     ensures shown { IsTrue (answers a.now.request result) }
 {
     let moment = a.handed.max(last_moment(records));
-    let known = facts_of(policy, records, a, moment);
-    let found = first_forbidding_without_figures(policy.rules(), &known, &a.request);
+    // that the policy is sound, which `shown` rests on
+    let _ = policy.rules();
+    let known = facts_of(people, policy, records, a, moment);
+    let found = rules.first_forbidding_without_figures(&known, &a.request);
     verdict_by(found)
 }

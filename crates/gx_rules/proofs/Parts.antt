@@ -9,8 +9,6 @@ use Rattle.gx_history.specs.declared.record.RuleName.TheVariants.{File}
 use Rattle.gx_history.specs.declared.policy.FileRule.{FileRule}
 use Rattle.gx_history.specs.declared.facts.Facts.{Facts}
 use Rattle.gx_history.specs.declared.facts.RuleFigures.{RuleFigures}
-use Rattle.gx_history.specs.Figures.{no_figures}
-use Rattle.gx_history.specs.Plain.{without_figures}
 use Rattle.gx_history.specs.Rules.{BuiltIn, OfFile, name_of, applies, first_forbidding, first_file_rule, forbids, rule_forbids, written_order}
 use Rattle.gx_history.specs.RuleNames.{rules_before, rules_behind}
 
@@ -43,12 +41,3 @@ first_in_parts rules given q =
     ∙ ap (λ o. option_or (option_or o (option_map name_of (find (applies given q) (map OfFile rules)))) (option_map name_of (find (applies given q) (map BuiltIn rules_behind)))) (built_in rules_before given q)
     ∙ ap (λ o. option_or (option_or (find (λ name. forbids name given q) rules_before) o) (option_map name_of (find (applies given q) (map BuiltIn rules_behind)))) (of_file rules given q)
     ∙ ap (λ o. option_or (option_or (find (λ name. forbids name given q) rules_before) (first_file_rule rules given q)) o) (built_in rules_behind given q)
-
--- where all figures are 0
-pub first_without : (rules : List FileRule) (given : Facts) (q : Request)
-    → first_file_rule (without_figures rules) given q ≡ option_map (λ (r : FileRule). File r.name) (find (λ (r : FileRule). rule_forbids given q r no_figures) rules)
-first_without [] given q = refl
-first_without (r ∷ rules) given q =
-    elim (rule_forbids given q r no_figures) as (λ b. option_map (λ (r : FileRule × RuleFigures). File r.0.name) (cond b (Some (r, no_figures)) (find (λ (r : FileRule × RuleFigures). rule_forbids given q r.0 r.1) (without_figures rules)))
-    ≡ option_map (λ (r : FileRule). File r.name) (cond b (Some r) (find (λ (r : FileRule). rule_forbids given q r no_figures) rules)))
-    [ true ↦ refl | false ↦ first_without rules given q ]

@@ -1,15 +1,14 @@
 //! The rules of the policy file.
 
-ghost use Rattle.std.specs.Prelude.{◌≡◌, ◌+◌, ◌-◌, nat_lt};
+ghost use Rattle.std.specs.Prelude.{◌≡◌, ◌+◌, ◌-◌, false, nat_lt};
+ghost use Rattle.std.specs.Option.{option_map_or};
 ghost use Rattle.gx_units.specs.Money.{value};
 ghost use Rattle.gx_history.specs.InForce.{lists_stock};
 ghost use Rattle.gx_history.specs.People.{covers, names_account};
-ghost use Rattle.gx_history.specs.Rules.{rule_forbids, kind_forbids, is_outside_collar, new_open};
+ghost use Rattle.gx_history.specs.Rules.{kind_forbids, is_outside_collar, new_open};
 
-use crate::request::proposed;
 use gx_history::facts::{Facts, ProposedOrder, RuleFigures};
-use gx_history::policy::{FileRule, RuleKind, Scope};
-use gx_history::record::Request;
+use gx_history::policy::{RuleKind, Scope};
 use gx_units::{AccountName, Symbol, value_of};
 
 fn lists_stock(stocks: &[Symbol], stock: Symbol) -> bool
@@ -102,19 +101,9 @@ pub fn is_forbidden_by_kind(kind: &RuleKind, figures: &RuleFigures, w: &Proposed
     }
 }
 
-/// Whether a rule of the file forbids the request: only orders of the accounts in its scope.
-pub fn is_forbidden_by_rule(
-    rule: &FileRule,
-    figures: &RuleFigures,
-    facts: &Facts,
-    request: &Request,
-) -> bool
-    ensures { result ≡ rule_forbids facts.now request.now rule.now figures.now }
+/// Whether the request is asked for an account in the scope.
+pub fn is_for_scope(scope: &Scope, facts: &Facts) -> bool
+    ensures { result ≡ option_map_or (covers scope.now) facts.now.account false }
 {
-    match (facts.account, proposed(facts, request)) {
-        (Some(account), Some(w)) => {
-            covers(&rule.scope, account) && is_forbidden_by_kind(&rule.kind, figures, &w)
-        }
-        _ => false,
-    }
+    facts.account.is_some_and(|account| covers(scope, account))
 }

@@ -1,17 +1,21 @@
 //! The rules, judged on facts and figures that the caller hands in.
 //!
-//! [`first_forbidding`] is the whole written order: the built-in rules L, G, I and P, then the rules of the policy
-//! file in the file's order, then the built-in rules Q.
+//! [`RuleBook::first_forbidding`] asks in the written order: the built-in rules L, G, I and P, then the rules of the
+//! policy file in the file's order, then the built-in rules Q.
 #![tactic(auto)]
 
+mod book_rule;
 mod built_in;
 mod file_rule;
+mod laws;
 mod order;
 mod request;
+mod rule_book;
 
 pub use built_in::is_forbidden;
-pub use file_rule::{covers, is_forbidden_by_kind, is_forbidden_by_rule};
-pub use order::{first_forbidding, first_forbidding_without_figures};
+pub use file_rule::{covers, is_forbidden_by_kind};
+pub use laws::{a_setting_changes_no_name, other_rules_stay, rules_after_one_more};
+pub use rule_book::RuleBook;
 
 #[cfg(test)]
 mod tests;

@@ -1,7 +1,10 @@
-use crate::{
-    covers, first_forbidding, first_forbidding_without_figures, is_forbidden, is_forbidden_by_kind,
-    is_forbidden_by_rule,
-};
+mod book;
+
+ghost use Rattle.std.specs.Prelude.{◌≡◌};
+ghost use Rattle.gx_history.specs.declared.policy.Scope.TheVariants as scopes;
+
+use crate::order::{first_before, first_behind};
+use crate::{covers, is_forbidden, is_forbidden_by_kind};
 use gx_desk::{Action, Command, Tag};
 use gx_history::facts::{Facts, ProposedOrder, RuleFigures};
 use gx_history::policy::{AccountNames, Count, FileRule, Rate, RuleKind, Scope};
@@ -20,10 +23,6 @@ const ALFA: AccountName = AccountName {
 
 const SIZE: RuleId = RuleId {
     bytes: *b"SIZE    ",
-};
-
-const LOTS: RuleId = RuleId {
-    bytes: *b"LOTS    ",
 };
 
 /// Of a user who is logged in, on this line, in his role, and with a new token.
@@ -99,7 +98,11 @@ fn proposing(shares: u32, price: u32) -> ProposedOrder {
     }
 }
 
-fn rule(name: RuleId, kind: RuleKind) -> FileRule {
+fn rule(name: RuleId, kind: RuleKind) -> FileRule
+    ensures name { result.name ≡ name }
+    ensures kind { result.kind ≡ kind }
+    ensures scope { result.scope ≡ scopes.All }
+{
     FileRule {
         name,
         kind,
@@ -107,9 +110,13 @@ fn rule(name: RuleId, kind: RuleKind) -> FileRule {
     }
 }
 
+/// The first built-in rule that forbids the request.
+fn first_built_in(facts: &Facts, request: &Request) -> Option<RuleName> {
+    first_before(facts, request).or_else(|| first_behind(facts, request))
+}
+
 #[test]
 fn shares_and_prices_have_their_limits(rt: HostRuntime) -> Result<(), Fail> {
-    let none: [FileRule; 0] = [];
     let p5 = Some(RuleName::P5);
     let p6 = Some(RuleName::P6);
     for (shares, price, want) in [
@@ -124,7 +131,7 @@ fn shares_and_prices_have_their_limits(rt: HostRuntime) -> Result<(), Fail> {
         (1, 2_000_000_000, p6),
         (1, 2_147_483_647, p6),
     ] {
-        let found = first_forbidding_without_figures(&none, &NOTHING_WRONG, &enter(shares, price));
+        let found = first_built_in(&NOTHING_WRONG, &enter(shares, price));
         assert_eq!(rt; found, want, "{shares} at {price}");
     }
     Ok(())
@@ -132,7 +139,6 @@ fn shares_and_prices_have_their_limits(rt: HostRuntime) -> Result<(), Fail> {
 
 #[test]
 fn fields_have_their_values(rt: HostRuntime) -> Result<(), Fail> {
-    let none: [FileRule; 0] = [];
     let plain = entering(100, 20);
     for (m, want) in [
         (
@@ -199,7 +205,7 @@ fn fields_have_their_values(rt: HostRuntime) -> Result<(), Fail> {
             Some(RuleName::P11),
         ),
     ] {
-        let found = first_forbidding_without_figures(&none, &NOTHING_WRONG, &Request::Enter(m));
+        let found = first_built_in(&NOTHING_WRONG, &Request::Enter(m));
         assert_eq!(rt; found, want, "{m:?}");
     }
     Ok(())
@@ -254,44 +260,15 @@ fn kinds_have_their_limits(rt: HostRuntime) -> Result<(), Fail> {
 }
 
 #[test]
-fn the_first_of_the_written_order_is_named(rt: HostRuntime) -> Result<(), Fail> {
-    let size_first = [
-        rule(SIZE, RuleKind::OrderShares(500_000)),
-        rule(LOTS, RuleKind::OddLot),
-    ];
-    let lots_first = [
-        rule(LOTS, RuleKind::OddLot),
-        rule(SIZE, RuleKind::OrderShares(500_000)),
-    ];
-    let figures = [NO_FIGURES, NO_FIGURES];
-    let both = enter(500_001, 20);
-    let by_size = Some(RuleName::File(SIZE));
-    let by_lots = Some(RuleName::File(LOTS));
-    assert_eq!(rt;
-        first_forbidding(&size_first, &figures, &NOTHING_WRONG, &both),
-        by_size
-    );
-    assert_eq!(rt;
-        first_forbidding(&lots_first, &figures, &NOTHING_WRONG, &both),
-        by_lots
-    );
-    assert_eq!(rt;
-        first_forbidding_without_figures(&lots_first, &NOTHING_WRONG, &both),
-        by_lots
-    );
+fn a_rule_asks_for_itself_alone(rt: HostRuntime) -> Result<(), Fail> {
     let bad_price = enter(500_001, 10_050);
-    assert_eq!(rt;
-        first_forbidding_without_figures(&size_first, &NOTHING_WRONG, &bad_price),
-        Some(RuleName::P6)
-    );
     assert!(rt; is_forbidden(RuleName::P6, &NOTHING_WRONG, &bad_price));
-    assert!(rt; is_forbidden_by_rule(&size_first[1], &NO_FIGURES, &NOTHING_WRONG, &both));
+    assert!(rt; !is_forbidden(RuleName::P5, &NOTHING_WRONG, &bad_price));
     Ok(())
 }
 
 #[test]
-fn officers_are_judged_behind_the_file(rt: HostRuntime) -> Result<(), Fail> {
-    let none: [FileRule; 0] = [];
+fn officers_are_judged_last(rt: HostRuntime) -> Result<(), Fail> {
     let kill = Request::Command(Command {
         tag: Tag {
             bytes: *b"K1            ",
@@ -303,14 +280,8 @@ fn officers_are_judged_behind_the_file(rt: HostRuntime) -> Result<(), Fail> {
         would_change: false,
         ..NOTHING_WRONG
     };
-    assert_eq!(rt;
-        first_forbidding_without_figures(&none, &powerless, &kill),
-        Some(RuleName::Q2)
-    );
-    assert_eq!(rt;
-        first_forbidding_without_figures(&none, &NOTHING_WRONG, &kill),
-        None
-    );
+    assert_eq!(rt; first_built_in(&powerless, &kill), Some(RuleName::Q2));
+    assert_eq!(rt; first_built_in(&NOTHING_WRONG, &kill), None);
     Ok(())
 }
 

@@ -7,20 +7,21 @@ ghost use Rattle.gx_history.specs.Plain.{rules_need_no_figures};
 
 use gx_desk::{Action, Command, Tag};
 use gx_history::policy::{
-    Accounts, FileRule, FileRules, Policy, PolicyData, Role, RuleKind, Scope, Stocks, User, Users,
+    Accounts, FileRule, FileRules, Policy, PolicyData, RuleKind, Scope, Stocks, Users,
 };
 use gx_history::record::{Asked, Login, Record, RecordData, Request, RuleName, Step, Verdict};
 use gx_history::report::{Message, Report};
 use gx_ouch::{EnterOrder, Outbound, RejectReason, Rejected};
+use gx_people::people::People;
 use gx_plain::judge::{facts_of, judge, rules_need_no_figures};
 use gx_plain::people::{
-    account_named, account_of, find_rule, find_user, firm_of, fits_firm, has_power, holds_account,
-    is_officer, is_trader, is_user, lists_its_stock, stock_named,
+    account_named, account_of, find_rule, firm_of, fits_firm, lists_its_stock, stock_named,
 };
 use gx_plain::records::{is_closed, is_killed, is_token_used, last_moment, line_of, new_token};
 use gx_plain::slices::slice;
 use gx_plain::streams::{all_reports, count_reports, reject_reason, report_owed, reports};
-use gx_units::{AccountName, Firm, Password, RuleId, SessionName, Symbol, Token, UserName};
+use gx_rules::RuleBook;
+use gx_units::{AccountName, Firm, RuleId, SessionName, Symbol, Token, UserName};
 use std::alloc::Global;
 use std::test::Fail;
 
@@ -168,29 +169,15 @@ fn commands_are_walked(rt: HostRuntime) -> Result<(), Fail> {
 #[test]
 fn names_are_looked_up(rt: HostRuntime) -> Result<(), Fail> {
     let policy = empty_policy(rt.alloc());
-    let users = [User {
-        name: ALICE,
-        password: Password {
-            bytes: *b"APPLE     ",
-        },
-        role: Role::Trader(ALFA),
-    }];
     let rules = [FileRule {
         name: SIZE,
         kind: RuleKind::OddLot,
         scope: Scope::All,
     }];
     let m = entering(A1);
-    assert!(rt; find_user(&users, ALICE).is_some());
-    assert!(rt; find_user(&users, BOB).is_none());
     assert!(rt; find_rule(&rules, SIZE).is_some());
     assert!(rt; account_named(&policy, ALFA).is_none());
     assert!(rt; stock_named(&policy, m.stock).is_none());
-    assert!(rt; !is_user(&policy, ALICE));
-    assert!(rt; !is_trader(&policy, ALICE));
-    assert!(rt; !is_officer(&policy, OLGA));
-    assert!(rt; !has_power(&policy, OLGA, &Action::CloseDay));
-    assert!(rt; !holds_account(&policy, OLGA, ALFA));
     assert!(rt; account_of(&policy, ALICE).is_none());
     assert_eq!(rt; firm_of(&policy, ALFA, m.firm), m.firm);
     assert!(rt; !fits_firm(&policy, None, &enter(m)));
@@ -199,7 +186,7 @@ fn names_are_looked_up(rt: HostRuntime) -> Result<(), Fail> {
 }
 
 #[test]
-#[tactic(auto, unfolding(gx_plain::specs::Stage::are_brought))]
+#[tactic(auto, unfolding(gx_plain::specs::Stage::are_brought, gx_people::specs::Entitled::people_in_force, gx_history::specs::InForce::rules_in_force))]
 fn an_unknown_user_is_denied(rt: HostRuntime) -> Result<(), Fail> {
     let policy = empty_policy(rt.alloc());
     let none: [Record; 0] = [];
@@ -210,10 +197,12 @@ fn an_unknown_user_is_denied(rt: HostRuntime) -> Result<(), Fail> {
         handed: 3,
     };
     assert!(rt; rules_need_no_figures(&policy));
-    let known = facts_of(&policy, &none, &asked, 3);
+    let people = People::new(rt.alloc(), &policy)?;
+    let rules = RuleBook::new(rt.alloc(), &policy)?;
+    let known = facts_of(&people, &policy, &none, &asked, 3);
     assert!(rt; !known.may_log_in && known.session_is_available);
     assert_eq!(rt;
-        judge(&policy, &none, &asked),
+        judge(&people, &rules, &policy, &none, &asked),
         Verdict::Denied(RuleName::L1)
     );
     Ok(())

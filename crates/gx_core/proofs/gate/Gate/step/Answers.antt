@@ -7,19 +7,19 @@ use Rattle.gx_ouch.specs.declared.inbound.EnterOrder.{EnterOrder}
 use Rattle.gx_units.specs.declared.names.AccountName.{AccountName}
 use Rattle.gx_history.specs.Effects.{IsAsBefore, TakesEffect, KillsAccount, LiftsAccount}
 use Rattle.gx_history.specs.InForce.{is_killed}
-use Rattle.gx_core.specs.Gates.{IsDay, left_by}
+use Rattle.gx_core.specs.Gates.{IsKept, left_by}
 use Rattle.gx_history_laws.proofs.Effects.{as_before}
 use Rattle.gx_history_laws.proofs.Entered.{takes_effect}
 use Rattle.gx_history_laws.proofs.Killing.{kill_takes_effect}
 use Rattle.gx_history_laws.proofs.Lifting.{lift_takes_effect, kill_ends_by_lift}
-use Rattle.gx_core.proofs.Stepping.{day_next}
+use Rattle.gx_core.proofs.Stepping.{kept_next}
 use Rattle.gx_core.proofs.gate.Gate.step.Goals as goal
 
 pub invariant_of-self-2 : goal.invariant_of-self-2
 invariant_of-self-2 c =
-    subst (λ (records : List RecordData). IsDay c.self.inside.policy records)
+    subst (λ (records : List RecordData). IsKept c.self.inside.policy records c.self.inside.people c.self.inside.rules)
     (sym (c.in_ok-push.ensures.ok ∙ ap (λ (r : RecordData). c.self.inside.history.records ++ r ∷ []) c.record_of.ensures))
-    (day_next c.self.inside.policy c.self.inside.history.records c.args.a c.outcome_of-outcome.result c.self.invariant
+    (kept_next c.self.inside.policy c.self.inside.history.records c.self.inside.people c.self.inside.rules c.args.a c.outcome_of-outcome.result c.self.invariant
     c.outcome_of-outcome.ensures.next c.requires.brought c.outcome_of-outcome.ensures.fits)
 
 pub returns-clause-granted : goal.returns-clause-granted

@@ -1,0 +1,5 @@
+pub mod Table
+pub mod Spelling
+pub mod Changing
+pub mod Entitling
+pub mod Keeping

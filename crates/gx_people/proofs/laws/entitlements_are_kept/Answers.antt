@@ -1,0 +1,6 @@
+use Rattle.gx_people.proofs.Entitling.{kept}
+use Rattle.gx_people.proofs.Keeping.{named_see}
+use Rattle.gx_people.proofs.laws.entitlements_are_kept.Goals as goal
+
+pub returns : goal.returns
+returns c = record { by_name = kept; as_written = named_see }

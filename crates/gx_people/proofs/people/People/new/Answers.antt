@@ -1,0 +1,25 @@
+use Rattle.std.proofs.Common.{◌≡◌, List, ◌∙◌, ap, true}
+use Rattle.gx_units.specs.Names.{same_user}
+use Rattle.gx_history.specs.Lists.{are_distinct}
+use Rattle.gx_history.specs.declared.policy.Role.{Role}
+use Rattle.gx_history.specs.declared.policy.User.{User}
+use Rattle.gx_people.specs.View.{users_of}
+use Rattle.gx_people.proofs.Table.{added_next, users_differ}
+use Rattle.gx_people.proofs.people.People.new.Goals as goal
+
+-- one more user
+pub loop-user-preserved : goal.loop-user-preserved
+loop-user-preserved c =
+    let u : User = c.user-item.result in
+    let before = c.loop-user.invariant in
+    let users : List User = c.users-user-items.result.now in
+    let differ : are_distinct (λ (a b : User). same_user a.name b.name) users ≡ true =
+    ap (are_distinct (λ (a b : User). same_user a.name b.name)) before.1 ∙ users_differ c.args.policy.now before.2
+    in (
+      ap users_of c.in_ok-insert.ensures.entries
+          ∙ added_next c.loop-user.by_name.entries u.name (record { password = u.password; standing = c.in_ok-standing.standing }) users c.loop-user.user-index u
+          differ before.0 c.loop-user-test.true c.user-item.is
+          (ap (λ (r : Role). record { name = u.name; password = u.password; role = r }) c.in_ok-standing.ensures),
+      before.1,
+      before.2,
+    )

@@ -1,0 +1,118 @@
+-- Who may do what, and who sees which account, among users as they are now.
+use Rattle.std.specs.Option.{option_map_or}
+use Rattle.std.specs.Prelude.{Bool, false, not, ◌&&◌, List, [], ◌∷◌, ◌++◌, map, fold, filter, if◌then◌else◌, Option, Some, option_map}
+use Rattle.std.specs.List.{find}
+use Rattle.gx_units.specs.Names.{same_user, same_account}
+use Rattle.gx_units.specs.declared.names.AccountName.{AccountName}
+use Rattle.gx_units.specs.declared.names.Password.{Password}
+use Rattle.gx_units.specs.declared.names.UserName.{UserName}
+use Rattle.gx_desk.specs.Names.{is_written}
+use Rattle.gx_desk.specs.declared.WrittenName.{WrittenName}
+use Rattle.gx_desk.specs.declared.Action.{Action}
+use Rattle.gx_desk.specs.declared.Action.TheVariants as actions
+use Rattle.gx_history.specs.declared.policy.PolicyData.{PolicyData}
+use Rattle.gx_history.specs.declared.policy.Powers.{Powers}
+use Rattle.gx_history.specs.declared.policy.Role.{Role}
+use Rattle.gx_history.specs.declared.policy.Role.TheVariants as roles
+use Rattle.gx_history.specs.declared.policy.User.{User}
+use Rattle.gx_history.specs.declared.record.RecordData.{RecordData}
+use Rattle.gx_history.specs.InForce.{in_role}
+use Rattle.gx_history.specs.Logins.{same_password}
+use Rattle.gx_history.specs.People.{covers, is_reader, names_account}
+use Rattle.gx_history.specs.Requests.{granted_actions}
+use Rattle.gx_people.specs.declared.power.Power.{Power}
+use Rattle.gx_people.specs.declared.power.Power.TheVariants as powers
+
+-- the user of this name
+abbrev pub user_in : List User → UserName → Option User
+user_in users name = find (λ (u : User). same_user u.name name) users
+
+-- the role of the user, if he is known
+abbrev pub role_in : List User → UserName → Option Role
+role_in users name = option_map (λ (u : User). u.role) (user_in users name)
+
+-- one of an officer's powers
+abbrev pub includes : Powers → Power → Bool
+includes his powers.Kill = his.kill
+includes his powers.Lift = his.lift
+includes his powers.Limits = his.limits
+includes his powers.Symbols = his.symbols
+includes his powers.People = his.people
+includes his powers.Close = his.close
+
+-- the role is an officer's, with the power
+abbrev pub has_in_role : Option Role → Power → Bool
+has_in_role (Some (roles.Officer his scope)) power = includes his power
+has_in_role other power = false
+
+-- the role is an officer's, with the account in its scope
+abbrev pub holds_in_role : Option Role → AccountName → Bool
+holds_in_role (Some (roles.Officer his scope)) account = covers scope account
+holds_in_role other account = false
+
+-- the user is an officer with the power
+abbrev pub has : List User → UserName → Power → Bool
+has users officer power = has_in_role (role_in users officer) power
+
+-- the user is an officer with the account in his scope
+abbrev pub holds : List User → UserName → AccountName → Bool
+holds users officer account = holds_in_role (role_in users officer) account
+
+-- the user is an officer with the power, and the account is one of his
+abbrev pub may : List User → UserName → Power → AccountName → Bool
+may users officer power account = has users officer power && holds users officer account
+
+-- the user is a reader, and the account is his now
+abbrev pub sees : List User → UserName → AccountName → Bool
+sees users reader account = option_map_or (λ role. in_role role account) (role_in users reader) false
+
+-- the password, in upper case, is that of the user
+abbrev pub password_is : List User → UserName → Password → Bool
+password_is users user given = option_map_or (λ (u : User). same_password u.password given) (user_in users user) false
+
+-- a reader's accounts with this one last, unless it is there; any other role as it is
+abbrev pub with_account : AccountName → Role → Role
+with_account account (roles.Reader names) = roles.Reader (if names_account names account then names else names ++ account ∷ [])
+with_account account other = other
+
+-- a reader's accounts without this one; any other role as it is
+abbrev pub without_account : AccountName → Role → Role
+without_account account (roles.Reader names) = roles.Reader (filter (λ name. not (same_account name account)) names)
+without_account account other = other
+
+-- the user, his role changed if he has this name
+abbrev pub change_role : UserName → (Role → Role) → User → User
+change_role name change u = record { name = u.name; password = u.password; role = if same_user u.name name then change u.role else u.role }
+
+-- the users, the account granted to the reader
+abbrev pub granted_to : UserName → AccountName → List User → List User
+granted_to reader account users = map (change_role reader (with_account account)) users
+
+-- the users, the account revoked from the reader
+abbrev pub revoked_from : UserName → AccountName → List User → List User
+revoked_from reader account users = map (change_role reader (without_account account)) users
+
+-- the reader whom an officer names, in the policy's own spelling
+abbrev pub reader_in : List User → WrittenName → Option User
+reader_in users written = find (λ (u : User). is_written written u.name && is_reader (Some u.role)) users
+
+-- the users after the command was granted
+abbrev pub given : List User → Action → List User
+given users (actions.Grant written account) = option_map_or (λ (u : User). granted_to u.name account users) (reader_in users written) users
+given users (actions.Revoke written account) = option_map_or (λ (u : User). revoked_from u.name account users) (reader_in users written) users
+given users other = users
+
+-- the policy's users with the granted changes
+unfoldable pub people_in_force : PolicyData → List RecordData → List User
+people_in_force policy history = fold given policy.users (granted_actions history)
+
+-- the power that the command asks for
+abbrev pub power_of : Action → Power
+power_of (actions.Kill account) = powers.Kill
+power_of (actions.Lift account) = powers.Lift
+power_of (actions.SetLimit rule limit) = powers.Limits
+power_of (actions.Restrict rule stock) = powers.Symbols
+power_of (actions.Unrestrict rule stock) = powers.Symbols
+power_of (actions.Grant reader account) = powers.People
+power_of (actions.Revoke reader account) = powers.People
+power_of actions.CloseDay = powers.Close

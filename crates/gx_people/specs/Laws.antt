@@ -1,0 +1,106 @@
+-- What the users in force keep of the policy, and what each command changes.
+use Rattle.std.specs.Option.{option_map_or}
+use Rattle.std.specs.Prelude.{◌≡◌, false, not, ◌&&◌, ◌||◌, IsTrue, is_some, List, [], ◌∷◌, ◌++◌, Some, option_map, option_and_then}
+use Rattle.gx_units.specs.Names.{same_user, same_account}
+use Rattle.gx_units.specs.declared.names.AccountName.{AccountName}
+use Rattle.gx_units.specs.declared.names.Password.{Password}
+use Rattle.gx_units.specs.declared.names.UserName.{UserName}
+use Rattle.gx_desk.specs.declared.WrittenName.{WrittenName}
+use Rattle.gx_desk.specs.declared.Action.{Action}
+use Rattle.gx_desk.specs.declared.Action.TheVariants as actions
+use Rattle.gx_history.specs.declared.policy.PolicyData.{PolicyData}
+use Rattle.gx_history.specs.declared.policy.User.{User}
+use Rattle.gx_history.specs.declared.record.RecordData.{RecordData}
+use Rattle.gx_history.specs.Asking.{has_power, sees_now}
+use Rattle.gx_history.specs.InForce.{is_entitled}
+use Rattle.gx_history.specs.Logins as logins
+use Rattle.gx_history.specs.People.{account_of, account_of_role, is_officer, is_reader, is_trader, reader_named, role_of, user_named}
+use Rattle.gx_history.specs.Requests.{granted_action}
+use Rattle.gx_history.specs.Soundness.{is_sound}
+use Rattle.gx_people.specs.Entitled.{given, granted_to, has, holds, holds_in_role, password_is, people_in_force, power_of, reader_in, revoked_from, role_in, sees, user_in}
+
+-- who sees which account in force is who is entitled to it
+abbrev pub EntitlementsAreKept : Type 0
+EntitlementsAreKept = (policy : PolicyData) (history : List RecordData) (reader : UserName) (account : AccountName)
+    → IsTrue (is_sound policy) → sees (people_in_force policy history) reader account ≡ is_entitled policy history reader account
+
+-- and so it is of a reader as an officer names him
+abbrev pub NamedReadersSee : Type 0
+NamedReadersSee = (policy : PolicyData) (history : List RecordData) (written : WrittenName) (account : AccountName)
+    → IsTrue (is_sound policy)
+    → option_map_or (λ name. sees (people_in_force policy history) name account) (option_map (λ (u : User). u.name) (reader_in (people_in_force policy history) written)) false
+    ≡ sees_now policy history written account
+
+-- before any record the users are the policy's
+abbrev pub FirstAsThePolicySays : Type 0
+FirstAsThePolicySays = (policy : PolicyData) → people_in_force policy [] ≡ policy.users
+
+-- one more record changes them by the command that it grants, if it grants one
+abbrev pub NextByTheCommand : Type 0
+NextByTheCommand = (policy : PolicyData) (history : List RecordData) (r : RecordData)
+    → people_in_force policy (history ++ r ∷ []) ≡ option_map_or (given (people_in_force policy history)) (granted_action r) (people_in_force policy history)
+
+-- powers are the policy's
+abbrev pub PowersStay : Type 0
+PowersStay = (policy : PolicyData) (history : List RecordData) (user : UserName) (action : Action)
+    → has (people_in_force policy history) user (power_of action) ≡ has_power (role_of policy user) action
+
+-- officers' accounts are the policy's
+abbrev pub ScopesStay : Type 0
+ScopesStay = (policy : PolicyData) (history : List RecordData) (user : UserName) (account : AccountName)
+    → holds (people_in_force policy history) user account ≡ holds_in_role (role_of policy user) account
+
+-- traders are the policy's
+abbrev pub TradersStay : Type 0
+TradersStay = (policy : PolicyData) (history : List RecordData) (user : UserName)
+    → is_trader (role_in (people_in_force policy history) user) ≡ is_trader (role_of policy user)
+
+-- officers are the policy's
+abbrev pub OfficersStay : Type 0
+OfficersStay = (policy : PolicyData) (history : List RecordData) (user : UserName)
+    → is_officer (role_in (people_in_force policy history) user) ≡ is_officer (role_of policy user)
+
+-- readers are the policy's
+abbrev pub ReadersStay : Type 0
+ReadersStay = (policy : PolicyData) (history : List RecordData) (user : UserName)
+    → is_reader (role_in (people_in_force policy history) user) ≡ is_reader (role_of policy user)
+
+-- traders' accounts are the policy's
+abbrev pub AccountsStay : Type 0
+AccountsStay = (policy : PolicyData) (history : List RecordData) (user : UserName)
+    → option_and_then account_of_role (role_in (people_in_force policy history) user) ≡ account_of policy user
+
+-- passwords are the policy's
+abbrev pub PasswordsStay : Type 0
+PasswordsStay = (policy : PolicyData) (history : List RecordData) (user : UserName) (password : Password)
+    → password_is (people_in_force policy history) user password ≡ logins.password_is policy user password
+
+-- the users are the policy's
+abbrev pub UsersStay : Type 0
+UsersStay = (policy : PolicyData) (history : List RecordData) (user : UserName)
+    → is_some (user_in (people_in_force policy history) user) ≡ is_some (user_named policy user)
+
+-- the reader whom an officer names is the policy's
+abbrev pub NamesStay : Type 0
+NamesStay = (policy : PolicyData) (history : List RecordData) (written : WrittenName)
+    → option_map (λ (u : User). u.name) (reader_in (people_in_force policy history) written) ≡ option_map (λ (u : User). u.name) (reader_named policy written)
+
+-- a grant to a reader shows him the account, and changes nothing that anyone else sees
+abbrev pub GrantsAddOnePair : Type 0
+GrantsAddOnePair = (users : List User) (reader : UserName) (account : AccountName) → IsTrue (is_reader (role_in users reader)) → (user : UserName) (other : AccountName)
+    → sees (granted_to reader account users) user other ≡ ((same_user user reader && same_account other account) || sees users user other)
+
+-- a revocation hides the account from the reader, and changes nothing that anyone else sees
+abbrev pub RevocationsTakeOnePair : Type 0
+RevocationsTakeOnePair = (users : List User) (reader : UserName) (account : AccountName) (user : UserName) (other : AccountName)
+    → sees (revoked_from reader account users) user other ≡ (not (same_user user reader && same_account other account) && sees users user other)
+
+-- a granted Grant is a grant to the reader whom it names
+abbrev pub GrantsGoToTheNamed : Type 0
+GrantsGoToTheNamed = (users : List User) (written : WrittenName) (account : AccountName) (reader : UserName)
+    → option_map (λ (u : User). u.name) (reader_in users written) ≡ Some reader → given users (actions.Grant written account) ≡ granted_to reader account users
+
+-- a granted Revoke is a revocation from the reader whom it names
+abbrev pub RevocationsGoToTheNamed : Type 0
+RevocationsGoToTheNamed = (users : List User) (written : WrittenName) (account : AccountName) (reader : UserName)
+    → option_map (λ (u : User). u.name) (reader_in users written) ≡ Some reader → given users (actions.Revoke written account) ≡ revoked_from reader account users

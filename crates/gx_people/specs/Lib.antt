@@ -1,0 +1,3 @@
+pub mod Entitled
+pub mod View
+pub mod Laws

@@ -1,0 +1,23 @@
+-- The users that the gate's table of persons stands for.
+use Rattle.std.specs.Prelude.{List, map}
+use Rattle.gx_units.specs.declared.names.UserName.{UserName}
+use Rattle.gx_history.specs.declared.policy.Role.{Role}
+use Rattle.gx_history.specs.declared.policy.Role.TheVariants as roles
+use Rattle.gx_history.specs.declared.policy.User.{User}
+use Rattle.gx_people.specs.declared.person.Person.{Person}
+use Rattle.gx_people.specs.declared.person.Standing.{Standing}
+use Rattle.gx_people.specs.declared.person.Standing.TheVariants as standings
+
+-- the role in the policy's words
+abbrev pub role_of_standing : Standing → Role
+role_of_standing (standings.Trader account) = roles.Trader account
+role_of_standing (standings.Officer his scope) = roles.Officer his scope
+role_of_standing (standings.Reader accounts) = roles.Reader accounts.items
+
+-- the user of an entry
+abbrev pub user_of : UserName × Person → User
+user_of entry = record { name = entry.0; password = entry.1.password; role = role_of_standing entry.1.standing }
+
+-- the users of the entries
+abbrev pub users_of : List (UserName × Person) → List User
+users_of entries = map user_of entries

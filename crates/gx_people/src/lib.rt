@@ -1,0 +1,10 @@
+//! The people of a policy while a day runs: who has which power, whose account it is, and which reader sees which
+//! account now.
+#![tactic(auto)]
+
+pub mod laws;
+pub mod people;
+mod person;
+pub mod power;
+#[cfg(test)]
+mod tests;

@@ -1,0 +1,192 @@
+//! The people of a policy, as they are now.
+
+ghost use Rattle.std.specs.Prelude.{◌≡◌, IsTrue, IfOk, OnOk, OnErr, option_map, option_and_then, is_some, IfSome, IsOk, ◌&&◌, ◌||◌, not};
+ghost use Rattle.gx_units.specs.Names.{same_account, same_user};
+ghost use Rattle.gx_units.specs.declared.names.AccountName.{AccountName};
+ghost use Rattle.gx_units.specs.declared.names.UserName.{UserName};
+ghost use Rattle.gx_history.specs.People.{account_of_role, is_officer, is_reader, is_trader};
+ghost use Rattle.gx_people.specs.Entitled.{granted_to, has, holds, may, password_is, reader_in, revoked_from, role_in, sees, user_in};
+ghost use Rattle.gx_people.specs.View.{role_of_standing};
+
+use crate::person::{Person, Standing, covers};
+use crate::power::Power;
+use gx_desk::WrittenName;
+use gx_history::policy::Policy;
+use gx_units::{AccountName, OutOfMemory, Password, UserName};
+use indexmap::IndexMap;
+use std::alloc::Global;
+use std::marker::Model;
+
+/// The users of a policy, in the file's order, each reader with the accounts that are his now.
+#[derive(Debug, Drop)]
+pub struct People {
+    by_name: IndexMap<UserName, Person>,
+}
+
+impl Model for People {
+    ghost use Rattle.std.specs.Prelude.{List};
+    ghost use Rattle.gx_history.specs.declared.policy.User.{User};
+
+    ghost Value = { List User };
+
+    ghost use Rattle.gx_people.specs.View.{users_of};
+
+    ghost view = { λ people. users_of people.by_name.entries };
+}
+
+impl People {
+    /// The people as the policy says, before any command. Takes memory for a copy of what it keeps.
+    pub fn new(alloc: Global, policy: &Policy) -> Result<People, OutOfMemory>
+        ensures { IfOk result (λ people. people ≡ policy.now.users) }
+    {
+        // What this ensures: no two users have one name.
+        let _ = policy.rules();
+        let mut by_name = IndexMap::with_capacity(alloc, policy.users().len())?;
+        for user in policy.users() {
+            let standing = Standing::of(alloc, &user.role)?;
+            let person = Person {
+                password: user.password,
+                standing,
+            };
+            by_name.insert(user.name, person)?;
+        }
+        Ok(People { by_name })
+    }
+
+    #[tactic(auto, using(crate::proofs::Table::role_found))]
+    fn standing(&self, name: UserName) -> Option<&Standing>
+        ensures { option_map (λ s. role_of_standing s.now) result ≡ role_in self.now name }
+    {
+        let person = self.by_name.get(&name)?;
+        Some(&person.standing)
+    }
+
+    /// Whether the policy has this user.
+    #[tactic(auto, using(crate::proofs::Table::user_found))]
+    pub fn knows(&self, user: UserName) -> bool
+        ensures { result ≡ is_some (user_in self.now user) }
+    {
+        self.by_name.contains_key(&user)
+    }
+
+    /// Whether the user enters orders.
+    pub fn is_trader(&self, user: UserName) -> bool
+        ensures { result ≡ is_trader (role_in self.now user) }
+    {
+        matches!(self.standing(user), Some(Standing::Trader(_)))
+    }
+
+    /// Whether the user gives commands.
+    pub fn is_officer(&self, user: UserName) -> bool
+        ensures { result ≡ is_officer (role_in self.now user) }
+    {
+        matches!(self.standing(user), Some(Standing::Officer(_, _)))
+    }
+
+    /// Whether the user is shown fills of others.
+    pub fn is_reader(&self, user: UserName) -> bool
+        ensures { result ≡ is_reader (role_in self.now user) }
+    {
+        match self.standing(user) {
+            Some(standing) => standing.is_reader(),
+            None => false,
+        }
+    }
+
+    /// The account that a trader trades for; None for any other user.
+    pub fn account_of(&self, user: UserName) -> Option<AccountName>
+        ensures { result ≡ option_and_then account_of_role (role_in self.now user) }
+    {
+        match self.standing(user)? {
+            Standing::Trader(account) => Some(*account),
+            _ => None,
+        }
+    }
+
+    /// Whether the password, in upper case, is that of the user.
+    #[tactic(auto, using(crate::proofs::Table::password_found_is))]
+    pub fn password_is(&self, user: UserName, password: Password) -> bool
+        ensures { result ≡ password_is self.now user password }
+    {
+        match self.by_name.get(&user) {
+            Some(person) => person.password == password,
+            None => false,
+        }
+    }
+
+    /// Whether the user is an officer with the power.
+    pub fn has(&self, officer: UserName, power: Power) -> bool
+        ensures { result ≡ has self.now officer power }
+    {
+        match self.standing(officer) {
+            Some(Standing::Officer(powers, _)) => power.is_among(*powers),
+            _ => false,
+        }
+    }
+
+    /// Whether the user is an officer with the account in his scope.
+    pub fn holds(&self, officer: UserName, account: AccountName) -> bool
+        ensures { result ≡ holds self.now officer account }
+    {
+        match self.standing(officer) {
+            Some(Standing::Officer(_, scope)) => covers(scope, account),
+            _ => false,
+        }
+    }
+
+    /// Whether the user is an officer with the power, and the account is one of his.
+    pub fn may(&self, officer: UserName, power: Power, account: AccountName) -> bool
+        ensures { result ≡ may self.now officer power account }
+    {
+        self.has(officer, power) && self.holds(officer, account)
+    }
+
+    /// Whether the user is a reader, and the account is his now.
+    pub fn sees(&self, reader: UserName, account: AccountName) -> bool
+        ensures { result ≡ sees self.now reader account }
+    {
+        match self.standing(reader) {
+            Some(standing) => standing.sees(account),
+            None => false,
+        }
+    }
+
+    /// The name of the reader whom an officer names, in the policy's own spelling. It looks at each user in turn.
+    pub fn reader_named(&self, written: WrittenName) -> Option<UserName>
+        ensures name { result ≡ option_map (λ u. u.name) (reader_in self.now written) }
+        ensures reads { IfSome result (λ name. IsTrue (is_reader (role_in self.now name))) }
+    {
+        for (name, person) in self.by_name.iter() {
+            if written.bytes.eq_ignore_ascii_case(&name.bytes) && person.standing.is_reader() {
+                return Some(*name);
+            }
+        }
+        None
+    }
+
+    /// Gives the reader the account. Only where there is no memory for one more is it refused, and then nothing changes.
+    pub fn grant(&mut self, reader: UserName, account: AccountName) -> Result<(), OutOfMemory>
+        requires known { IsTrue (is_reader (role_in self.old reader)) }
+        ensures granted { OnOk result (self.new ≡ granted_to reader account self.old) }
+        ensures pair { OnOk result ((user : UserName) (other : AccountName) → sees self.new user other ≡ ((same_user user reader && same_account other account) || sees self.old user other)) }
+        ensures again { IsTrue (sees self.old reader account) → IsOk result }
+        ensures unchanged { OnErr result (self.new ≡ self.old) }
+    {
+        let Some(person) = self.by_name.get_mut(&reader) else {
+            return Ok(());
+        };
+        person.standing.grant(account)
+    }
+
+    /// Takes the account from the reader.
+    pub fn revoke(&mut self, reader: UserName, account: AccountName)
+        requires known { IsTrue (is_reader (role_in self.old reader)) }
+        ensures revoked { self.new ≡ revoked_from reader account self.old }
+        ensures pair { (user : UserName) (other : AccountName) → sees self.new user other ≡ (not (same_user user reader && same_account other account) && sees self.old user other) }
+    {
+        let Some(person) = self.by_name.get_mut(&reader) else {
+            return;
+        };
+        person.standing.revoke(account);
+    }
+}

@@ -1,0 +1,54 @@
+//! The powers that commands ask for.
+
+ghost use Rattle.std.specs.Prelude.{◌≡◌};
+ghost use Rattle.gx_people.specs.Entitled.{includes, power_of};
+
+use gx_desk::Action;
+use gx_history::policy::Powers;
+
+/// What an officer may be given, each for the commands of its name.
+#[derive(Clone, Copy, Debug, PartialEq, Eq)]
+pub enum Power {
+    /// Kill.
+    Kill,
+    /// Lift.
+    Lift,
+    /// Set Limit.
+    Limits,
+    /// Restrict and Unrestrict.
+    Symbols,
+    /// Grant and Revoke.
+    People,
+    /// Close Day.
+    Close,
+}
+
+impl Power {
+    /// The power that the command asks for.
+    pub fn of(action: &Action) -> Power
+        ensures { result ≡ power_of action.now }
+    {
+        match action {
+            Action::Kill(_) => Power::Kill,
+            Action::Lift(_) => Power::Lift,
+            Action::SetLimit(_, _) => Power::Limits,
+            Action::Restrict(_, _) | Action::Unrestrict(_, _) => Power::Symbols,
+            Action::Grant(_, _) | Action::Revoke(_, _) => Power::People,
+            Action::CloseDay => Power::Close,
+        }
+    }
+
+    /// Whether it is one of these.
+    pub fn is_among(self, his: Powers) -> bool
+        ensures { result ≡ includes his self }
+    {
+        match self {
+            Power::Kill => his.kill,
+            Power::Lift => his.lift,
+            Power::Limits => his.limits,
+            Power::Symbols => his.symbols,
+            Power::People => his.people,
+            Power::Close => his.close,
+        }
+    }
+}

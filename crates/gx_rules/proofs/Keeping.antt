@@ -1,0 +1,109 @@
+-- How stocks and rules are put one by one under names that differ.
+use Rattle.std.proofs.Common.{◌≡◌, ◌+◌, ℕ, zero, suc, ◌<◌, Bool, true, false, cond, not, ◌||◌, ◌&&◌, List, [], ◌∷◌, ◌++◌, length, get_or, take, refl, sym, ap, ◌∙◌, arith}
+use Rattle.std.specs.List.{list_any, AllByRecursion}
+use Rattle.std.proofs.lemmas.List.{take_more}
+use Rattle.std.proofs.lemmas.Cmp.{nat_list_eq_equiv}
+use Rattle.indexmap.specs.IndexMap.{insert_entry}
+use Rattle.indexmap.specs.IndexSet.{insert_key, remove_key}
+use Rattle.gx_units.specs.Names.{same_rule, same_stock}
+use Rattle.gx_units.specs.declared.names.RuleId.{RuleId}
+use Rattle.gx_units.specs.declared.names.Symbol.{Symbol}
+use Rattle.gx_history.specs.declared.policy.FileRule.{FileRule}
+use Rattle.gx_history.specs.InForce.{adding, lists_stock, removing}
+use Rattle.gx_history.specs.Lists.{are_distinct}
+use Rattle.gx_rules.specs.declared.book_rule.BookRule.{BookRule}
+use Rattle.gx_rules.specs.Books.{names_differ, rule_named, rules_of}
+
+left_false : (a b : Bool) → (a || b) ≡ false → a ≡ false
+left_false true b h = h
+left_false false b h = refl
+
+right_false : (a b : Bool) → (a || b) ≡ false → b ≡ false
+right_false true b h = cc
+right_false false b h = h
+
+left_true : (a b : Bool) → (not a && b) ≡ true → a ≡ false
+left_true true b h = cc
+left_true false b h = refl
+
+right_true : (a b : Bool) → (a && b) ≡ true → b ≡ true
+right_true true b h = h
+right_true false b h = cc
+
+none_at : {X : Type 0} (p : X → Bool) (xs : List X) (i : ℕ) (d : X) → list_any p xs ≡ false → i < length xs → p (get_or xs i d) ≡ false
+none_at p [] i d none within = absurd (omega (arith, within))
+none_at p (x ∷ xs) zero d none within = left_false (p x) (list_any p xs) none
+none_at p (x ∷ xs) (suc i) d none within = none_at p xs i d (right_false (p x) (list_any p xs) none) (omega (arith, within))
+
+-- one of a list of distinct ones is unlike those before it
+none_before : {X : Type 0} (same : X → X → Bool) (symm : (x y : X) → same x y ≡ same y x) (xs : List X) (i : ℕ) (d : X)
+    → are_distinct same xs ≡ true → i < length xs → list_any (same (get_or xs i d)) (take i xs) ≡ false
+none_before same symm [] i d distinct within = absurd (omega (arith, within))
+none_before same symm (x ∷ xs) zero d distinct within = refl
+none_before same symm (x ∷ xs) (suc i) d distinct within =
+    let here : same (get_or xs i d) x ≡ false = symm (get_or xs i d) x ∙ none_at (same x) xs i d (left_true (list_any (same x) xs) (are_distinct same xs) distinct) (omega (arith, within)) in
+    ap (λ b. b || list_any (same (get_or xs i d)) (take i xs)) here
+    ∙ none_before same symm xs i d (right_true (not (list_any (same x) xs)) (are_distinct same xs) distinct) (omega (arith, within))
+
+same_stock_symm : (a b : Symbol) → same_stock a b ≡ same_stock b a
+same_stock_symm a b = nat_list_eq_equiv.symm a.bytes b.bytes
+
+-- the next of the stocks goes last
+pub next_stock : (stocks keys : List Symbol) (i : ℕ) (x d : Symbol) → are_distinct same_stock stocks ≡ true → i < length stocks → keys ≡ take i stocks → x ≡ get_or stocks i d
+    → insert_key same_stock keys x ≡ take (i + 1) stocks
+next_stock stocks keys i x d distinct within so_far is =
+    (λ j. insert_key same_stock (so_far j) (is j))
+    ∙ ap (λ b. cond b (take i stocks) (take i stocks ++ get_or stocks i d ∷ [])) (none_before same_stock same_stock_symm stocks i d distinct within)
+    ∙ sym (take_more stocks i d within)
+
+-- the set asks whether the stock is like one of its own
+pub lists_by_key : (stocks : List Symbol) (stock : Symbol) → list_any (same_stock stock) stocks ≡ lists_stock stocks stock
+lists_by_key [] stock = refl
+lists_by_key (s ∷ stocks) stock = λ i. same_stock_symm stock s i || lists_by_key stocks stock i
+
+pub insert_is_adding : (stocks : List Symbol) (stock : Symbol) → insert_key same_stock stocks stock ≡ adding stock stocks
+insert_is_adding stocks stock = ap (λ b. cond b stocks (stocks ++ stock ∷ [])) (lists_by_key stocks stock)
+
+none_removed : (stock : Symbol) (stocks : List Symbol) → AllByRecursion (λ s. same_stock stock s ≡ false) stocks → stocks ≡ removing stock stocks
+none_removed stock [] apart = refl
+none_removed stock (s ∷ stocks) apart =
+    ap (λ l. s ∷ l) (none_removed stock stocks apart.1) ∙ ap (λ b. cond (not b) (s ∷ removing stock stocks) (removing stock stocks)) (sym (same_stock_symm s stock ∙ apart.0))
+
+absent : (stock : Symbol) (stocks : List Symbol) → list_any (same_stock stock) stocks ≡ false → AllByRecursion (λ s. same_stock stock s ≡ false) stocks
+absent stock [] none = tt
+absent stock (s ∷ stocks) none = (left_false (same_stock stock s) (list_any (same_stock stock) stocks) none, absent stock stocks (right_false (same_stock stock s) (list_any (same_stock stock) stocks) none))
+
+-- where none like the stock is left, the first that was like it was the only one
+pub remove_is_removing : (stocks : List Symbol) (stock : Symbol) → list_any (same_stock stock) (remove_key (same_stock stock) stocks) ≡ false
+    → remove_key (same_stock stock) stocks ≡ removing stock stocks
+remove_is_removing [] stock none = refl
+remove_is_removing (s ∷ stocks) stock none = by (same_stock stock s) refl none (remove_is_removing stocks stock)
+  where
+    by : (b : Bool) → same_stock stock s ≡ b → list_any (same_stock stock) (cond b stocks (s ∷ remove_key (same_stock stock) stocks)) ≡ false
+        → (list_any (same_stock stock) (remove_key (same_stock stock) stocks) ≡ false → remove_key (same_stock stock) stocks ≡ removing stock stocks)
+        → cond b stocks (s ∷ remove_key (same_stock stock) stocks) ≡ removing stock (s ∷ stocks)
+    by true h none deeper =
+        none_removed stock stocks (absent stock stocks none)
+        ∙ ap (λ b. cond (not b) (s ∷ removing stock stocks) (removing stock stocks)) (sym (same_stock_symm s stock ∙ h))
+    by false h none deeper =
+        ap (λ l. s ∷ l) (deeper (right_false (same_stock stock s) (list_any (same_stock stock) (remove_key (same_stock stock) stocks)) none))
+        ∙ ap (λ b. cond (not b) (s ∷ removing stock stocks) (removing stock stocks)) (sym (same_stock_symm s stock ∙ h))
+
+kept_last : (es : List (RuleId × BookRule)) (name : RuleId) (rule : BookRule) → list_any (λ (r : FileRule). same_rule name r.name) (rules_of es) ≡ false
+    → rules_of (insert_entry same_rule es name rule) ≡ rules_of es ++ rule_named name rule ∷ []
+kept_last [] name rule none = refl
+kept_last (e ∷ es) name rule none =
+    let others = list_any (λ (r : FileRule). same_rule name r.name) (rules_of es) in
+    ap (λ b. rules_of (cond b ((e.0, rule) ∷ es) (e ∷ insert_entry same_rule es name rule))) (left_false (same_rule name e.0) others none)
+    ∙ ap (λ l. rule_named e.0 e.1 ∷ l) (kept_last es name rule (right_false (same_rule name e.0) others none))
+
+-- the next of the rules goes last
+pub next_rule : (rules : List FileRule) (es : List (RuleId × BookRule)) (i : ℕ) (r d : FileRule) (rule : BookRule)
+    → names_differ rules ≡ true → i < length rules → rules_of es ≡ take i rules → rule_named r.name rule ≡ r → r ≡ get_or rules i d
+    → rules_of (insert_entry same_rule es r.name rule) ≡ take (i + 1) rules
+next_rule rules es i r d rule differ within so_far is at =
+    let same : FileRule → FileRule → Bool = λ (a b : FileRule). same_rule a.name b.name in
+    let none = none_before same (λ a b. nat_list_eq_equiv.symm a.name.bytes b.name.bytes) rules i d differ within in
+    kept_last es r.name rule ((λ j. list_any (same (at j)) (so_far j)) ∙ none)
+    ∙ (λ j. so_far j ++ (is ∙ at) j ∷ [])
+    ∙ sym (take_more rules i d within)

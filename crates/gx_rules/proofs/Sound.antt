@@ -1,0 +1,74 @@
+-- What a policy's soundness says of its rules.
+use Rattle.std.proofs.Common.{◌≡◌, ℕ, ◌≤◌, Bool, true, false, ◌&&◌, List, [], ◌∷◌, length, refl, ap, ◌∙◌, arith}
+use Rattle.std.specs.Prelude.{nat_le}
+use Rattle.std.proofs.lemmas.Bool.Decides.{nat_tests}
+use Rattle.std.proofs.lemmas.List.{length-map}
+use Rattle.std.specs.List.{list_all}
+use Rattle.gx_units.specs.Names.{same_stock}
+use Rattle.gx_history.specs.declared.policy.FileRule.{FileRule}
+use Rattle.gx_history.specs.declared.policy.PolicyData.{PolicyData}
+use Rattle.gx_history.specs.declared.policy.RuleKind.{RuleKind}
+use Rattle.gx_history.specs.declared.policy.RuleKind.TheVariants as kinds
+use Rattle.gx_history.specs.InForce.{stocks_of}
+use Rattle.gx_history.specs.Lists.{are_distinct}
+use Rattle.gx_history.specs.Soundness.{is_kind_sound, is_rule_sound, is_sound}
+use Rattle.gx_units.specs.declared.names.RuleId.{RuleId}
+use Rattle.gx_rules.specs.declared.book_rule.BookRule.{BookRule}
+use Rattle.gx_rules.specs.Books.{lists_once, names_differ, rule_named, rules_of}
+use Rattle.std.specs.Option.{option_map_or}
+
+both : (a b : Bool) → (a && b) ≡ true → (a ≡ true) × (b ≡ true)
+both true b h = (refl, h)
+both false b h = cc
+
+all_imply : {X : Type 0} (p q : X → Bool) → ((x : X) → p x ≡ true → q x ≡ true) → (xs : List X) → list_all p xs ≡ true → list_all q xs ≡ true
+all_imply p q each [] h = refl
+all_imply p q each (x ∷ xs) h =
+    let parts = both (p x) (list_all p xs) h in
+    (λ i. each x parts.0 i && all_imply p q each xs parts.1 i)
+
+kind_once : (policy : PolicyData) (kind : RuleKind) → is_kind_sound policy kind ≡ true → option_map_or (are_distinct same_stock) (stocks_of kind) true ≡ true
+kind_once policy (kinds.Halt stocks) h = (both _ _ h).1
+kind_once policy (kinds.Restricted stocks) h = (both _ _ h).1
+kind_once policy kinds.NoShort h = refl
+kind_once policy kinds.NoIso h = refl
+kind_once policy kinds.OddLot h = refl
+kind_once policy (kinds.OrderShares limit) h = refl
+kind_once policy (kinds.OrderValue limit) h = refl
+kind_once policy (kinds.Collar limit) h = refl
+kind_once policy (kinds.GrossShares limit count) h = refl
+kind_once policy (kinds.GrossValue limit count) h = refl
+kind_once policy (kinds.Rate rate count) h = refl
+kind_once policy (kinds.Repeat repeat count) h = refl
+
+rule_once : (policy : PolicyData) (rule : FileRule) → is_rule_sound policy rule ≡ true → lists_once rule ≡ true
+rule_once policy rule h = kind_once policy rule.kind (both _ _ (both _ _ h).0).1
+
+few_rules : (policy : PolicyData) → is_sound policy ≡ true → length policy.rules ≤ 128
+unfolding is_sound
+few_rules policy h =
+    let within = (both _ _ (both _ _ (both _ _ (both _ _ (both _ _ (both _ _ h).0).0).0).0).0).0 in
+    few (length policy.rules) (both _ _ within).1
+  where
+    few : (n : ℕ) → nat_le n 128 ≡ true → n ≤ 128
+    few n h = grind (arith, nat_tests)
+
+-- a book of the policy's rules has as many entries
+pub few_entries : (policy : PolicyData) (rules : List FileRule) (es : List (RuleId × BookRule)) → is_sound policy ≡ true → rules ≡ policy.rules → rules_of es ≡ rules → length es ≤ 128
+few_entries policy rules es sound same of =
+    let few = few_rules policy sound in
+    let many : length (rules_of es) ≡ length es = length-map es (λ e. rule_named e.0 e.1) in
+    let alike : length (rules_of es) ≡ length policy.rules = ap length (of ∙ same) in
+    omega (arith, few, many, alike)
+
+-- no list of the policy has a stock twice
+pub sound_lists : (policy : PolicyData) → is_sound policy ≡ true → list_all lists_once policy.rules ≡ true
+unfolding is_sound
+sound_lists policy h = all_imply (is_rule_sound policy) lists_once (rule_once policy) policy.rules (both _ _ h).1
+
+-- no two rules of the policy have one name
+pub sound_names : (policy : PolicyData) → is_sound policy ≡ true → names_differ policy.rules ≡ true
+unfolding is_sound
+sound_names policy h =
+    let of_names = (both _ _ (both _ _ (both _ _ (both _ _ (both _ _ (both _ _ h).0).0).0).0).0).1 in
+    (both _ _ of_names).1

@@ -1,0 +1,30 @@
+-- How a book keeps the rules: each under its name, the stocks apart from the kind.
+use Rattle.std.specs.Prelude.{Bool, true, List, map}
+use Rattle.std.specs.Option.{option_map_or}
+use Rattle.gx_units.specs.Names.{same_rule, same_stock}
+use Rattle.gx_units.specs.declared.names.RuleId.{RuleId}
+use Rattle.gx_history.specs.declared.policy.FileRule.{FileRule}
+use Rattle.gx_history.specs.declared.policy.RuleKind.{RuleKind}
+use Rattle.gx_history.specs.InForce.{stocks_of, with_stocks}
+use Rattle.gx_history.specs.Lists.{are_distinct}
+use Rattle.gx_rules.specs.declared.book_rule.BookRule.{BookRule}
+
+-- the kind with the stocks that are kept apart
+abbrev pub kind_of : BookRule → RuleKind
+kind_of rule = with_stocks (λ listed. rule.stocks.keys) rule.kind
+
+-- the rule of this name
+abbrev pub rule_named : RuleId → BookRule → FileRule
+rule_named name rule = record { name = name; kind = kind_of rule; scope = rule.scope }
+
+-- the rules, in the order of the entries
+abbrev pub rules_of : List (RuleId × BookRule) → List FileRule
+rules_of entries = map (λ e. rule_named e.0 e.1) entries
+
+-- no stock stands twice on the rule's list
+abbrev pub lists_once : FileRule → Bool
+lists_once rule = option_map_or (are_distinct same_stock) (stocks_of rule.kind) true
+
+-- no two rules have one name
+abbrev pub names_differ : List FileRule → Bool
+names_differ rules = are_distinct (λ (a b : FileRule). same_rule a.name b.name) rules

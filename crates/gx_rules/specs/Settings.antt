@@ -1,0 +1,33 @@
+-- The file's rules with their settings: what they are, and what commands make of them.
+use Rattle.std.specs.Prelude.{ℕ, Bool, List, map, Option, option_and_then}
+use Rattle.std.specs.List.{find}
+use Rattle.gx_units.specs.Names.{same_rule}
+use Rattle.gx_units.specs.declared.names.RuleId.{RuleId}
+use Rattle.gx_units.specs.declared.names.Symbol.{Symbol}
+use Rattle.gx_history.specs.declared.policy.FileRule.{FileRule}
+use Rattle.gx_history.specs.Asking.{has_stock}
+use Rattle.gx_history.specs.InForce.{limit_of, with_limit, with_stocks, adding, removing, change_rule}
+
+-- the rule of this name
+abbrev pub rule_in : List FileRule → RuleId → Option FileRule
+rule_in rules name = find (λ (r : FileRule). same_rule r.name name) rules
+
+-- the rule's limit, if it has one that Set Limit may change
+abbrev pub limit_in : List FileRule → RuleId → Option ℕ
+limit_in rules name = option_and_then (λ (r : FileRule). limit_of r.kind) (rule_in rules name)
+
+-- the rule has a list of stocks, and the stock is on it
+abbrev pub lists_in : List FileRule → RuleId → Symbol → Bool
+lists_in rules name stock = has_stock (rule_in rules name) stock
+
+-- the rules with this limit
+abbrev pub with_limit_of : RuleId → ℕ → List FileRule → List FileRule
+with_limit_of name value rules = map (change_rule name (with_limit value)) rules
+
+-- the rules with the stock on the list
+abbrev pub restricted : RuleId → Symbol → List FileRule → List FileRule
+restricted name stock rules = map (change_rule name (with_stocks (adding stock))) rules
+
+-- the rules with the stock off the list
+abbrev pub unrestricted : RuleId → Symbol → List FileRule → List FileRule
+unrestricted name stock rules = map (change_rule name (with_stocks (removing stock))) rules

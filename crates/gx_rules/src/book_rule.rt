@@ -1,0 +1,179 @@
+//! A rule as the book keeps it.
+
+ghost use Rattle.std.specs.Prelude.{◌≡◌, [], false, is_some, unwrap_or, IsTrue, IfOk, OnOk, OnErr};
+ghost use Rattle.std.specs.Option.{option_map_or};
+ghost use Rattle.std.specs.List.{list_any};
+ghost use Rattle.gx_units.specs.Names.{same_stock};
+ghost use Rattle.gx_history.specs.Asking.{has_stock};
+ghost use Rattle.gx_history.specs.InForce.{adding, limit_of, lists_stock, stocks_of, removing, with_limit, with_stocks};
+ghost use Rattle.gx_history.specs.Lists.{are_distinct};
+ghost use Rattle.gx_history.specs.Rules.{kind_forbids, rule_forbids};
+ghost use Rattle.gx_rules.specs.Books.{kind_of, lists_once, rule_named};
+
+use crate::file_rule::{is_for_scope, is_forbidden_by_kind};
+use crate::request::proposed;
+use gx_history::facts::{Facts, ProposedOrder, RuleFigures};
+use gx_history::policy::{AccountNames, FileRule, RuleKind, Scope, Symbols};
+use gx_history::record::Request;
+use gx_units::{OutOfMemory, RuleId, Symbol};
+use indexmap::IndexSet;
+use std::alloc::Global;
+
+/// What a rule forbids and whom. Its kind has no stocks: those of a halt or a restriction stand in a set of their own,
+/// where a stock is found without a walk.
+#[derive(Debug, Drop)]
+pub struct BookRule {
+    pub kind: RuleKind,
+    pub stocks: IndexSet<Symbol>,
+    pub scope: Scope,
+}
+
+fn copied_scope(alloc: Global, scope: &Scope) -> Result<Scope, OutOfMemory>
+    ensures { IfOk result (λ r. r ≡ scope.now) }
+{
+    match scope {
+        Scope::All => Ok(Scope::All),
+        Scope::Only(names) => Ok(Scope::Only(AccountNames::new(names.as_slice().to_vec(alloc)?))),
+    }
+}
+
+/// The kind with no stocks on its list.
+fn kind_alone(alloc: Global, kind: &RuleKind) -> RuleKind
+    ensures { result ≡ with_stocks (λ listed. []) kind.now }
+{
+    match kind {
+        RuleKind::Halt(_) => RuleKind::Halt(Symbols::new(Vec::new(alloc))),
+        RuleKind::Restricted(_) => RuleKind::Restricted(Symbols::new(Vec::new(alloc))),
+        RuleKind::NoShort => RuleKind::NoShort,
+        RuleKind::NoIso => RuleKind::NoIso,
+        RuleKind::OddLot => RuleKind::OddLot,
+        RuleKind::OrderShares(limit) => RuleKind::OrderShares(*limit),
+        RuleKind::OrderValue(limit) => RuleKind::OrderValue(*limit),
+        RuleKind::Collar(limit) => RuleKind::Collar(*limit),
+        RuleKind::GrossShares(limit, count) => RuleKind::GrossShares(*limit, *count),
+        RuleKind::GrossValue(limit, count) => RuleKind::GrossValue(*limit, *count),
+        RuleKind::Rate(rate, count) => RuleKind::Rate(*rate, *count),
+        RuleKind::Repeat(repeat, count) => RuleKind::Repeat(*repeat, *count),
+    }
+}
+
+/// The stocks on the kind's list; none where it has no list.
+fn listed(kind: &RuleKind) -> &[Symbol]
+    ensures { result.now ≡ unwrap_or (stocks_of kind.now) [] }
+{
+    match kind {
+        RuleKind::Halt(stocks) => stocks.as_slice(),
+        RuleKind::Restricted(stocks) => stocks.as_slice(),
+        _ => &[],
+    }
+}
+
+fn set_of(alloc: Global, stocks: &[Symbol]) -> Result<IndexSet<Symbol>, OutOfMemory>
+    requires { IsTrue (are_distinct same_stock stocks.now) }
+    ensures { IfOk result (λ set. set.keys ≡ stocks.now) }
+{
+    let mut set = IndexSet::new(alloc);
+    for stock in stocks {
+        set.insert(*stock)?;
+    }
+    Ok(set)
+}
+
+impl BookRule {
+    pub fn new(alloc: Global, rule: &FileRule) -> Result<BookRule, OutOfMemory>
+        requires { IsTrue (lists_once rule.now) }
+        ensures { IfOk result (λ r. rule_named rule.now.name r ≡ rule.now) }
+    {
+        let stocks = set_of(alloc, listed(&rule.kind))?;
+        let scope = copied_scope(alloc, &rule.scope)?;
+        let kind = kind_alone(alloc, &rule.kind);
+        Ok(BookRule {
+            kind,
+            stocks,
+            scope,
+        })
+    }
+
+    pub fn limit(&self) -> Option<u64>
+        ensures { result ≡ limit_of (kind_of self.now) }
+    {
+        match &self.kind {
+            RuleKind::OrderShares(limit) => Some(*limit),
+            RuleKind::OrderValue(limit) => Some(*limit),
+            RuleKind::Collar(limit) => Some(*limit),
+            RuleKind::GrossShares(limit, _) => Some(*limit),
+            RuleKind::GrossValue(limit, _) => Some(*limit),
+            _ => None,
+        }
+    }
+
+    pub fn set_limit(&mut self, value: u64)
+        ensures kind { kind_of self.new ≡ with_limit value (kind_of self.old) }
+        ensures scope { self.new.scope ≡ self.old.scope }
+    {
+        match &mut self.kind {
+            RuleKind::OrderShares(limit) => *limit = value,
+            RuleKind::OrderValue(limit) => *limit = value,
+            RuleKind::Collar(limit) => *limit = value,
+            RuleKind::GrossShares(limit, _) => *limit = value,
+            RuleKind::GrossValue(limit, _) => *limit = value,
+            _ => {}
+        }
+    }
+
+    /// Whether the rule has a list of stocks.
+    pub fn has_list(&self) -> bool
+        ensures own { result ≡ is_some (stocks_of self.now.kind) }
+        ensures with_stocks { result ≡ is_some (stocks_of (kind_of self.now)) }
+    {
+        matches!(self.kind, RuleKind::Halt(_) | RuleKind::Restricted(_))
+    }
+
+    /// Whether the stock is on the rule's list.
+    pub fn lists(&self, stock: Symbol) -> bool
+        ensures { result ≡ option_map_or (λ stocks. lists_stock stocks stock) (stocks_of (kind_of self.now)) false }
+    {
+        self.has_list() && self.stocks.contains(&stock)
+    }
+
+    /// Puts the stock on the rule's list, if it has one.
+    pub fn restrict(&mut self, stock: Symbol) -> Result<(), OutOfMemory>
+        ensures kind { OnOk result (kind_of self.new ≡ with_stocks (adding stock) (kind_of self.old)) }
+        ensures refused { OnErr result (kind_of self.new ≡ kind_of self.old) }
+        ensures scope { self.new.scope ≡ self.old.scope }
+    {
+        self.stocks.insert(stock)?;
+        Ok(())
+    }
+
+    /// Takes the stock off the rule's list.
+    pub fn unrestrict(&mut self, stock: Symbol)
+        ensures kind { kind_of self.new ≡ with_stocks (removing stock) (kind_of self.old) }
+        ensures scope { self.new.scope ≡ self.old.scope }
+    {
+        self.stocks.shift_remove(&stock);
+    }
+
+    fn forbids_order(&self, figures: &RuleFigures, w: &ProposedOrder) -> bool
+        ensures { result ≡ kind_forbids (kind_of self.now) figures.now w.now }
+    {
+        match &self.kind {
+            RuleKind::Halt(_) | RuleKind::Restricted(_) => self.stocks.contains(&w.stock),
+            kind => is_forbidden_by_kind(kind, figures, w),
+        }
+    }
+
+    /// Whether the rule forbids the request: only orders of the accounts in its scope.
+    pub fn forbids(
+        &self,
+        name: RuleId,
+        figures: &RuleFigures,
+        facts: &Facts,
+        request: &Request,
+    ) -> bool
+        ensures { result ≡ rule_forbids facts.now request.now (rule_named name self.now) figures.now }
+    {
+        is_for_scope(&self.scope, facts)
+            && proposed(facts, request).is_some_and(|w| self.forbids_order(figures, &w))
+    }
+}

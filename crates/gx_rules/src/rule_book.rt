@@ -1,0 +1,226 @@
+//! The file's rules with their settings in force.
+
+ghost use Rattle.std.specs.Prelude.{◌≡◌, ◌≤◌, length, IsTrue, IsFalse, is_some, IfOk, OnOk, OnErr, IfSome, IfNone};
+ghost use Rattle.std.specs.List.{zip, list_all, list_any};
+ghost use Rattle.gx_history.specs.Asking.{knows_stocks};
+ghost use Rattle.gx_history.specs.Plain.{without_figures};
+ghost use Rattle.gx_history.specs.Rules.{applies, first_file_rule, first_forbidding, written_order, IsFirstForbidding};
+ghost use Rattle.gx_rules.specs.Books.{lists_once, names_differ, rules_of};
+ghost use Rattle.gx_rules.specs.Settings.{limit_in, lists_in, restricted, rule_in, unrestricted, with_limit_of};
+
+use crate::book_rule::BookRule;
+use crate::order::{NO_FIGURES, first_before, first_behind};
+use gx_history::facts::{Facts, Figures, RuleFigures};
+use gx_history::policy::{FileRule, Policy};
+use gx_history::record::{Request, RuleName};
+use gx_units::{OutOfMemory, RuleId, Symbol};
+use indexmap::IndexMap;
+use indexmap::map::Slice;
+use std::alloc::Global;
+use std::marker::Model;
+
+/// The file's rules with their settings in force: limits and lists of stocks change by commands, while the names,
+/// their order and their scopes stay. Contracts see it as the list of the rules, in the file's order.
+#[derive(Debug, Drop)]
+pub struct RuleBook {
+    rules: IndexMap<RuleId, BookRule>,
+}
+
+impl Model for RuleBook {
+    ghost use Rattle.std.specs.Prelude.{List, length, ◌≤◌};
+    ghost use Rattle.gx_history.specs.declared.policy.FileRule.{FileRule};
+    ghost use Rattle.gx_rules.specs.Books.{rules_of};
+
+    ghost Value = { List FileRule };
+
+    ghost view = { λ book. rules_of book.rules.entries };
+
+    ghost invariant = { λ book. length book.rules.entries ≤ 128 };
+}
+
+/// The rules, each under its name.
+fn kept_rules(alloc: Global, rules: &[FileRule]) -> Result<IndexMap<RuleId, BookRule>, OutOfMemory>
+    requires names_differ { IsTrue (names_differ rules.now) }
+    requires stocks_differ { IsTrue (list_all lists_once rules.now) }
+    ensures { IfOk result (λ r. rules_of r.entries ≡ rules.now) }
+{
+    let mut kept = IndexMap::new(alloc);
+    for rule in rules {
+        kept.insert(rule.name, BookRule::new(alloc, rule)?)?;
+    }
+    Ok(kept)
+}
+
+/// The first rule of the file that forbids, with the figures of each at its place.
+fn first_of_file(
+    entries: Slice<'_, RuleId, BookRule>,
+    figures: &[RuleFigures],
+    facts: &Facts,
+    request: &Request,
+) -> Option<RuleName>
+    ensures { result ≡ first_file_rule (zip (rules_of entries.entry) figures.now) facts.now request.now }
+{
+    let Some(((name, rule), entries_left)) = entries.split_first() else {
+        return None;
+    };
+    let [rule_figures, figures_left @ ..] = figures else {
+        return None;
+    };
+    if rule.forbids(*name, rule_figures, facts, request) {
+        return Some(RuleName::File(*name));
+    }
+    first_of_file(entries_left, figures_left, facts, request)
+}
+
+/// The first rule of the file that forbids, where all figures are 0.
+fn first_without_figures(
+    entries: Slice<'_, RuleId, BookRule>,
+    facts: &Facts,
+    request: &Request,
+) -> Option<RuleName>
+    ensures { result ≡ first_file_rule (without_figures (rules_of entries.entry)) facts.now request.now }
+{
+    let Some(((name, rule), entries_left)) = entries.split_first() else {
+        return None;
+    };
+    if rule.forbids(*name, &NO_FIGURES, facts, request) {
+        return Some(RuleName::File(*name));
+    }
+    first_without_figures(entries_left, facts, request)
+}
+
+#[tactic(auto, using(crate::proofs::Parts::first_in_parts))]
+fn first_in_order(
+    rules: &IndexMap<RuleId, BookRule>,
+    figures: &[RuleFigures],
+    facts: &Facts,
+    request: &Request,
+) -> Option<RuleName>
+    ensures { result ≡ first_forbidding (zip (rules_of rules.now.entries) figures.now) facts.now request.now }
+{
+    first_before(facts, request)
+        .or_else(|| first_of_file(rules.as_slice(), figures, facts, request))
+        .or_else(|| first_behind(facts, request))
+}
+
+#[tactic(auto, using(crate::proofs::Parts::first_in_parts))]
+fn first_in_order_without_figures(
+    rules: &IndexMap<RuleId, BookRule>,
+    facts: &Facts,
+    request: &Request,
+) -> Option<RuleName>
+    ensures { result ≡ first_forbidding (without_figures (rules_of rules.now.entries)) facts.now request.now }
+{
+    first_before(facts, request)
+        .or_else(|| first_without_figures(rules.as_slice(), facts, request))
+        .or_else(|| first_behind(facts, request))
+}
+
+impl RuleBook {
+    /// The rules as the policy file has them.
+    ///
+    /// # Errors
+    ///
+    /// `OutOfMemory` where the copy was refused its memory.
+    pub fn new(alloc: Global, policy: &Policy) -> Result<RuleBook, OutOfMemory>
+        ensures of_policy { IfOk result (λ b. b ≡ policy.now.rules) }
+    {
+        let rules = kept_rules(alloc, policy.rules())?;
+        Ok(RuleBook { rules })
+    }
+
+    /// Gives the rule another limit, as a granted Set Limit does.
+    pub fn set_limit(&mut self, rule: RuleId, value: u64)
+        requires has_limit { IsTrue (is_some (limit_in self.old rule)) }
+        ensures limited { self.new ≡ with_limit_of rule value self.old }
+    {
+        if let Some(index) = self.rules.get_index_of(&rule) {
+            self.rules[index].set_limit(value);
+        }
+    }
+
+    /// Puts the stock on the rule's list, at its end unless it is there, as a granted Restrict does.
+    ///
+    /// # Errors
+    ///
+    /// `OutOfMemory` where the list was refused the memory to grow; then nothing has changed.
+    pub fn restrict(&mut self, rule: RuleId, stock: Symbol) -> Result<(), OutOfMemory>
+        requires has_list { IsTrue (knows_stocks (rule_in self.old rule)) }
+        ensures restricted { OnOk result (self.new ≡ restricted rule stock self.old) }
+        ensures refused { OnErr result (self.new ≡ self.old) }
+    {
+        match self.rules.get_index_of(&rule) {
+            Some(index) => self.rules[index].restrict(stock),
+            None => Ok(()),
+        }
+    }
+
+    /// Takes the stock off the rule's list, as a granted Unrestrict does.
+    pub fn unrestrict(&mut self, rule: RuleId, stock: Symbol)
+        requires has_list { IsTrue (knows_stocks (rule_in self.old rule)) }
+        ensures unrestricted { self.new ≡ unrestricted rule stock self.old }
+    {
+        if let Some(index) = self.rules.get_index_of(&rule) {
+            self.rules[index].unrestrict(stock);
+        }
+    }
+
+    /// The limit of the rule in force; None where there is no such rule, or it has none that Set Limit may change.
+    pub fn limit(&self, rule: RuleId) -> Option<u64>
+        ensures limit { result ≡ limit_in self.now rule }
+    {
+        match self.rules.get(&rule) {
+            Some(found) => found.limit(),
+            None => None,
+        }
+    }
+
+    /// Whether there is such a rule, and it has a list of stocks.
+    pub fn has_list(&self, rule: RuleId) -> bool
+        ensures has_list { result ≡ knows_stocks (rule_in self.now rule) }
+    {
+        match self.rules.get(&rule) {
+            Some(found) => found.has_list(),
+            None => false,
+        }
+    }
+
+    /// Whether the rule has a list of stocks, and the stock is on it.
+    pub fn lists(&self, rule: RuleId, stock: Symbol) -> bool
+        ensures lists { result ≡ lists_in self.now rule stock }
+    {
+        match self.rules.get(&rule) {
+            Some(found) => found.lists(stock),
+            None => false,
+        }
+    }
+
+    /// The first rule of the written order that forbids the request, where entry `i` of the figures is for the file's
+    /// `i`-th rule; None where no rule does.
+    #[tactic(auto, using(crate::proofs::First::is_first_forbidding, crate::proofs::First::none_forbids))]
+    pub fn first_forbidding(
+        &self,
+        facts: &Facts,
+        figures: &Figures,
+        request: &Request,
+    ) -> Option<RuleName>
+        ensures few { length self.now ≤ 128 }
+        ensures first { result ≡ first_forbidding (zip self.now figures.now.rules) facts.now request.now }
+        ensures is_first { IfSome result (λ name. IsFirstForbidding (zip self.now figures.now.rules) facts.now request.now name) }
+        ensures none { IfNone result (IsFalse (list_any (applies facts.now request.now) (written_order (zip self.now figures.now.rules)))) }
+    {
+        first_in_order(&self.rules, &figures.rules, facts, request)
+    }
+
+    /// The first rule of the written order that forbids the request, where all figures are 0: right for rules whose
+    /// kinds ask for none. None where no rule does.
+    pub fn first_forbidding_without_figures(
+        &self,
+        facts: &Facts,
+        request: &Request,
+    ) -> Option<RuleName>
+        ensures first { result ≡ first_forbidding (without_figures self.now) facts.now request.now }
+    {
+        first_in_order_without_figures(&self.rules, facts, request)
+    }
+}
