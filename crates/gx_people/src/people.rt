@@ -8,7 +8,7 @@ ghost use Rattle.gx_history.specs.People.{account_of_role, is_officer, is_reader
 ghost use Rattle.gx_people.specs.Entitled.{granted_to, has, holds, may, password_is, reader_in, revoked_from, role_in, sees, user_in};
 ghost use Rattle.gx_people.specs.View.{role_of_standing};
 
-use crate::person::{Person, Standing, covers};
+use crate::person::{Person, Standing};
 use crate::power::Power;
 use gx_desk::WrittenName;
 use gx_history::policy::Policy;
@@ -129,7 +129,7 @@ impl People {
         ensures { result ≡ holds self.now officer account }
     {
         match self.standing(officer) {
-            Some(Standing::Officer(_, scope)) => covers(scope, account),
+            Some(Standing::Officer(_, scope)) => scope.covers(account),
             _ => false,
         }
     }

@@ -3,11 +3,11 @@
 ghost use Rattle.std.specs.Prelude.{◌≡◌, IfOk, OnOk, OnErr, IsOk, IsTrue, Some, filter, not};
 ghost use Rattle.gx_units.specs.Names.{same_account};
 ghost use Rattle.gx_history.specs.InForce.{in_role};
-ghost use Rattle.gx_history.specs.People.{covers, is_reader, names_account};
+ghost use Rattle.gx_history.specs.People.{is_reader, names_account};
 ghost use Rattle.gx_people.specs.Entitled.{with_account, without_account};
 ghost use Rattle.gx_people.specs.View.{role_of_standing};
 
-use gx_history::policy::{AccountNames, Powers, Role, Scope};
+use gx_history::policy::{Powers, Role, Scope};
 use gx_units::{AccountName, OutOfMemory, Password};
 use std::alloc::Global;
 
@@ -41,24 +41,6 @@ fn remove(names: &mut Vec<AccountName>, account: AccountName)
     names.retain(|name| *name != account);
 }
 
-fn copied(alloc: Global, scope: &Scope) -> Result<Scope, OutOfMemory>
-    ensures { IfOk result (λ r. r ≡ scope.now) }
-{
-    match scope {
-        Scope::All => Ok(Scope::All),
-        Scope::Only(names) => Ok(Scope::Only(AccountNames::new(names.as_slice().to_vec(alloc)?))),
-    }
-}
-
-pub(crate) fn covers(scope: &Scope, account: AccountName) -> bool
-    ensures { result ≡ covers scope.now account }
-{
-    match scope {
-        Scope::All => true,
-        Scope::Only(names) => names_account(names.as_slice(), account),
-    }
-}
-
 impl Standing {
     /// What the policy says that he is.
     pub(crate) fn of(alloc: Global, role: &Role) -> Result<Standing, OutOfMemory>
@@ -66,7 +48,7 @@ impl Standing {
     {
         match role {
             Role::Trader(account) => Ok(Standing::Trader(*account)),
-            Role::Officer(powers, scope) => Ok(Standing::Officer(*powers, copied(alloc, scope)?)),
+            Role::Officer(powers, scope) => Ok(Standing::Officer(*powers, scope.copied(alloc)?)),
             Role::Reader(names) => Ok(Standing::Reader(names.as_slice().to_vec(alloc)?)),
         }
     }

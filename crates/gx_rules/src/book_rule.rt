@@ -13,7 +13,7 @@ ghost use Rattle.gx_rules.specs.Books.{kind_of, lists_once, rule_named};
 use crate::file_rule::{is_for_scope, is_forbidden_by_kind};
 use crate::request::proposed;
 use gx_history::facts::{Facts, ProposedOrder, RuleFigures};
-use gx_history::policy::{AccountNames, FileRule, RuleKind, Scope, Symbols};
+use gx_history::policy::{FileRule, RuleKind, Scope, Symbols};
 use gx_history::record::Request;
 use gx_units::{OutOfMemory, RuleId, Symbol};
 use indexmap::IndexSet;
@@ -26,15 +26,6 @@ pub struct BookRule {
     pub kind: RuleKind,
     pub stocks: IndexSet<Symbol>,
     pub scope: Scope,
-}
-
-fn copied_scope(alloc: Global, scope: &Scope) -> Result<Scope, OutOfMemory>
-    ensures { IfOk result (λ r. r ≡ scope.now) }
-{
-    match scope {
-        Scope::All => Ok(Scope::All),
-        Scope::Only(names) => Ok(Scope::Only(AccountNames::new(names.as_slice().to_vec(alloc)?))),
-    }
 }
 
 /// The kind with no stocks on its list.
@@ -85,7 +76,7 @@ impl BookRule {
         ensures { IfOk result (λ r. rule_named rule.now.name r ≡ rule.now) }
     {
         let stocks = set_of(alloc, listed(&rule.kind))?;
-        let scope = copied_scope(alloc, &rule.scope)?;
+        let scope = rule.scope.copied(alloc)?;
         let kind = kind_alone(alloc, &rule.kind);
         Ok(BookRule {
             kind,

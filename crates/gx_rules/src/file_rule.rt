@@ -4,33 +4,17 @@ ghost use Rattle.std.specs.Prelude.{◌≡◌, ◌+◌, ◌-◌, false, nat_lt};
 ghost use Rattle.std.specs.Option.{option_map_or};
 ghost use Rattle.gx_units.specs.Money.{value};
 ghost use Rattle.gx_history.specs.InForce.{lists_stock};
-ghost use Rattle.gx_history.specs.People.{covers, names_account};
+ghost use Rattle.gx_history.specs.People.{covers};
 ghost use Rattle.gx_history.specs.Rules.{kind_forbids, is_outside_collar, new_open};
 
 use gx_history::facts::{Facts, ProposedOrder, RuleFigures};
 use gx_history::policy::{RuleKind, Scope};
-use gx_units::{AccountName, Symbol, value_of};
+use gx_units::{Symbol, value_of};
 
 fn lists_stock(stocks: &[Symbol], stock: Symbol) -> bool
     ensures { result ≡ lists_stock stocks.now stock }
 {
     stocks.iter().any(|s| *s == stock)
-}
-
-fn names_account(names: &[AccountName], account: AccountName) -> bool
-    ensures { result ≡ names_account names.now account }
-{
-    names.iter().any(|name| *name == account)
-}
-
-/// Whether the scope holds the account.
-pub fn covers(scope: &Scope, account: AccountName) -> bool
-    ensures { result ≡ covers scope.now account }
-{
-    match scope {
-        Scope::All => true,
-        Scope::Only(names) => names_account(names.as_slice(), account),
-    }
 }
 
 /// Whether the price is more than `limit` ten-thousandths of the reference away from it.
@@ -105,5 +89,5 @@ pub fn is_forbidden_by_kind(kind: &RuleKind, figures: &RuleFigures, w: &Proposed
 pub fn is_for_scope(scope: &Scope, facts: &Facts) -> bool
     ensures { result ≡ option_map_or (covers scope.now) facts.now.account false }
 {
-    facts.account.is_some_and(|account| covers(scope, account))
+    facts.account.is_some_and(|account| scope.covers(account))
 }

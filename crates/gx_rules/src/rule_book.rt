@@ -197,7 +197,7 @@ impl RuleBook {
 
     /// The first rule of the written order that forbids the request, where entry `i` of the figures is for the file's
     /// `i`-th rule; None where no rule does.
-    #[tactic(auto, using(crate::proofs::First::is_first_forbidding, crate::proofs::First::none_forbids))]
+    #[tactic(auto, using(gx_history_laws::proofs::Order::is_first_forbidding, gx_history_laws::proofs::Order::none_forbids))]
     pub fn first_forbidding(
         &self,
         facts: &Facts,

@@ -4,10 +4,10 @@ ghost use Rattle.std.specs.Prelude.{◌≡◌};
 ghost use Rattle.gx_history.specs.declared.policy.Scope.TheVariants as scopes;
 
 use crate::order::{first_before, first_behind};
-use crate::{covers, is_forbidden, is_forbidden_by_kind};
+use crate::{is_forbidden, is_forbidden_by_kind};
 use gx_desk::{Action, Command, Tag};
 use gx_history::facts::{Facts, ProposedOrder, RuleFigures};
-use gx_history::policy::{AccountNames, Count, FileRule, Rate, RuleKind, Scope};
+use gx_history::policy::{Count, FileRule, Rate, RuleKind, Scope};
 use gx_history::record::{Request, RuleName};
 use gx_ouch::EnterOrder;
 use gx_units::{AccountName, Firm, RuleId, Symbol, Token};
@@ -282,17 +282,5 @@ fn officers_are_judged_last(rt: HostRuntime) -> Result<(), Fail> {
     };
     assert_eq!(rt; first_built_in(&powerless, &kill), Some(RuleName::Q2));
     assert_eq!(rt; first_built_in(&NOTHING_WRONG, &kill), None);
-    Ok(())
-}
-
-#[test]
-fn scopes_hold_their_accounts(rt: HostRuntime) -> Result<(), Fail> {
-    let beta = AccountName {
-        bytes: *b"BETA    ",
-    };
-    let one = Scope::Only(AccountNames::new(Vec::from_array(rt.alloc(), [ALFA])?));
-    assert!(rt; covers(&Scope::All, beta));
-    assert!(rt; covers(&one, ALFA));
-    assert!(rt; !covers(&one, beta));
     Ok(())
 }

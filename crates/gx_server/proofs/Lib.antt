@@ -4,8 +4,6 @@ pub mod Runs
 pub mod Parts
 pub mod Faults
 pub mod Serving
-pub mod Cutting
-pub mod Streaming
 pub mod Doing
 pub mod ScriptCuts
 pub mod ScriptRuns

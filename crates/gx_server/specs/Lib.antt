@@ -3,9 +3,6 @@ pub mod Transcript
 pub mod Devices
 pub mod Piping
 pub mod Serving
-pub mod Words
-pub mod ScriptLines
-pub mod Printing
 pub mod Scripting
 pub mod Leaving
 pub mod ScriptPiping

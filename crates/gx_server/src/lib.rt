@@ -4,18 +4,14 @@
 mod counted;
 mod fault;
 mod laws;
-mod line;
 mod pipe;
 mod policies;
-mod printing;
 mod rows;
 mod running;
 mod script;
 mod script_fault;
 mod session;
-mod words;
 mod write;
-mod wrong;
 
 pub use counted::Counted;
 pub use fault::PipeFault;
@@ -23,9 +19,7 @@ pub use laws::{
     lines_make_the_text, nothing_follows, nothing_follows_a_bad_line, silent_before_login,
     stream_is_sent,
 };
-pub use line::{ScriptLine, ScriptStep};
 pub use pipe::run_pipe;
 pub use policies::{policy_line, sample_without_figures};
 pub use script::{run_script, run_script_explained};
 pub use script_fault::{Explained, ScriptFault};
-pub use wrong::{Wanted, Wrong};

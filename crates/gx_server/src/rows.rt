@@ -14,6 +14,7 @@ use gx_core::{Gate, LoginAnswer, StepFault};
 use gx_history::record::{Asked, Request};
 use gx_history::report::Report;
 use gx_ouch::MESSAGE_ROOM;
+use gx_script::append;
 use gx_soup::{ClientPacket, LoginRequest, Payload, ServerPacket, encode};
 use gx_units::{OutOfMemory, UserName};
 use std::alloc::Global;
@@ -167,13 +168,6 @@ fn answer(
         }
         Phase::Done => Ok(Vec::new(alloc)),
     }
-}
-
-pub(crate) fn append(text: &mut Vec<u8>, more: &[u8]) -> Result<(), OutOfMemory>
-    ensures { OnOk result (text.new.items ≡ text.old.items ++ more.now) }
-{
-    text.extend_from_slice(more)?;
-    Ok(())
 }
 
 fn report_packet(alloc: Global, report: &Report) -> Result<Vec<u8>, OutOfMemory>

@@ -1,0 +1,5 @@
+//! Tests of gx_core.
+#![tactic(auto)]
+
+#[cfg(test)]
+mod gates;

@@ -1,0 +1,127 @@
+-- What a line of a script means.
+use Rattle.std.specs.Prelude.{ℕ, ◌-◌, Bool, ◌||◌, ◌==◌, nat_lt, if◌then◌else◌, List, length, take, codes, bytes_eq, slice_index, Option, Some, None, option_map, IsTrue}
+use Rattle.gx_units.specs.declared.names.AccountName.{AccountName}
+use Rattle.gx_desk.specs.declared.Tag.{Tag}
+use Rattle.gx_ouch.specs.declared.inbound.EnterOrder.{EnterOrder}
+use Rattle.gx_history.specs.Brought.{is_brought}
+use Rattle.gx_history.specs.Payloads.{request_of}
+use Rattle.gx_history.specs.Showing.{has_its_first}
+use Rattle.gx_script.specs.declared.line.ScriptStep.{ScriptStep}
+use Rattle.gx_script.specs.declared.line.ScriptStep.TheVariants.{Login, Logout, Enter, Kill, Lift, Raw}
+use Rattle.gx_script.specs.declared.line.ScriptLine.{ScriptLine}
+use Rattle.gx_script.specs.declared.line.ScriptLine.TheVariants.{Skipped, Step, Stream}
+use Rattle.gx_script.specs.Words.{◌>>=◌, words_of, first, alone, itself, is_empty, name_of, user_of, number_of, byte_of, bytes_of}
+
+-- `PASSWORD NUMBER`: the first report wanted, 0 for the last one
+unfoldable pub login_form : List (List ℕ) → Option ScriptStep
+login_form words = do
+  given ← first (name_of 10) words
+  wanted ← first (number_of 64) given.1
+  alone (Login (record { bytes = given.0 }) wanted.0) wanted.1
+
+-- an order with a blank firm, displayed, by an agency, in no sweep, of any quantity, in no cross, for no retail customer
+abbrev pub plain_order : List ℕ → ℕ → ℕ → List ℕ → ℕ → ℕ → EnterOrder
+plain_order token side shares stock price time_in_force = record {
+  token = record { bytes = token };
+  side = side;
+  shares = shares;
+  stock = record { bytes = stock };
+  price = price;
+  time_in_force = time_in_force;
+  firm = record { bytes = codes "    " };
+  display = 89;
+  capacity = 65;
+  intermarket_sweep = 78;
+  minimum_quantity = 0;
+  cross_type = 78;
+  customer_type = 78;
+}
+
+-- `TOKEN SIDE SHARES STOCK PRICE TIF`
+unfoldable pub enter_form : List (List ℕ) → Option ScriptStep
+enter_form words = do
+  token ← first (name_of 14) words
+  side ← first byte_of token.1
+  shares ← first (number_of 32) side.1
+  stock ← first (name_of 8) shares.1
+  price ← first (number_of 32) stock.1
+  time_in_force ← first (number_of 32) price.1
+  alone (Enter (plain_order token.0 side.0 shares.0 stock.0 price.0 time_in_force.0)) time_in_force.1
+
+-- `TAG ACCOUNT`
+unfoldable pub account_form : List (List ℕ) → Option (Tag × AccountName)
+account_form words = do
+  tag ← first (name_of 14) words
+  account ← first (name_of 8) tag.1
+  alone (record { bytes = tag.0 }, record { bytes = account.0 }) account.1
+
+-- `HEX`: what these bytes ask for as the payload of Unsequenced Data
+unfoldable pub raw_form : List (List ℕ) → Option ScriptStep
+raw_form words = do
+  payload ← first bytes_of words
+  alone (Raw (request_of payload.0)) payload.1
+
+-- the form that the word names, of the words behind it
+unfoldable pub step_form : List ℕ → List (List ℕ) → Option ScriptStep
+step_form name words =
+    if bytes_eq name (codes "login") then login_form words
+    else (if bytes_eq name (codes "logout") then alone Logout words
+    else (if bytes_eq name (codes "enter") then enter_form words
+    else (if bytes_eq name (codes "kill") then option_map (λ named. Kill named.0 named.1) (account_form words)
+    else (if bytes_eq name (codes "lift") then option_map (λ named. Lift named.0 named.1) (account_form words)
+    else (if bytes_eq name (codes "raw") then raw_form words
+    else None)))))
+
+-- `M USER ..`, M being the first word: what the user asks for at the moment M
+unfoldable pub step_line : List ℕ → List (List ℕ) → Option ScriptLine
+step_line word words = do
+  moment ← number_of 64 word
+  user ← first user_of words
+  name ← first itself user.1
+  step ← step_form name.0 name.1
+  Some (Step moment user.0 step)
+
+-- `stream USER`, without its first word
+unfoldable pub stream_line : List (List ℕ) → Option ScriptLine
+stream_line words = do
+  user ← first user_of words
+  alone (Stream user.0) user.1
+
+-- a line by its words
+unfoldable pub line_of_words : List (List ℕ) → Option ScriptLine
+line_of_words words = do
+  word ← first itself words
+  if bytes_eq word.0 (codes "stream") then stream_line word.1 else step_line word.0 word.1
+
+-- the line without the CR that may stand at its end
+abbrev pub without_cr : List ℕ → List ℕ
+without_cr line = if slice_index line (length line - 1) == 13 then take (length line - 1) line else line
+
+-- more bytes than a line may have
+abbrev pub is_too_long : List ℕ → Bool
+is_too_long line = nat_lt 1024 (length (without_cr line))
+
+-- an empty line, or a comment: it begins with `#`
+abbrev pub is_skipped : List ℕ → Bool
+is_skipped line = is_empty line || slice_index line 0 == 35
+
+abbrev pub line_within : List ℕ → Option ScriptLine
+line_within line = if is_skipped line then Some Skipped else line_of_words (words_of line)
+
+-- what a line means, or None where it is bad: its bytes without the LF, at most 1,024 without the CR at its end
+unfoldable pub line_of : List ℕ → Option ScriptLine
+line_of line = if is_too_long line then None else line_within (without_cr line)
+
+-- a request that can be put to the gate
+abbrev pub IsAskable : ScriptStep → Type 0
+IsAskable (Raw request) = IsTrue (is_brought request) × IsTrue (has_its_first request)
+IsAskable (Login given wanted) = Unit {0}
+IsAskable Logout = Unit {0}
+IsAskable (Enter order) = Unit {0}
+IsAskable (Kill tag account) = Unit {0}
+IsAskable (Lift tag account) = Unit {0}
+
+abbrev pub IsAskableLine : ScriptLine → Type 0
+IsAskableLine (Step moment user step) = IsAskable step
+IsAskableLine Skipped = Unit {0}
+IsAskableLine (Stream user) = Unit {0}

@@ -1,0 +1,302 @@
+//! Lines of a script.
+
+ghost use Rattle.std.specs.Prelude.{◌≡◌, ◌≢◌, ◌≤◌, ◌∷◌, [], length, bytes_eq, IsTrue, IfOk, IfSome, MatchResult, option_map};
+ghost use Rattle.std.specs.Result.{result_ok};
+ghost use Rattle.gx_history.specs.Brought.{is_brought};
+ghost use Rattle.gx_history.specs.Payloads.{request_of};
+ghost use Rattle.gx_history.specs.Showing.{has_its_first};
+ghost use Rattle.gx_script.specs.Words.{Takes, alone, name_of, user_of, number_of, byte_of, bytes_of, itself};
+ghost use Rattle.gx_script.specs.ScriptLines.{login_form, plain_order, enter_form, account_form, raw_form, step_form, step_line, stream_line, line_of_words, without_cr, is_too_long, is_skipped, line_of, IsAskable, IsAskableLine};
+
+use crate::words::{Words, byte, name, number32, number64};
+use crate::wrong::{Wanted, Wrong};
+use gx_desk::Tag;
+use gx_history::record::Request;
+use gx_ouch::EnterOrder;
+use gx_units::{AccountName, Firm, Password, Symbol, Token, UserName};
+
+/// What a line of a script asks for in a user's name.
+#[derive(Clone, Copy, Debug, PartialEq, Eq)]
+pub enum ScriptStep {
+    /// `login PASSWORD NUMBER`: to the blank session, the first report wanted, 0 for the last one.
+    Login(Password, u64),
+    /// `logout`.
+    Logout,
+    /// `enter TOKEN SIDE SHARES STOCK PRICE TIF`.
+    Enter(EnterOrder),
+    /// `kill TAG ACCOUNT`.
+    Kill(Tag, AccountName),
+    /// `lift TAG ACCOUNT`.
+    Lift(Tag, AccountName),
+    /// `raw HEX`: what the bytes ask for as the payload of Unsequenced Data.
+    Raw(Request),
+}
+
+/// What a line of a script says.
+#[derive(Clone, Copy, Debug, PartialEq, Eq)]
+pub enum ScriptLine {
+    /// An empty line, or a comment.
+    Skipped,
+    /// `M USER ..`: a step at a moment, by a user, whose name is in upper case.
+    Step(u64, UserName, ScriptStep),
+    /// `stream USER`: the reports that the user is owed.
+    Stream(UserName),
+}
+
+/// The value, or that the last word taken is wrong.
+fn wanted<T: Drop>(words: &Words, found: Option<T>, wanted: Wanted) -> Result<T, Wrong>
+    ensures { result_ok result ≡ found }
+{
+    let word = words.taken();
+    found.ok_or(Wrong { word, wanted })
+}
+
+fn take_word<'a>(words: &mut Words<'a>, wants: Wanted) -> Result<&'a [u8], Wrong>
+    ensures first { MatchResult result (λ word. words.old ≡ word.now ∷ words.new) (λ _. words.old ≡ []) }
+    ensures short { IfOk result (λ word. length word.now ≤ 1024) }
+{
+    let word = words.next();
+    wanted(words, word, wants)
+}
+
+fn take_name<const N: usize>(words: &mut Words, wants: Wanted) -> Result<[u8; N], Wrong>
+    ensures { Takes (name_of N) words.old words.new result }
+{
+    let word = take_word(words, wants)?;
+    wanted(words, name(word), wants)
+}
+
+fn take_user(words: &mut Words) -> Result<UserName, Wrong>
+    ensures { Takes user_of words.old words.new result }
+{
+    let bytes = take_name(words, Wanted::User)?;
+    Ok(UserName { bytes }.folded())
+}
+
+fn take_number64(words: &mut Words, wants: Wanted) -> Result<u64, Wrong>
+    ensures { Takes (number_of 64) words.old words.new result }
+{
+    let word = take_word(words, wants)?;
+    wanted(words, number64(word), wants)
+}
+
+fn take_number32(words: &mut Words, wants: Wanted) -> Result<u32, Wrong>
+    ensures { Takes (number_of 32) words.old words.new result }
+{
+    let word = take_word(words, wants)?;
+    wanted(words, number32(word), wants)
+}
+
+fn take_byte(words: &mut Words, wants: Wanted) -> Result<u8, Wrong>
+    ensures { Takes byte_of words.old words.new result }
+{
+    let word = take_word(words, wants)?;
+    wanted(words, byte(word), wants)
+}
+
+/// That no word is left.
+fn end(words: &mut Words) -> Result<(), Wrong>
+    ensures { MatchResult result (λ _. words.old ≡ []) (λ _. words.old ≢ []) }
+{
+    match words.next() {
+        None => Ok(()),
+        Some(_) => Err(Wrong {
+            word: words.taken(),
+            wanted: Wanted::End,
+        }),
+    }
+}
+
+#[tactic(auto, unfolding(crate::specs::ScriptLines::login_form))]
+fn login_form(words: &mut Words) -> Result<ScriptStep, Wrong>
+    ensures meaning { result_ok result ≡ login_form words.old }
+    ensures askable { IfOk result IsAskable }
+{
+    let bytes = take_name(words, Wanted::Password)?;
+    let wanted = take_number64(words, Wanted::Number)?;
+    end(words)?;
+    Ok(ScriptStep::Login(Password { bytes }, wanted))
+}
+
+#[tactic(auto, unfolding(crate::specs::ScriptLines::enter_form))]
+fn enter_form(words: &mut Words) -> Result<ScriptStep, Wrong>
+    ensures meaning { result_ok result ≡ enter_form words.old }
+    ensures askable { IfOk result IsAskable }
+{
+    let token = take_name(words, Wanted::Token)?;
+    let side = take_byte(words, Wanted::Side)?;
+    let shares = take_number32(words, Wanted::Shares)?;
+    let stock = take_name(words, Wanted::Stock)?;
+    let price = take_number32(words, Wanted::Price)?;
+    let time_in_force = take_number32(words, Wanted::TimeInForce)?;
+    end(words)?;
+    Ok(ScriptStep::Enter(EnterOrder {
+        token: Token { bytes: token },
+        side,
+        shares,
+        stock: Symbol { bytes: stock },
+        price,
+        time_in_force,
+        firm: Firm { bytes: *b"    " },
+        display: b'Y',
+        capacity: b'A',
+        intermarket_sweep: b'N',
+        minimum_quantity: 0,
+        cross_type: b'N',
+        customer_type: b'N',
+    }))
+}
+
+/// The tag and the account of a command.
+#[tactic(auto, unfolding(crate::specs::ScriptLines::account_form))]
+fn account_form(words: &mut Words) -> Result<(Tag, AccountName), Wrong>
+    ensures { result_ok result ≡ account_form words.old }
+{
+    let tag = take_name(words, Wanted::Tag)?;
+    let account = take_name(words, Wanted::Account)?;
+    end(words)?;
+    Ok((Tag { bytes: tag }, AccountName { bytes: account }))
+}
+
+/// What the bytes that hex digits spell ask for.
+fn request_of_hex(word: &[u8]) -> Option<Request>
+    requires { length word.now ≤ 1024 }
+    ensures meaning { result ≡ option_map request_of (bytes_of word.now) }
+    ensures brought { IfSome result (λ request. IsTrue (is_brought request)) }
+    ensures shown { IfSome result (λ request. IsTrue (has_its_first request)) }
+{
+    if word.is_empty() {
+        return None;
+    }
+    let mut room = [0u8; 512];
+    let payload = &mut room[..word.len() / 2];
+    match hex::decode_to_slice(word, payload) {
+        Ok(()) => Some(Request::read(payload)),
+        Err(_) => None,
+    }
+}
+
+#[tactic(auto, unfolding(crate::specs::ScriptLines::raw_form))]
+fn raw_form(words: &mut Words) -> Result<ScriptStep, Wrong>
+    ensures meaning { result_ok result ≡ raw_form words.old }
+    ensures askable { IfOk result IsAskable }
+{
+    let word = take_word(words, Wanted::Hex)?;
+    let request = wanted(words, request_of_hex(word), Wanted::Hex)?;
+    end(words)?;
+    Ok(ScriptStep::Raw(request))
+}
+
+fn is(word: &[u8], name: &[u8]) -> bool
+    ensures { result ≡ bytes_eq word.now name.now }
+{
+    word == name
+}
+
+/// The form that the word names, of the words behind it.
+#[tactic(auto, unfolding(crate::specs::ScriptLines::step_form))]
+fn step_form(form: &[u8], words: &mut Words) -> Result<ScriptStep, Wrong>
+    ensures meaning { result_ok result ≡ step_form form.now words.old }
+    ensures askable { IfOk result IsAskable }
+{
+    if is(form, b"login") {
+        return login_form(words);
+    }
+    if is(form, b"logout") {
+        end(words)?;
+        return Ok(ScriptStep::Logout);
+    }
+    if is(form, b"enter") {
+        return enter_form(words);
+    }
+    if is(form, b"kill") {
+        let (tag, account) = account_form(words)?;
+        return Ok(ScriptStep::Kill(tag, account));
+    }
+    if is(form, b"lift") {
+        let (tag, account) = account_form(words)?;
+        return Ok(ScriptStep::Lift(tag, account));
+    }
+    if is(form, b"raw") {
+        return raw_form(words);
+    }
+    wanted(words, None, Wanted::Form)
+}
+
+#[tactic(auto, unfolding(crate::specs::ScriptLines::step_line))]
+fn step_line(moment: &[u8], words: &mut Words) -> Result<ScriptLine, Wrong>
+    ensures meaning { result_ok result ≡ step_line moment.now words.old }
+    ensures askable { IfOk result IsAskableLine }
+{
+    let moment = wanted(words, number64(moment), Wanted::Moment)?;
+    let user = take_user(words)?;
+    let form = take_word(words, Wanted::Form)?;
+    let step = step_form(form, words)?;
+    Ok(ScriptLine::Step(moment, user, step))
+}
+
+#[tactic(auto, unfolding(crate::specs::ScriptLines::stream_line))]
+fn stream_line(words: &mut Words) -> Result<ScriptLine, Wrong>
+    ensures meaning { result_ok result ≡ stream_line words.old }
+    ensures askable { IfOk result IsAskableLine }
+{
+    let user = take_user(words)?;
+    end(words)?;
+    Ok(ScriptLine::Stream(user))
+}
+
+#[tactic(auto, unfolding(crate::specs::ScriptLines::line_of_words))]
+fn line_of_words(words: &mut Words) -> Result<ScriptLine, Wrong>
+    ensures meaning { result_ok result ≡ line_of_words words.old }
+    ensures askable { IfOk result IsAskableLine }
+{
+    let word = take_word(words, Wanted::Moment)?;
+    if is(word, b"stream") {
+        return stream_line(words);
+    }
+    step_line(word, words)
+}
+
+/// The line without the CR that may stand at its end.
+fn without_cr(line: &[u8]) -> &[u8]
+    ensures { result.now ≡ without_cr line.now }
+{
+    match line {
+        [front @ .., b'\r'] => front,
+        _ => line,
+    }
+}
+
+/// Whether a line has more bytes than it may have: they stay too many, whatever follows them.
+pub fn is_too_long(line: &[u8]) -> bool
+    ensures { result ≡ is_too_long line.now }
+{
+    without_cr(line).len() > 1024
+}
+
+fn is_skipped(line: &[u8]) -> bool
+    ensures { result ≡ is_skipped line.now }
+{
+    matches!(line, [] | [b'#', ..])
+}
+
+impl ScriptLine {
+    /// What a line says: its bytes without the LF.
+    #[tactic(auto, unfolding(crate::specs::ScriptLines::line_of))]
+    pub fn read(line: &[u8]) -> Result<ScriptLine, Wrong>
+        ensures meaning { result_ok result ≡ line_of line.now }
+        ensures askable { IfOk result IsAskableLine }
+    {
+        if is_too_long(line) {
+            return Err(Wrong {
+                word: 1,
+                wanted: Wanted::Shorter,
+            });
+        }
+        let line = without_cr(line);
+        if is_skipped(line) {
+            return Ok(ScriptLine::Skipped);
+        }
+        line_of_words(&mut Words::new(line))
+    }
+}

@@ -1,0 +1,5 @@
+//! Tests of gx_plain.
+#![tactic(auto)]
+
+#[cfg(test)]
+mod plain;

@@ -1,0 +1,5 @@
+//! Tests of gx_policyfile.
+#![tactic(auto)]
+
+#[cfg(test)]
+mod policy_files;
