@@ -1,10 +1,7 @@
 -- The laws of the users in force.
-use Rattle.std.proofs.Common.{◌≡◌, Bool, true, false, List, [], ◌∷◌, ◌++◌, fold, refl, ap, sym, ◌∙◌, true≢false}
-use Rattle.std.specs.Prelude.{Option, Some, None, option_map, option_and_then, is_some, filter_map}
+use Rattle.std.proofs.Common.{◌≡◌, Bool, true, false, List, [], ◌∷◌, ◌++◌, refl, ap, sym, ◌∙◌, true≢false}
+use Rattle.std.specs.Prelude.{Option, Some, None, option_map, option_and_then, is_some}
 use Rattle.std.specs.Option.{option_map_or}
-use Rattle.std.specs.List.{cons_option}
-use Rattle.std.proofs.lemmas.List.Elements.{filter_map-append}
-use Rattle.std.proofs.lemmas.List.Sums.{fold-append}
 use Rattle.gx_units.specs.declared.names.AccountName.{AccountName}
 use Rattle.gx_units.specs.declared.names.Password.{Password}
 use Rattle.gx_units.specs.declared.names.UserName.{UserName}
@@ -20,9 +17,10 @@ use Rattle.gx_history.specs.Asking.{has_power, sees_now}
 use Rattle.gx_history.specs.InForce.{is_entitled}
 use Rattle.gx_history.specs.Logins as logins
 use Rattle.gx_history.specs.People.{account_of, account_of_role, is_officer, is_trader, reader_named, role_of, user_named}
-use Rattle.gx_history.specs.Requests.{granted_action, granted_actions}
+use Rattle.gx_history.specs.Requests.{granted_action}
 use Rattle.gx_history.specs.Soundness.{is_sound}
 use Rattle.gx_people.specs.Entitled.{given, granted_to, has, has_in_role, holds, holds_in_role, password_is, people_in_force, power_of, reader_in, revoked_from, role_in, sees, user_in}
+use Rattle.gx_history_laws.proofs.NextInForce.{granted_next}
 use Rattle.gx_people.proofs.Table.{is_some_map, map_or, some_is}
 use Rattle.gx_people.proofs.Changing.{RoleStays, reader_in_force, role_word, stays_in_force}
 use Rattle.gx_people.proofs.Entitling.{kept}
@@ -44,19 +42,13 @@ pub first_users : (policy : PolicyData) → people_in_force policy [] ≡ policy
 unfolding people_in_force
 first_users policy = refl
 
-by_one : (users : List User) (action : Option Action) → fold given users (cons_option action []) ≡ option_map_or (given users) action users
-by_one users None = refl
-by_one users (Some action) = refl
-
 pub next_users : (policy : PolicyData) (history : List RecordData) (r : RecordData)
     → people_in_force policy (history ++ r ∷ []) ≡ option_map_or (given (people_in_force policy history)) (granted_action r) (people_in_force policy history)
 unfolding people_in_force
-next_users policy history r =
-    ap (fold given policy.users) (filter_map-append granted_action history (r ∷ []))
-    ∙ fold-append given policy.users (granted_actions history) (filter_map granted_action (r ∷ []))
-    ∙ by_one (fold given policy.users (granted_actions history)) (granted_action r)
+next_users policy history r = granted_next given policy.users history r
 
-power_for_is : (role : Option Role) (action : Action) → has_in_role role (power_of action) ≡ has_power role action
+-- a role has the power that the command asks for exactly where the rules say so
+pub power_for_is : (role : Option Role) (action : Action) → has_in_role role (power_of action) ≡ has_power role action
 power_for_is None action = refl
 power_for_is (Some (roles.Trader account)) action = refl
 power_for_is (Some (roles.Reader names)) action = refl

@@ -1,7 +1,9 @@
 //! The powers that commands ask for.
 
-ghost use Rattle.std.specs.Prelude.{◌≡◌};
-ghost use Rattle.gx_people.specs.Entitled.{includes, power_of};
+ghost use Rattle.std.specs.Prelude.{◌≡◌, Option};
+ghost use Rattle.gx_history.specs.declared.policy.Role.{Role};
+ghost use Rattle.gx_history.specs.Asking.{has_power};
+ghost use Rattle.gx_people.specs.Entitled.{has_in_role, includes, power_of};
 
 use gx_desk::Action;
 use gx_history::policy::Powers;
@@ -24,9 +26,11 @@ pub enum Power {
 }
 
 impl Power {
-    /// The power that the command asks for.
+    /// The power that the command asks for: a role that has it has what the rules ask of the command.
+    #[tactic(auto, using(crate::proofs::Keeping::power_for_is))]
     pub fn of(action: &Action) -> Power
-        ensures { result ≡ power_of action.now }
+        ensures power { result ≡ power_of action.now }
+        ensures asked { (role : Option Role) → has_in_role role result ≡ has_power role action.now }
     {
         match action {
             Action::Kill(_) => Power::Kill,

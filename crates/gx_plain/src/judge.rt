@@ -83,7 +83,6 @@ const NO_COMMAND: CommandFacts = CommandFacts {
 };
 
 /// What the rules ask about a command that concerns one account.
-#[tactic(auto, using(crate::proofs::Staging::power_asked))]
 fn on_account(
     people: &People,
     policy: &Policy,

@@ -1,39 +1,19 @@
 -- What changed settings leave as it was.
-use Rattle.std.proofs.Common.{◌≡◌, ℕ, Bool, true, false, cond, not, ◌||◌, List, [], ◌∷◌, ◌++◌, map, fold, refl, sym, ap, ◌∙◌, Option, Some, None, is_some}
+use Rattle.std.proofs.Common.{◌≡◌, ℕ, Bool, true, false, cond, not, ◌||◌, List, [], ◌∷◌, ◌++◌, map, refl, sym, ap, ◌∙◌, Option, Some, None, is_some}
 use Rattle.std.specs.Option.{option_and_then, option_map_or}
-use Rattle.std.specs.List.{cons_option, filter_map}
 use Rattle.std.proofs.lemmas.Cmp.{nat_list_eq_equiv}
 use Rattle.std.proofs.Math.Bool.{or-false}
-use Rattle.std.proofs.lemmas.List.Elements.{filter_map-append}
 use Rattle.std.proofs.lemmas.List.Folds.{list_any-append}
-use Rattle.std.proofs.lemmas.List.Sums.{fold-append}
 use Rattle.gx_units.specs.Names.{same_rule, same_stock}
 use Rattle.gx_units.specs.declared.names.RuleId.{RuleId}
 use Rattle.gx_units.specs.declared.names.Symbol.{Symbol}
-use Rattle.gx_desk.specs.declared.Action.{Action}
-use Rattle.gx_history.specs.declared.record.RecordData.{RecordData}
 use Rattle.gx_history.specs.declared.policy.FileRule.{FileRule}
-use Rattle.gx_history.specs.declared.policy.PolicyData.{PolicyData}
 use Rattle.gx_history.specs.declared.policy.RuleKind.{RuleKind}
 use Rattle.gx_history.specs.declared.policy.RuleKind.TheVariants as kinds
 use Rattle.gx_history.specs.Asking.{knows_stocks}
-use Rattle.gx_history.specs.InForce.{adding, change_rule, changed, limit_of, lists_stock, removing, rules_in_force, stocks_of, with_limit, with_stocks}
-use Rattle.gx_history.specs.Requests.{granted_action, granted_actions}
+use Rattle.gx_history.specs.InForce.{adding, change_rule, limit_of, lists_stock, removing, stocks_of, with_limit, with_stocks}
 use Rattle.gx_rules.specs.Laws.{names_of, scopes_of}
 use Rattle.gx_rules.specs.Settings.{limit_in, lists_in, restricted, rule_in, unrestricted, with_limit_of}
-
-by_one : (rules : List FileRule) (action : Option Action) → fold changed rules (cons_option action []) ≡ option_map_or (changed rules) action rules
-by_one rules None = refl
-by_one rules (Some action) = refl
-
--- the rules after one more record
-pub after_one_more : (policy : PolicyData) (history : List RecordData) (r : RecordData)
-    → rules_in_force policy (history ++ r ∷ []) ≡ option_map_or (changed (rules_in_force policy history)) (granted_action r) (rules_in_force policy history)
-unfolding rules_in_force
-after_one_more policy history r =
-    ap (fold changed policy.rules) (filter_map-append granted_action history (r ∷ []))
-    ∙ fold-append changed policy.rules (granted_actions history) (filter_map granted_action (r ∷ []))
-    ∙ by_one (fold changed policy.rules (granted_actions history)) (granted_action r)
 
 -- the rules of other names
 module _ (name : RuleId) (change : RuleKind → RuleKind) where

@@ -1,6 +1,6 @@
 //! Text fields: fixed bytes, spaces and numbers.
 
-ghost use Rattle.std.specs.Prelude.{◌≡◌, ◌≤◌, length, min, IfOk};
+ghost use Rattle.std.specs.Prelude.{◌≡◌, ◌≤◌, ◌-◌, ◌^◌, length, min, IfOk};
 ghost use Rattle.std.specs.Char.{is_ascii_digit};
 ghost use Rattle.std.specs.List.{list_all};
 ghost use Rattle.gx_units.specs.Spelling.{padded_left};
@@ -38,7 +38,7 @@ pub(crate) fn number_of(field: &[u8]) -> Option<u64>
     if !are_digits(digits) {
         return None;
     }
-    Some(capped_value(digits))
+    Some(spelled_value(digits).min(u128::from(u64::MAX)) as u64)
 }
 
 fn are_digits(text: &[u8]) -> bool
@@ -47,9 +47,9 @@ fn are_digits(text: &[u8]) -> bool
     text.iter().all(|byte| byte.is_ascii_digit())
 }
 
-/// The number that digits spell, or the greatest of 64 bits where it is past that.
-fn capped_value(digits: &[u8]) -> u64
-    ensures { result ≡ min (spelled digits.now) greatest }
+/// The number that ASCII digits spell, or the greatest of 128 bits where it is past that.
+pub fn spelled_value(digits: &[u8]) -> u128
+    ensures { result ≡ min (spelled digits.now) (2 ^ 128 - 1) }
 {
     let mut number = 0;
     for digit in digits {
@@ -59,10 +59,10 @@ fn capped_value(digits: &[u8]) -> u64
 }
 
 /// One digit more.
-fn capped_digit(number: u64, c: u8) -> u64
-    ensures { result ≡ min (with_digit number c) greatest }
+fn capped_digit(number: u128, c: u8) -> u128
+    ensures { result ≡ min (with_digit number c) (2 ^ 128 - 1) }
 {
     number
         .saturating_mul(10)
-        .saturating_add(u64::from(c.saturating_sub(b'0')))
+        .saturating_add(u128::from(c.saturating_sub(b'0')))
 }

@@ -12,6 +12,7 @@ mod tests;
 mod writing;
 
 pub use feeder::{Fed, Feeder};
+pub use fields::spelled_value;
 pub use laws::{held_back, nothing_after_fault, packets_grow, read_back};
 pub use packet::{ClientPacket, LoginRequest, ServerPacket, SoupFault};
 pub use payload::Payload;

@@ -2,7 +2,7 @@ ghost use Rattle.gx_soup.specs.Writing.{HasRoom};
 
 use crate::{
     ClientPacket, Feeder, Payload, ServerPacket, SoupFault, encode, encode_client, held_back,
-    nothing_after_fault, packets_grow, read_back,
+    nothing_after_fault, packets_grow, read_back, spelled_value,
 };
 use gx_units::{LoginRejection, OutOfMemory, Password, SessionName, UserName};
 use std::alloc::Global;
@@ -204,6 +204,13 @@ fn writes_a_servers_packets(rt: HostRuntime) -> Result<(), Fail> {
     writes(&rt, alloc, &ServerPacket::Heartbeat, b"\x00\x01H")?;
     writes(&rt, alloc, &ServerPacket::EndOfSession, b"\x00\x01Z")?;
     Ok(())
+}
+
+#[test]
+fn digits_spell_numbers(rt: HostRuntime) {
+    assert_eq!(rt; spelled_value(b""), 0);
+    assert_eq!(rt; spelled_value(b"00120"), 120);
+    assert_eq!(rt; spelled_value(&[b'9'; 40]), u128::MAX);
 }
 
 #[test]

@@ -1,5 +1,5 @@
-use Rattle.gx_rules.proofs.Changed.{after_one_more}
+use Rattle.gx_history_laws.proofs.NextInForce.{rules_in_force_next}
 use Rattle.gx_rules.proofs.laws.rules_after_one_more.Goals as goal
 
 pub returns : goal.returns
-returns c = after_one_more
+returns c = rules_in_force_next

@@ -1,7 +1,7 @@
 use Rattle.std.proofs.Common.{◌≡◌, ℕ, min, take, get_or, ap, sym, ◌∙◌, arith, ◌-◌, ◌^◌}
 use Rattle.std.proofs.lemmas.List.Sums.{fold_more}
 use Rattle.gx_soup.specs.Login.{spelled, with_digit}
-use Rattle.gx_script.proofs.words.capped_value.Goals as goal
+use Rattle.gx_soup.proofs.fields.spelled_value.Goals as goal
 
 capped : (n c : ℕ) → min (with_digit (min n (2 ^ 128 - 1)) c) (2 ^ 128 - 1) ≡ min (with_digit n c) (2 ^ 128 - 1)
 capped n c = omega arith
