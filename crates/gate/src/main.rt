@@ -5,7 +5,7 @@ use clap::error::ErrorKind;
 use clap::{Arg, ArgMatches, Command, Error};
 use gx_core::Gate;
 use gx_history::policy::Policy;
-use gx_plain::judge::first_that_needs_figures;
+use gx_plain::figured::first_that_needs_figures;
 use gx_policyfile::{FaultKind, PolicyFault, read_policy};
 use gx_server::{
     Counted, Explained, PipeFault, ScriptFault, policy_line, run_pipe, run_script_explained,
@@ -58,12 +58,6 @@ impl<'a> From<PipeFault> for Fault<'a> {
     }
 }
 
-impl<'a> From<Explained> for Fault<'a> {
-    fn from(fault: Explained) -> Fault<'a> {
-        Fault::Script(fault)
-    }
-}
-
 impl<'a> From<OutOfMemory> for Fault<'a> {
     fn from(refused: OutOfMemory) -> Fault<'a> {
         Fault::Pipe(refused.into())
@@ -87,14 +81,24 @@ fn policy_option<'a>(alloc: Global) -> Arg<'a> {
         .help("The policy file to run under; without it the sample policy holds")
 }
 
-/// The command line: what may be asked, with its help.
-fn command_line<'a>(alloc: Global) -> Result<Command<'a>, OutOfMemory> {
+/// `gate pipe`.
+fn pipe_command<'a>(alloc: Global) -> Result<Command<'a>, OutOfMemory> {
     let pipe = Command::new(alloc, "pipe").about(
         "Serves one SoupBinTCP connection: client packets on standard input, server packets on standard output",
     );
+    Ok(pipe.arg(policy_option(alloc))?)
+}
+
+/// `gate script`.
+fn script_command<'a>(alloc: Global) -> Result<Command<'a>, OutOfMemory> {
     let script = Command::new(alloc, "script")
         .about("Runs a script of steps from standard input, and prints what becomes of each")
         .after_help(SCRIPT_LINES);
+    Ok(script.arg(policy_option(alloc))?)
+}
+
+/// `gate policy`.
+fn policy_command<'a>(alloc: Global) -> Result<Command<'a>, OutOfMemory> {
     let file = Arg::new(alloc, "file")
         .value_name("FILE")
         .required(true)
@@ -102,17 +106,21 @@ fn command_line<'a>(alloc: Global) -> Result<Command<'a>, OutOfMemory> {
     let policy = Command::new(alloc, "policy").about(
         "Reads a policy file, and tells how much it holds or what is wrong with it",
     );
+    Ok(policy.arg(file)?)
+}
+
+/// The command line: what may be asked, with its help.
+fn command_line<'a>(alloc: Global) -> Result<Command<'a>, OutOfMemory> {
     let gate = Command::new(alloc, "gate")
         .version("0.1.0")
         .about(
             "A sponsored-access gateway: OUCH 4.2 orders in SoupBinTCP 3.00 packets, judged by a written policy",
         )
         .subcommand_required(true)
-        .arg_required_else_help(true)
-        .subcommand(pipe.arg(policy_option(alloc))?)?
-        .subcommand(script.arg(policy_option(alloc))?)?
-        .subcommand(policy.arg(file)?)?;
-    Ok(gate)
+        .arg_required_else_help(true);
+    let gate = gate.subcommand(pipe_command(alloc)?)?;
+    let gate = gate.subcommand(script_command(alloc)?)?;
+    Ok(gate.subcommand(policy_command(alloc)?)?)
 }
 
 /// The words of the command line.
@@ -134,46 +142,72 @@ fn policy_of<'a>(rt: &HostRuntime, path: &'a str) -> Result<Policy, Fault<'a>> {
     }
 }
 
+/// The policy of the file that was asked for, or else the sample policy.
+fn asked_policy<'a>(rt: &HostRuntime, file: Option<&'a str>) -> Result<Policy, Fault<'a>> {
+    match file {
+        Some(path) => policy_of(rt, path),
+        None => Ok(sample_without_figures(rt.alloc())?),
+    }
+}
+
+/// A gate under a policy.
+fn open_under<'a>(rt: &HostRuntime, policy: &Policy) -> Result<Gate, Fault<'a>> {
+    match first_that_needs_figures(policy) {
+        Some(rule) => Err(Fault::NotJudged(rule)),
+        None => Ok(Gate::open(rt.alloc(), policy)?),
+    }
+}
+
 /// A gate under the policy of the file that was asked for, or else under the sample policy.
 fn open_gate<'a>(rt: &HostRuntime, file: Option<&'a str>) -> Result<Gate, Fault<'a>> {
-    let policy = match file {
-        Some(path) => policy_of(rt, path)?,
-        None => sample_without_figures(rt.alloc())?,
-    };
-    match first_that_needs_figures(&policy) {
-        Some(rule) => Err(Fault::NotJudged(rule)),
-        None => Ok(Gate::open(rt.alloc(), &policy)?),
-    }
+    let policy = asked_policy(rt, file)?;
+    open_under(rt, &policy)
+}
+
+/// Serves one connection on a gate.
+fn serve(rt: &HostRuntime, gate: &mut Gate) -> Result<(), PipeFault> {
+    let mut reader = Counted::new(rt.reader());
+    let mut writer = Counted::new(io::writer(rt));
+    run_pipe(rt.alloc(), gate, FIRST_MOMENT, &mut reader, &mut writer)
 }
 
 /// Serves one connection.
 fn pipe<'a>(rt: &HostRuntime, file: Option<&'a str>) -> Result<(), Fault<'a>> {
     let mut gate = open_gate(rt, file)?;
+    match serve(rt, &mut gate) {
+        Ok(()) => Ok(()),
+        Err(fault) => Err(Fault::Pipe(fault)),
+    }
+}
+
+/// Runs a script on a gate.
+fn follow(rt: &HostRuntime, gate: &mut Gate) -> Result<(), Explained> {
     let mut reader = Counted::new(rt.reader());
     let mut writer = Counted::new(io::writer(rt));
-    run_pipe(
-        rt.alloc(),
-        &mut gate,
-        FIRST_MOMENT,
-        &mut reader,
-        &mut writer,
-    )?;
-    Ok(())
+    run_script_explained(rt.alloc(), gate, &mut reader, &mut writer)
 }
 
 /// Runs a script.
 fn script<'a>(rt: &HostRuntime, file: Option<&'a str>) -> Result<(), Fault<'a>> {
     let mut gate = open_gate(rt, file)?;
-    let mut reader = Counted::new(rt.reader());
-    let mut writer = Counted::new(io::writer(rt));
-    run_script_explained(rt.alloc(), &mut gate, &mut reader, &mut writer)?;
-    Ok(())
+    match follow(rt, &mut gate) {
+        Ok(()) => Ok(()),
+        Err(fault) => Err(Fault::Script(fault)),
+    }
+}
+
+/// The line that says how much a policy file holds.
+fn line_of<'a>(rt: &HostRuntime, path: &'a str) -> Result<Vec<u8>, Fault<'a>> {
+    let policy = policy_of(rt, path)?;
+    match policy_line(rt.alloc(), &policy) {
+        Ok(line) => Ok(line),
+        Err(OutOfMemory) => Err(PipeFault::OutOfMemory.into()),
+    }
 }
 
 /// Tells how much a policy file holds.
 fn policy<'a>(rt: &HostRuntime, path: &'a str) -> Result<(), Fault<'a>> {
-    let policy = policy_of(rt, path)?;
-    let line = policy_line(rt.alloc(), &policy)?;
+    let line = line_of(rt, path)?;
     match io::writer(rt).write_all(line.as_slice()) {
         Ok(()) => Ok(()),
         Err(_) => Err(PipeFault::WriteFailed.into()),

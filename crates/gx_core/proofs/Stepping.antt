@@ -19,7 +19,8 @@ use Rattle.gx_history_laws.proofs.Numbers.{number_left}
 use Rattle.gx_core.specs.declared.outcome.Outcome.{Outcome}
 use Rattle.gx_history.specs.Requests.{is_judged}
 use Rattle.gx_plain.specs.Stage.{is_brought_record, are_brought}
-use Rattle.gx_plain.proofs.Staging.{people_are_the_files, rules_are_the_files}
+use Rattle.gx_plain.proofs.Staging.{rules_are_the_files}
+use Rattle.gx_core.proofs.Judged.{people_are_the_files}
 use Rattle.gx_people.specs.Entitled.{people_in_force}
 use Rattle.gx_core.specs.Gates.{IsKept, left_by}
 

@@ -28,6 +28,7 @@ ghost use Rattle.gx_core.specs.Gates.{left_by};
 ghost use Rattle.gx_core.specs.Logins.{login_answered};
 
 use crate::copies::copied;
+use crate::judge::judge;
 use crate::login::{login_answered, login_asked};
 use crate::outcome::{LoginAnswer, Outcome, StepFault};
 use crate::pulling::{Pulled, pull};
@@ -35,7 +36,6 @@ use gx_history::history::History;
 use gx_history::policy::Policy;
 use gx_history::record::{Asked, Record, RecordData, Request, Step, Verdict};
 use gx_people::people::People;
-use gx_plain::judge::judge;
 use gx_plain::records::{is_killed, last_moment, line_of};
 use gx_plain::slices::slice;
 use gx_rules::RuleBook;
@@ -87,7 +87,7 @@ fn record_of(a: &Asked, outcome: Outcome) -> Record
 }
 
 /// A policy, and the records of a day under it, the oldest first; people and rules as they are after these.
-#[derive(Debug, Drop)]
+#[derive(Drop)]
 pub struct Gate {
     alloc: Global,
     policy: Policy,
@@ -109,7 +109,7 @@ impl Model for Gate {
 impl Gate {
     /// A gate at the beginning of a day, with a copy of the policy.
     ///
-    /// No rule of the policy may ask for figures: `gx_plain::judge::rules_need_no_figures` tells.
+    /// No rule of the policy may ask for figures: `gx_plain::figured::rules_need_no_figures` tells.
     pub fn open(alloc: Global, policy: &Policy) -> Result<Gate, OutOfMemory>
         requires { IsTrue (rules_need_no_figures policy.now) }
         ensures policy { IfOk result (λ gate. gate.policy ≡ policy.now) }

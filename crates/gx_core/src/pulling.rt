@@ -17,7 +17,7 @@ use std::alloc::Global;
 use std::marker::Model;
 
 /// Reports, the oldest first. Contracts see them as a list.
-#[derive(Debug, Drop)]
+#[derive(Drop)]
 pub struct Reports {
     items: Vec<Report>,
 }
@@ -40,7 +40,7 @@ impl Reports {
 }
 
 /// A part of a user's stream.
-#[derive(Debug, Drop)]
+#[derive(Drop)]
 pub struct Pulled {
     pub reports: Reports,
     /// The number after the last report given; where there is none, the number asked for, 0 counting as 1.

@@ -7,19 +7,19 @@ use gx_ouch::Executed;
 use gx_units::{AccountName, RuleId, Symbol};
 
 /// Tag: any 14 bytes that an officer gives a command, echoed in its answer.
-#[derive(Clone, Copy, Debug, PartialEq, Eq)]
+#[derive(Clone, Copy, PartialEq, Eq)]
 pub struct Tag {
     pub bytes: [u8; 14],
 }
 
 /// The name of a user as an officer writes it, in either case of letters.
-#[derive(Clone, Copy, Debug, PartialEq, Eq)]
+#[derive(Clone, Copy, PartialEq, Eq)]
 pub struct WrittenName {
     pub bytes: [u8; 6],
 }
 
 /// What an officer asks for.
-#[derive(Clone, Copy, Debug, PartialEq, Eq)]
+#[derive(Clone, Copy, PartialEq, Eq)]
 pub enum Action {
     /// Kill, `K`: every live order of the account ends, and it may place no more.
     Kill(AccountName),
@@ -40,14 +40,14 @@ pub enum Action {
 }
 
 /// A command of an officer.
-#[derive(Clone, Copy, Debug, PartialEq, Eq)]
+#[derive(Clone, Copy, PartialEq, Eq)]
 pub struct Command {
     pub tag: Tag,
     pub action: Action,
 }
 
 /// What an officer is told of a command: the code of its answer.
-#[derive(Clone, Copy, Debug, PartialEq, Eq)]
+#[derive(Clone, Copy, PartialEq, Eq)]
 pub enum AnswerCode {
     /// `OK`: it is granted.
     Done,
@@ -62,7 +62,7 @@ pub enum AnswerCode {
 }
 
 /// What an officer is told of a command, but for its timestamp: Answer, `Q`, 34 bytes.
-#[derive(Clone, Copy, Debug, PartialEq, Eq)]
+#[derive(Clone, Copy, PartialEq, Eq)]
 pub struct Answer {
     /// The tag of the command.
     pub tag: Tag,
@@ -74,7 +74,7 @@ pub struct Answer {
 }
 
 /// One side of a fill, as a reader sees it, but for its timestamp: drop copy, 49 bytes.
-#[derive(Clone, Copy, Debug, PartialEq, Eq)]
+#[derive(Clone, Copy, PartialEq, Eq)]
 pub struct DropCopy {
     /// What the order's trader is told.
     pub executed: Executed,
@@ -83,6 +83,3 @@ pub struct DropCopy {
     /// The side of the order: Buy/Sell Indicator.
     pub side: u8,
 }
-
-#[cfg(test)]
-mod tests;

@@ -8,7 +8,7 @@ use std::alloc::Global;
 use std::marker::Model;
 
 /// The records of a day so far, the oldest first.
-#[derive(Debug, Drop)]
+#[derive(Drop)]
 pub struct History {
     records: Vec<Record>,
 }

@@ -6,7 +6,7 @@ use crate::outbound::MESSAGE_ROOM;
 use std::marker::Model;
 
 /// A message as far as it is written, at most `MESSAGE_ROOM` bytes. Contracts see the list of these bytes.
-#[derive(Debug, Drop)]
+#[derive(Drop)]
 pub struct Draft {
     room: [u8; MESSAGE_ROOM],
     used: usize,

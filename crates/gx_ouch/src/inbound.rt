@@ -3,7 +3,7 @@
 use gx_units::{Firm, Symbol, Token};
 
 /// A new order: Enter Order, `O`.
-#[derive(Clone, Copy, Debug, PartialEq, Eq)]
+#[derive(Clone, Copy, PartialEq, Eq)]
 pub struct EnterOrder {
     /// Order Token.
     pub token: Token,
@@ -34,7 +34,7 @@ pub struct EnterOrder {
 }
 
 /// An order in place of an earlier one: Replace Order, `U`.
-#[derive(Clone, Copy, Debug, PartialEq, Eq)]
+#[derive(Clone, Copy, PartialEq, Eq)]
 pub struct ReplaceOrder {
     /// Existing Order Token.
     pub existing_token: Token,
@@ -55,7 +55,7 @@ pub struct ReplaceOrder {
 }
 
 /// A new total size for an order: Cancel Order, `X`.
-#[derive(Clone, Copy, Debug, PartialEq, Eq)]
+#[derive(Clone, Copy, PartialEq, Eq)]
 pub struct CancelOrder {
     /// Order Token.
     pub token: Token,
@@ -64,7 +64,7 @@ pub struct CancelOrder {
 }
 
 /// A message from a trader.
-#[derive(Clone, Copy, Debug, PartialEq, Eq)]
+#[derive(Clone, Copy, PartialEq, Eq)]
 pub enum Inbound {
     /// Enter Order, `O`, 49 bytes.
     Enter(EnterOrder),

@@ -4,7 +4,7 @@ ghost use Rattle.std.specs.Prelude.{◌≡◌};
 ghost use Rattle.gx_ouch.specs.Letters.{event_letter, liquidity_letter, cancel_letter, reject_letter};
 
 /// The event of a System Event: its Event Code.
-#[derive(Clone, Copy, Debug, PartialEq, Eq)]
+#[derive(Clone, Copy, PartialEq, Eq)]
 pub enum EventCode {
     /// `E`: the day has ended.
     EndOfDay,
@@ -22,7 +22,7 @@ impl EventCode {
 }
 
 /// Whether an execution took liquidity from the book or added it: the Liquidity Flag of Executed.
-#[derive(Clone, Copy, Debug, PartialEq, Eq)]
+#[derive(Clone, Copy, PartialEq, Eq)]
 pub enum Liquidity {
     /// `A`: the order rested, the maker.
     Added,
@@ -43,7 +43,7 @@ impl Liquidity {
 }
 
 /// Why shares were canceled: the Reason of Canceled.
-#[derive(Clone, Copy, Debug, PartialEq, Eq)]
+#[derive(Clone, Copy, PartialEq, Eq)]
 pub enum CancelReason {
     /// `U`: the user asked for it.
     UserRequested,
@@ -67,7 +67,7 @@ impl CancelReason {
 }
 
 /// Why an order was rejected: the Reason of Rejected.
-#[derive(Clone, Copy, Debug, PartialEq, Eq)]
+#[derive(Clone, Copy, PartialEq, Eq)]
 pub enum RejectReason {
     /// `C`: the day is closed.
     Closed,

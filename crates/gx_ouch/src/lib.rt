@@ -16,6 +16,3 @@ pub use letters::{CancelReason, EventCode, Liquidity, RejectReason};
 pub use outbound::{
     Accepted, Canceled, Executed, MESSAGE_ROOM, OrderTerms, Outbound, Rejected, Replaced,
 };
-
-#[cfg(test)]
-mod tests;

@@ -7,7 +7,7 @@ use gx_units::{Firm, Symbol, Token};
 pub const MESSAGE_ROOM: usize = 80;
 
 /// The terms of an order as a message shows them.
-#[derive(Clone, Copy, Debug, PartialEq, Eq)]
+#[derive(Clone, Copy, PartialEq, Eq)]
 pub struct OrderTerms {
     /// Buy/Sell Indicator.
     pub side: u8,
@@ -34,7 +34,7 @@ pub struct OrderTerms {
 }
 
 /// An order is taken: Accepted, `A`.
-#[derive(Clone, Copy, Debug, PartialEq, Eq)]
+#[derive(Clone, Copy, PartialEq, Eq)]
 pub struct Accepted {
     /// Order Token.
     pub token: Token,
@@ -45,7 +45,7 @@ pub struct Accepted {
 }
 
 /// An order stands in place of an earlier one: Replaced, `U`.
-#[derive(Clone, Copy, Debug, PartialEq, Eq)]
+#[derive(Clone, Copy, PartialEq, Eq)]
 pub struct Replaced {
     /// Replacement Order Token.
     pub token: Token,
@@ -58,7 +58,7 @@ pub struct Replaced {
 }
 
 /// An order has lost shares: Canceled, `C`.
-#[derive(Clone, Copy, Debug, PartialEq, Eq)]
+#[derive(Clone, Copy, PartialEq, Eq)]
 pub struct Canceled {
     /// Order Token.
     pub token: Token,
@@ -69,7 +69,7 @@ pub struct Canceled {
 }
 
 /// Shares of an order were executed: Executed, `E`.
-#[derive(Clone, Copy, Debug, PartialEq, Eq)]
+#[derive(Clone, Copy, PartialEq, Eq)]
 pub struct Executed {
     /// Order Token.
     pub token: Token,
@@ -84,7 +84,7 @@ pub struct Executed {
 }
 
 /// An order is not taken: Rejected, `J`.
-#[derive(Clone, Copy, Debug, PartialEq, Eq)]
+#[derive(Clone, Copy, PartialEq, Eq)]
 pub struct Rejected {
     /// Order Token.
     pub token: Token,
@@ -93,7 +93,7 @@ pub struct Rejected {
 }
 
 /// A message to a trader, but for its timestamp.
-#[derive(Clone, Copy, Debug, PartialEq, Eq)]
+#[derive(Clone, Copy, PartialEq, Eq)]
 pub enum Outbound {
     /// System Event, `S`, 10 bytes.
     SystemEvent(EventCode),

@@ -6,5 +6,3 @@ pub mod laws;
 pub mod people;
 mod person;
 pub mod power;
-#[cfg(test)]
-mod tests;

@@ -18,7 +18,7 @@ use std::alloc::Global;
 use std::marker::Model;
 
 /// The users of a policy, in the file's order, each reader with the accounts that are his now.
-#[derive(Debug, Drop)]
+#[derive(Drop)]
 pub struct People {
     by_name: IndexMap<UserName, Person>,
 }

@@ -12,14 +12,14 @@ use gx_units::{AccountName, OutOfMemory, Password};
 use std::alloc::Global;
 
 /// A user without his name.
-#[derive(Debug, Drop)]
+#[derive(Drop)]
 pub(crate) struct Person {
     pub(crate) password: Password,
     pub(crate) standing: Standing,
 }
 
 /// What a user is now.
-#[derive(Debug, Drop)]
+#[derive(Drop)]
 pub(crate) enum Standing {
     /// Enters orders for this account.
     Trader(AccountName),

@@ -9,7 +9,7 @@ use gx_desk::Action;
 use gx_history::policy::Powers;
 
 /// What an officer may be given, each for the commands of its name.
-#[derive(Clone, Copy, Debug, PartialEq, Eq)]
+#[derive(Clone, Copy, PartialEq, Eq)]
 pub enum Power {
     /// Kill.
     Kill,

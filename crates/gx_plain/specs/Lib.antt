@@ -1,3 +1,2 @@
 pub mod Stage
 pub mod Owing
-pub mod Known

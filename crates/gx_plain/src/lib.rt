@@ -1,10 +1,9 @@
 //! The plain program: each definition beside a slow function that computes it, by walking all records.
 //!
-//! The gate judges by these functions for now. Once it keeps running figures they stay as what its answers are
-//! compared with.
+//! The gate asks these functions what the rules want to know of its records.
 #![tactic(auto)]
 
-pub mod judge;
+pub mod figured;
 pub mod people;
 pub mod records;
 pub mod slices;

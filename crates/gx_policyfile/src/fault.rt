@@ -9,7 +9,7 @@ use std::error::Error;
 use std::fmt;
 
 /// Why a policy file is refused: the first fault in the order of the format. The kinds have the numbers 1 to 8.
-#[derive(Clone, Copy, Debug, PartialEq, Eq)]
+#[derive(Clone, Copy, PartialEq, Eq)]
 pub enum FaultKind {
     /// The bytes are no TOML, or not UTF-8.
     NotToml = 1,
@@ -46,7 +46,7 @@ impl fmt::Display for FaultKind {
 }
 
 /// The letters that a name is made of.
-#[derive(Clone, Copy, Debug)]
+#[derive(Clone, Copy)]
 pub enum Letters {
     /// `A` to `Z`, `0` to `9` and `_`.
     Plain,
@@ -55,7 +55,7 @@ pub enum Letters {
 }
 
 /// What a key allows.
-#[derive(Clone, Copy, Debug)]
+#[derive(Clone, Copy)]
 pub enum Allowed {
     /// An integer from the first to the second.
     Number(u64, u64),
@@ -90,7 +90,7 @@ impl fmt::Display for Allowed {
 }
 
 /// What is wrong there.
-#[derive(Debug, Drop)]
+#[derive(Drop)]
 pub enum Cause {
     /// Nothing of the file: a growth was refused.
     Memory,
@@ -103,7 +103,7 @@ pub enum Cause {
 }
 
 /// An entry of the file.
-#[derive(Debug, Drop)]
+#[derive(Drop)]
 pub struct EntryPlace {
     /// `account`, `stock`, `user` or `rule`.
     pub place: &'static str,
@@ -125,7 +125,7 @@ impl fmt::Display for EntryPlace {
 }
 
 /// Why a policy file is refused. `kind` is the first fault; the rest helps who writes the file.
-#[derive(Debug, Drop)]
+#[derive(Drop)]
 pub struct PolicyFault {
     pub kind: FaultKind,
     /// The entry that has the fault, or None at the top of the file.
@@ -221,6 +221,12 @@ impl<T: Drop> From<AllocFailed<T>> for PolicyFault {
 
     fn from(_refused: AllocFailed<T>) -> PolicyFault {
         PolicyFault::memory()
+    }
+}
+
+impl fmt::Debug for PolicyFault {
+    fn fmt<W: fmt::Write>(&self, f: &mut fmt::Formatter<W>) -> fmt::Result {
+        write!(f, "{self}")
     }
 }
 

@@ -21,7 +21,7 @@ use std::alloc::Global;
 
 /// What a rule forbids and whom. Its kind has no stocks: those of a halt or a restriction stand in a set of their own,
 /// where a stock is found without a walk.
-#[derive(Debug, Drop)]
+#[derive(Drop)]
 pub struct BookRule {
     pub kind: RuleKind,
     pub stocks: IndexSet<Symbol>,

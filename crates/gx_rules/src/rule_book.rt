@@ -21,7 +21,7 @@ use std::marker::Model;
 
 /// The file's rules with their settings in force: limits and lists of stocks change by commands, while the names,
 /// their order and their scopes stay. Contracts see it as the list of the rules, in the file's order.
-#[derive(Debug, Drop)]
+#[derive(Drop)]
 pub struct RuleBook {
     rules: IndexMap<RuleId, BookRule>,
 }

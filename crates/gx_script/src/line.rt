@@ -16,7 +16,7 @@ use gx_ouch::EnterOrder;
 use gx_units::{AccountName, Firm, Password, Symbol, Token, UserName};
 
 /// What a line of a script asks for in a user's name.
-#[derive(Clone, Copy, Debug, PartialEq, Eq)]
+#[derive(Clone, Copy, PartialEq, Eq)]
 pub enum ScriptStep {
     /// `login PASSWORD NUMBER`: to the blank session, the first report wanted, 0 for the last one.
     Login(Password, u64),
@@ -33,7 +33,7 @@ pub enum ScriptStep {
 }
 
 /// What a line of a script says.
-#[derive(Clone, Copy, Debug, PartialEq, Eq)]
+#[derive(Clone, Copy, PartialEq, Eq)]
 pub enum ScriptLine {
     /// An empty line, or a comment.
     Skipped,

@@ -10,7 +10,7 @@ use std::io::{Read, Write};
 
 /// A reader or a writer, with counts of its calls and of those that failed. A write that takes none of some bytes
 /// is a failure. The counts stay at 2^64 - 1 once they are there.
-#[derive(Debug, Drop)]
+#[derive(Drop)]
 pub struct Counted<D> {
     pub device: D,
     /// How many reads or writes there were.

@@ -12,7 +12,7 @@ use std::alloc::Global;
 use std::marker::Model;
 
 /// What a piece brought.
-#[derive(Debug, Drop)]
+#[derive(Drop)]
 pub struct Fed {
     /// The packets that this piece completed, in order, before any fault.
     pub packets: Vec<ClientPacket>,
@@ -23,7 +23,7 @@ pub struct Fed {
 /// Reads a client's packets from a text that comes in pieces. It holds back the bytes of a packet that is not whole
 /// yet, and a fault once it has met one. What a packet costs is in proportion to its length, in however many pieces
 /// it comes.
-#[derive(Debug, Drop)]
+#[derive(Drop)]
 pub struct Feeder {
     alloc: Global,
     rest: Vec<u8>,

@@ -11,7 +11,7 @@ use gx_units::{OutOfMemory, Password, SessionName, UserName};
 use std::alloc::Global;
 
 /// What stands first in some bytes.
-#[derive(Debug, Drop)]
+#[derive(Drop)]
 pub(crate) enum Front {
     /// Less than a packet.
     Short,

@@ -7,8 +7,6 @@ mod front;
 mod laws;
 mod packet;
 mod payload;
-#[cfg(test)]
-mod tests;
 mod writing;
 
 pub use feeder::{Fed, Feeder};

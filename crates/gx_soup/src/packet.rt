@@ -4,7 +4,7 @@ use crate::payload::Payload;
 use gx_units::{LoginRejection, Password, SessionName, UserName};
 
 /// Why a text is no row of packets.
-#[derive(Clone, Copy, Debug, PartialEq, Eq)]
+#[derive(Clone, Copy, PartialEq, Eq)]
 pub enum SoupFault {
     /// A packet's length is 0, so that it has no type. Told at the length's second byte.
     ZeroLength,
@@ -16,7 +16,7 @@ pub enum SoupFault {
 }
 
 /// The fields of a Login Request, as they came: padded, and in either case.
-#[derive(Clone, Copy, Debug)]
+#[derive(Clone, Copy)]
 pub struct LoginRequest {
     /// Username.
     pub user: UserName,
@@ -30,7 +30,7 @@ pub struct LoginRequest {
 }
 
 /// A packet from a client.
-#[derive(Debug, Drop)]
+#[derive(Drop)]
 pub enum ClientPacket {
     /// Login Request, `L`.
     Login(LoginRequest),
@@ -45,7 +45,7 @@ pub enum ClientPacket {
 }
 
 /// A packet from the server.
-#[derive(Debug, Drop)]
+#[derive(Drop)]
 pub enum ServerPacket {
     /// Login Accepted, `A`: the session, and the number of the next report.
     Accepted(SessionName, u64),

@@ -11,6 +11,3 @@ pub use names::{
     UserName,
 };
 pub use spelling::{padded, trimmed, unpadded};
-
-#[cfg(test)]
-mod tests;

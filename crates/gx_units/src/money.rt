@@ -23,7 +23,7 @@ const ONE_DOLLAR: u32 = 10_000;
 const ONE_CENT: u32 = 100;
 
 /// A price that an order may have, in ten-thousandths of a dollar (an OUCH price has four implied decimals).
-#[derive(Clone, Copy, Debug, PartialEq, Eq)]
+#[derive(Clone, Copy, PartialEq, Eq)]
 pub struct Price {
     amount: u32,
 }

@@ -34,38 +34,38 @@ impl<T: Drop> From<AllocFailed<T>> for OutOfMemory {
 }
 
 /// An order token: 14 bytes that a trader chooses, compared as bytes.
-#[derive(Clone, Copy, Debug, PartialEq, Eq)]
+#[derive(Clone, Copy, PartialEq, Eq)]
 pub struct Token {
     pub bytes: [u8; 14],
 }
 
 /// The name of a stock, padded with spaces.
-#[derive(Clone, Copy, Debug, PartialEq, Eq, Hash)]
+#[derive(Clone, Copy, PartialEq, Eq, Hash)]
 pub struct Symbol {
     pub bytes: [u8; 8],
 }
 
 /// The name of an account, padded with spaces.
-#[derive(Clone, Copy, Debug, PartialEq, Eq, Hash)]
+#[derive(Clone, Copy, PartialEq, Eq, Hash)]
 pub struct AccountName {
     pub bytes: [u8; 8],
 }
 
 /// The name of a rule, padded with spaces.
-#[derive(Clone, Copy, Debug, PartialEq, Eq, Hash)]
+#[derive(Clone, Copy, PartialEq, Eq, Hash)]
 pub struct RuleId {
     pub bytes: [u8; 8],
 }
 
 /// A firm, padded with spaces.
-#[derive(Clone, Copy, Debug, PartialEq, Eq)]
+#[derive(Clone, Copy, PartialEq, Eq)]
 pub struct Firm {
     pub bytes: [u8; 4],
 }
 
 /// The name of a user, padded with spaces. It is compared in upper case: `folded` gives the form in which the gate
 /// keeps it.
-#[derive(Clone, Copy, Debug, PartialEq, Eq, Hash)]
+#[derive(Clone, Copy, PartialEq, Eq, Hash)]
 pub struct UserName {
     pub bytes: [u8; 6],
 }
@@ -89,12 +89,6 @@ pub struct Password {
     pub bytes: [u8; 10],
 }
 
-impl fmt::Debug for Password {
-    fn fmt<W: fmt::Write>(&self, f: &mut fmt::Formatter<W>) -> fmt::Result {
-        write!(f, "Password(..)")
-    }
-}
-
 impl Password {
     /// The password in upper case.
     pub fn folded(self) -> Password
@@ -107,7 +101,7 @@ impl Password {
 }
 
 /// The name of a session, padded with spaces on either side. It is compared without them, as `folded` gives it.
-#[derive(Clone, Copy, Debug, PartialEq, Eq)]
+#[derive(Clone, Copy, PartialEq, Eq)]
 pub struct SessionName {
     pub bytes: [u8; 10],
 }
@@ -124,7 +118,7 @@ impl SessionName {
 }
 
 /// Why a login is rejected: the reject reason code of SoupBinTCP's Login Rejected.
-#[derive(Clone, Copy, Debug, PartialEq, Eq)]
+#[derive(Clone, Copy, PartialEq, Eq)]
 pub enum LoginRejection {
     /// `A`: the user is unknown or logged in already, or the password is wrong.
     NotAuthorized,

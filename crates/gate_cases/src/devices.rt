@@ -1,0 +1,74 @@
+//! Devices that give or take so many bytes at a time, and fail.
+
+use std::alloc::Global;
+use std::io;
+use std::io::{Read, Write};
+
+/// How far the devices of a run go.
+#[derive(Clone, Copy)]
+pub(crate) struct Limits {
+    /// The most bytes that a call gives or takes.
+    pub(crate) piece: usize,
+    /// How many reads there are before the reader fails.
+    pub(crate) reads: usize,
+    /// How many bytes the writer takes before it takes none.
+    pub(crate) room: usize,
+}
+
+/// A reader that gives a piece at a time, and fails after so many.
+#[derive(Drop)]
+pub(crate) struct Drips<'a> {
+    rest: &'a [u8],
+    limits: Limits,
+}
+
+impl<'a> Drips<'a> {
+    pub(crate) fn new(rest: &'a [u8], limits: Limits) -> Drips<'a> {
+        Drips { rest, limits }
+    }
+}
+
+impl Read for Drips<'_> {
+    fn read(&mut self, buf: &mut [u8]) -> io::Result<usize> {
+        if self.limits.reads == 0 {
+            return Err(io::Error::from(io::ErrorKind::BrokenPipe));
+        }
+        self.limits.reads -= 1;
+        let count = self.limits.piece.min(self.rest.len()).min(buf.len());
+        let (given, rest) = self.rest.split_at(count);
+        buf[..count].copy_from_slice(given);
+        self.rest = rest;
+        Ok(count)
+    }
+}
+
+/// A writer that takes a piece at a time, and none once it is full.
+#[derive(Drop)]
+pub(crate) struct Sips {
+    pub(crate) taken: Vec<u8>,
+    limits: Limits,
+}
+
+impl Sips {
+    pub(crate) fn new(alloc: Global, limits: Limits) -> Sips {
+        Sips {
+            taken: Vec::new(alloc),
+            limits,
+        }
+    }
+}
+
+impl Write for Sips {
+    fn write(&mut self, buf: &[u8]) -> io::Result<usize> {
+        let left = self.limits.room.saturating_sub(self.taken.len());
+        let count = self.limits.piece.min(left).min(buf.len());
+        match self.taken.extend_from_slice(&buf[..count]) {
+            Ok(()) => Ok(count),
+            Err(_) => Ok(0),
+        }
+    }
+
+    fn flush(&mut self) -> io::Result<()> {
+        Ok(())
+    }
+}

@@ -1,0 +1,108 @@
+//! What a policy says: how much it holds, and its rules.
+
+use crate::texts::{put, put_bytes, text_of};
+use gx_history::policy::{Count, FileRule, Policy, RuleKind, Scope};
+use gx_plain::figured::first_that_needs_figures;
+use gx_server::policy_line;
+use gx_units::{AccountName, OutOfMemory, Symbol};
+use std::alloc::Global;
+use std::fmt::Write;
+
+fn kind_text(kind: &RuleKind) -> &'static str {
+    match kind {
+        RuleKind::Halt(_) => "halt",
+        RuleKind::Restricted(_) => "restricted",
+        RuleKind::NoShort => "no_short",
+        RuleKind::NoIso => "no_iso",
+        RuleKind::OddLot => "odd_lot",
+        RuleKind::OrderShares(_) => "order_shares",
+        RuleKind::OrderValue(_) => "order_value",
+        RuleKind::Collar(_) => "collar",
+        RuleKind::GrossShares(_, _) => "gross_shares",
+        RuleKind::GrossValue(_, _) => "gross_value",
+        RuleKind::Rate(_, _) => "rate",
+        RuleKind::Repeat(_, _) => "repeat",
+    }
+}
+
+fn count_text(count: Count) -> &'static str {
+    match count {
+        Count::Each => "each",
+        Count::Together => "together",
+    }
+}
+
+fn put_stocks(out: &mut String, stocks: &[Symbol]) -> Result<(), OutOfMemory> {
+    for stock in stocks {
+        let name = text_of(&stock.bytes);
+        write!(out, " {name}")?;
+    }
+    Ok(())
+}
+
+/// Puts a limit, how many orders or how much time it looks at, and what it counts.
+fn put_counted(out: &mut String, limit: u64, over: u64, count: Count) -> Result<(), OutOfMemory> {
+    let count = count_text(count);
+    write!(out, " {limit} {over} {count}")?;
+    Ok(())
+}
+
+/// Puts what a rule of this kind says beside its kind.
+fn put_settings(out: &mut String, kind: &RuleKind) -> Result<(), OutOfMemory> {
+    match kind {
+        RuleKind::Halt(stocks) | RuleKind::Restricted(stocks) => put_stocks(out, stocks.as_slice()),
+        RuleKind::OrderShares(limit) | RuleKind::OrderValue(limit) | RuleKind::Collar(limit) => {
+            write!(out, " {limit}")?;
+            Ok(())
+        }
+        RuleKind::GrossShares(limit, count) | RuleKind::GrossValue(limit, count) => {
+            let count = count_text(*count);
+            write!(out, " {limit} {count}")?;
+            Ok(())
+        }
+        RuleKind::Rate(rate, count) => put_counted(out, rate.limit, rate.window, *count),
+        RuleKind::Repeat(repeat, count) => put_counted(out, repeat.limit, repeat.span, *count),
+        RuleKind::NoShort | RuleKind::NoIso | RuleKind::OddLot => Ok(()),
+    }
+}
+
+fn put_accounts(out: &mut String, accounts: &[AccountName]) -> Result<(), OutOfMemory> {
+    put(out, " for")?;
+    for account in accounts {
+        let name = text_of(&account.bytes);
+        write!(out, " {name}")?;
+    }
+    Ok(())
+}
+
+fn put_rule(out: &mut String, rule: &FileRule) -> Result<(), OutOfMemory> {
+    let name = text_of(&rule.name.bytes);
+    let kind = kind_text(&rule.kind);
+    write!(out, "{name}: {kind}")?;
+    put_settings(out, &rule.kind)?;
+    if let Scope::Only(accounts) = &rule.scope {
+        put_accounts(out, accounts.as_slice())?;
+    }
+    put(out, "\n")
+}
+
+/// Puts how much a policy holds, each of its rules, and the first rule that asks for figures.
+pub(crate) fn put_policy(
+    alloc: Global,
+    out: &mut String,
+    policy: &Policy,
+) -> Result<(), OutOfMemory> {
+    let line = policy_line(alloc, policy)?;
+    put_bytes(out, line.as_slice())?;
+    for rule in policy.rules() {
+        put_rule(out, rule)?;
+    }
+    match first_that_needs_figures(policy) {
+        Some(rule) => {
+            let name = text_of(&rule.bytes);
+            writeln!(out, "{name} asks for figures")?;
+            Ok(())
+        }
+        None => Ok(()),
+    }
+}

@@ -1,0 +1,207 @@
+//! Runs on a gate: connections and scripts over devices, and what is printed of them.
+
+use crate::devices::{Drips, Limits, Sips};
+use crate::texts::{bytes_of, put, put_bytes, text_of};
+use gx_core::Gate;
+use gx_history::policy::Policy;
+use gx_script::outcome_line;
+use gx_server::{Counted, Explained, PipeFault, run_pipe, run_script_explained};
+use gx_units::OutOfMemory;
+use std::alloc::Global;
+use std::fmt;
+use std::fmt::Write;
+
+/// How a run ended.
+#[derive(Clone, Copy)]
+enum End {
+    Pipe(Result<(), PipeFault>),
+    Script(Result<(), Explained>),
+}
+
+impl fmt::Display for End {
+    fn fmt<W: fmt::Write>(&self, f: &mut fmt::Formatter<W>) -> fmt::Result {
+        match self {
+            End::Pipe(Ok(())) => f.write_str("pipe: done"),
+            End::Pipe(Err(fault)) => write!(f, "pipe: {fault}"),
+            End::Script(Ok(())) => f.write_str("script: done"),
+            End::Script(Err(explained)) => {
+                let fault = explained.fault;
+                match explained.wrong {
+                    Some(wrong) => write!(f, "script: {fault}; {wrong}"),
+                    None => write!(f, "script: {fault}"),
+                }
+            }
+        }
+    }
+}
+
+/// What a run did: how it ended, how often a device failed, and what was written.
+#[derive(Drop)]
+struct Ended {
+    end: End,
+    failed_reads: u64,
+    failed_writes: u64,
+    written: Vec<u8>,
+}
+
+/// Runs a connection.
+fn connect(alloc: Global, gate: &mut Gate, limits: Limits, input: &[u8]) -> Ended {
+    let mut reader = Counted::new(Drips::new(input, limits));
+    let mut writer = Counted::new(Sips::new(alloc, limits));
+    let end = End::Pipe(run_pipe(alloc, gate, 1, &mut reader, &mut writer));
+    Ended {
+        end,
+        failed_reads: reader.failed,
+        failed_writes: writer.failed,
+        written: writer.device.taken,
+    }
+}
+
+/// Runs a script.
+fn follow(alloc: Global, gate: &mut Gate, limits: Limits, input: &[u8]) -> Ended {
+    let mut reader = Counted::new(Drips::new(input, limits));
+    let mut writer = Counted::new(Sips::new(alloc, limits));
+    let end = End::Script(run_script_explained(alloc, gate, &mut reader, &mut writer));
+    Ended {
+        end,
+        failed_reads: reader.failed,
+        failed_writes: writer.failed,
+        written: writer.device.taken,
+    }
+}
+
+/// Puts the verdicts of the records from this number on, a line each.
+fn put_verdicts(
+    alloc: Global,
+    out: &mut String,
+    gate: &Gate,
+    from: u64,
+) -> Result<(), OutOfMemory> {
+    for record in gate.records(from, u64::MAX)?.as_slice() {
+        let content = record.content();
+        let line = outcome_line(alloc, content.number, &content.verdict)?;
+        put_bytes(out, line.as_slice())?;
+    }
+    Ok(())
+}
+
+/// Puts how a run ended, and how often its devices failed, where they did.
+fn put_end(out: &mut String, ended: &Ended) -> Result<(), OutOfMemory> {
+    let end = &ended.end;
+    let (reads, writes) = (ended.failed_reads, ended.failed_writes);
+    write!(out, "{end}")?;
+    if reads > 0 || writes > 0 {
+        write!(out, "; {reads} reads and {writes} writes failed")?;
+    }
+    put(out, "\n")
+}
+
+/// Puts bytes in hex on a line of their own, where there are any.
+fn put_hex(alloc: Global, out: &mut String, bytes: &[u8]) -> Result<(), OutOfMemory> {
+    if bytes.is_empty() {
+        return Ok(());
+    }
+    let digits = hex::encode(alloc, bytes)?;
+    put(out, digits.as_str())?;
+    put(out, "\n")
+}
+
+/// Runs a connection, and tells of it: the verdicts of its records, and the bytes written, in hex.
+fn tell_pipe(
+    alloc: Global,
+    out: &mut String,
+    gate: &mut Gate,
+    limits: Limits,
+    input: &[u8],
+) -> Result<(), OutOfMemory> {
+    let from = gate.length().saturating_add(1);
+    let ended = connect(alloc, gate, limits, input);
+    put_verdicts(alloc, out, gate, from)?;
+    put_hex(alloc, out, ended.written.as_slice())?;
+    put_end(out, &ended)
+}
+
+/// Runs a script, and tells of it: what it printed.
+fn tell_script(
+    alloc: Global,
+    out: &mut String,
+    gate: &mut Gate,
+    limits: Limits,
+    input: &[u8],
+) -> Result<(), OutOfMemory> {
+    let ended = follow(alloc, gate, limits, input);
+    put_bytes(out, ended.written.as_slice())?;
+    if ended.written.last().is_some_and(|last| *last != b'\n') {
+        put(out, "\n")?;
+    }
+    put_end(out, &ended)
+}
+
+/// The limits that a part's head names, or the usual ones where it names none.
+fn limits_of(words: &str, usual: Limits) -> Option<Limits> {
+    if words.is_empty() {
+        return Some(usual);
+    }
+    let (piece, rest) = words.split_once(' ')?;
+    let (reads, room) = rest.split_once(' ')?;
+    match (piece.parse(), reads.parse(), room.parse()) {
+        (Ok(piece), Ok(reads), Ok(room)) => Some(Limits { piece, reads, room }),
+        _ => None,
+    }
+}
+
+/// Runs a part of a case: its first line says what it is, and names limits where it has its own.
+fn tell_part(
+    alloc: Global,
+    out: &mut String,
+    gate: &mut Gate,
+    part: &str,
+    usual: Limits,
+) -> Result<(), OutOfMemory> {
+    let (head, text) = part.split_once('\n').unwrap_or((part, ""));
+    let (kind, words) = head.split_once(' ').unwrap_or((head, ""));
+    match (kind, limits_of(words, usual)) {
+        ("pipe", Some(limits)) => {
+            let input = bytes_of(alloc, text)?;
+            tell_pipe(alloc, out, gate, limits, input.as_slice())
+        }
+        ("script", Some(limits)) => tell_script(alloc, out, gate, limits, text.as_bytes()),
+        ("script-in-hex", Some(limits)) => {
+            let input = bytes_of(alloc, text)?;
+            tell_script(alloc, out, gate, limits, input.as_slice())
+        }
+        _ => put(out, "no such part\n"),
+    }
+}
+
+/// Puts who is logged in, on which line, and which accounts are killed.
+fn put_state(out: &mut String, gate: &Gate, policy: &Policy) -> Result<(), OutOfMemory> {
+    for user in policy.users() {
+        if let Some(line) = gate.on(user.name) {
+            let name = text_of(&user.name.bytes);
+            writeln!(out, "on: {name} {line}")?;
+        }
+    }
+    for account in policy.accounts() {
+        if gate.is_killed(account.name) {
+            let name = text_of(&account.name.bytes);
+            writeln!(out, "killed: {name}")?;
+        }
+    }
+    Ok(())
+}
+
+/// Runs the parts of a case on a gate, one after the other.
+pub(crate) fn tell_parts(
+    alloc: Global,
+    out: &mut String,
+    gate: &mut Gate,
+    policy: &Policy,
+    parts: &str,
+    usual: Limits,
+) -> Result<(), OutOfMemory> {
+    for part in parts.split("\n-- ") {
+        tell_part(alloc, out, gate, part, usual)?;
+    }
+    put_state(out, gate, policy)
+}

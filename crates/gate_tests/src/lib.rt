@@ -1,5 +1,0 @@
-//! Tests of gx_core.
-#![tactic(auto)]
-
-#[cfg(test)]
-mod gates;

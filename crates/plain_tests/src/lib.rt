@@ -1,5 +1,0 @@
-//! Tests of gx_plain.
-#![tactic(auto)]
-
-#[cfg(test)]
-mod plain;

@@ -1,5 +1,0 @@
-//! Tests of gx_policyfile.
-#![tactic(auto)]
-
-#[cfg(test)]
-mod policy_files;

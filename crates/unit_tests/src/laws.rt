@@ -1,0 +1,68 @@
+//! The laws, which are functions that do nothing: each can be called.
+
+use gx_history_laws::laws::{
+    days_are_runs, denials_change_nothing, granted_enters_take_effect, granted_kills_take_effect,
+    granted_lifts_take_effect, killed_accounts_do_not_trade, matching_waits_for_orders,
+    orders_are_granted_requests, orders_end, requests_are_judged, streams_grow,
+};
+use gx_history_laws::rows::{rows_of_commands, rows_of_orders, rows_of_reports, rows_of_rules};
+use gx_ouch::read_messages_have_no_gaps;
+use gx_people::laws::{
+    commands_change_one_pair, entitlements_are_kept, people_after_one_more, powers_stay,
+};
+use gx_policyfile::{
+    each_is_sound, keys_are_known, names_in_places_differ, order_is_kept, places_are_short,
+};
+use gx_rules::{a_setting_changes_no_name, other_rules_stay, rules_after_one_more};
+use gx_soup::{held_back, nothing_after_fault, packets_grow, read_back};
+
+/// The laws of packets, of messages and of policy files.
+fn call_laws_of_texts() {
+    read_back();
+    nothing_after_fault();
+    packets_grow();
+    held_back();
+    read_messages_have_no_gaps();
+    keys_are_known();
+    places_are_short();
+    names_in_places_differ();
+    each_is_sound();
+    order_is_kept();
+}
+
+/// The laws of days, and the runs worked by hand.
+fn call_laws_of_days() {
+    requests_are_judged();
+    matching_waits_for_orders();
+    denials_change_nothing();
+    days_are_runs();
+    orders_are_granted_requests();
+    granted_enters_take_effect();
+    granted_kills_take_effect();
+    granted_lifts_take_effect();
+    orders_end();
+    killed_accounts_do_not_trade();
+    streams_grow();
+    rows_of_orders();
+    rows_of_commands();
+    rows_of_rules();
+    rows_of_reports();
+}
+
+/// The laws of people and of rules in force.
+fn call_laws_of_settings() {
+    entitlements_are_kept();
+    people_after_one_more();
+    powers_stay();
+    commands_change_one_pair();
+    rules_after_one_more();
+    other_rules_stay();
+    a_setting_changes_no_name();
+}
+
+#[test]
+fn laws_are_there() {
+    call_laws_of_texts();
+    call_laws_of_days();
+    call_laws_of_settings();
+}

@@ -1,0 +1,158 @@
+//! Lines as they are read and as they are printed.
+
+use gx_history::record::{Fill, RuleName, Verdict};
+use gx_history::report::{Message, Report};
+use gx_ouch::{Outbound, RejectReason, Rejected};
+use gx_script::{
+    ScriptLine, ScriptStep, Wanted, Wrong, append, append_number, is_too_long, outcome_line,
+    refused_line, report_lines, with_number,
+};
+use gx_units::{OutOfMemory, Password, RuleId, Token, UserName};
+use std::alloc::Global;
+use std::test::Fail;
+
+const ALICE: UserName = UserName { bytes: *b"ALICE " };
+
+fn read(line: &str) -> Result<ScriptLine, Wrong> {
+    ScriptLine::read(line.as_bytes())
+}
+
+#[test]
+fn lines_that_do_nothing(rt: HostRuntime) {
+    assert!(rt; read("") == Ok(ScriptLine::Skipped));
+    assert!(rt; read("\r") == Ok(ScriptLine::Skipped));
+    assert!(rt; read("# 1 ALICE logout") == Ok(ScriptLine::Skipped));
+}
+
+#[test]
+fn lines_that_ask(rt: HostRuntime) {
+    let apple = Password {
+        bytes: *b"apple     ",
+    };
+    let logout = ScriptLine::Step(7, ALICE, ScriptStep::Logout);
+    let login = ScriptLine::Step(1, ALICE, ScriptStep::Login(apple, 0));
+    assert!(rt; read("stream alice") == Ok(ScriptLine::Stream(ALICE)));
+    assert!(rt; read("007 Alice logout\r") == Ok(logout));
+    assert!(rt; read("1 ALICE login apple 0") == Ok(login));
+}
+
+#[test]
+fn bad_lines(rt: HostRuntime) {
+    let lines = [
+        " 1 ALICE logout",
+        "1  ALICE logout",
+        "1 ALICE logout ",
+        "+1 ALICE logout",
+        "18446744073709551616 ALICE logout",
+        "1 ALICE_B logout",
+        "1 ALICE\tlogout",
+        "1 ALICE Logout",
+        "1 ALICE login apple",
+        "1 ALICE enter A1 BB 1 TEST 1 0",
+        "1 ALICE enter A1 B 4294967296 TEST 1 0",
+        "1 ALICE raw 4",
+        "1 ALICE raw 4g",
+        "1 ALICE cancel A1 0",
+        "1 match",
+        "stream",
+    ];
+    for line in lines {
+        assert!(rt; read(line).is_err(), "{line}");
+    }
+}
+
+#[test]
+fn what_is_wrong(rt: HostRuntime) -> Result<(), Fail> {
+    let wrong = Wrong {
+        word: 6,
+        wanted: Wanted::Shares,
+    };
+    assert!(rt; read("2 ALICE enter A1 B x TEST 10000 99999") == Err(wrong));
+    assert_eq!(rt;
+        format!(in rt.alloc(); "{wrong}")?.as_str(),
+        "word 6: wanted SHARES, a number below 2^32"
+    );
+    Ok(())
+}
+
+#[test]
+fn the_longest_line(rt: HostRuntime) {
+    let mut line = [b'#'; 1026];
+    line[1024] = b'\r';
+    assert!(rt; !is_too_long(&line[..1024]));
+    assert!(rt; !is_too_long(&line[..1025]));
+    assert!(rt; is_too_long(&line));
+}
+
+/// Whether record 7 with the verdict is printed as this line.
+fn is_printed(alloc: Global, verdict: Verdict, line: &str) -> Result<bool, OutOfMemory> {
+    let printed = outcome_line(alloc, 7, &verdict)?;
+    Ok(printed.as_slice() == line.as_bytes())
+}
+
+#[test]
+fn verdicts_are_printed(rt: HostRuntime) -> Result<(), Fail> {
+    let alloc = rt.alloc();
+    let size = RuleName::File(RuleId {
+        bytes: *b"SIZE    ",
+    });
+    let fill = Fill {
+        taker: 5,
+        maker: 3,
+        shares: 100,
+        price: 10_000,
+    };
+    let printed = [
+        is_printed(alloc, Verdict::Granted, "7 granted\n")?,
+        is_printed(alloc, Verdict::Denied(size), "7 denied SIZE\n")?,
+        is_printed(alloc, Verdict::Filled(fill), "7 filled 5 3 100 10000\n")?,
+        is_printed(alloc, Verdict::Rested(6), "7 rested 6\n")?,
+        is_printed(alloc, Verdict::Expired(6), "7 expired 6\n")?,
+    ];
+    assert_eq!(rt; printed, [true; 5]);
+    Ok(())
+}
+
+/// Whether a step that a full day refuses is printed so.
+fn prints_refusal(alloc: Global) -> Result<bool, OutOfMemory> {
+    let line = refused_line(alloc)?;
+    Ok(line.as_slice() == b"refused DayFull\n".as_slice())
+}
+
+#[test]
+fn a_full_day_is_printed(rt: HostRuntime) -> Result<(), Fail> {
+    assert!(rt; prints_refusal(rt.alloc())?);
+    Ok(())
+}
+
+/// Whether a number behind a text, a text behind both, and a number behind all are these bytes.
+fn grows(alloc: Global) -> Result<bool, OutOfMemory> {
+    let mut text = with_number(alloc, b"a ", 10)?;
+    append(&mut text, b" b ")?;
+    append_number(&mut text, 0)?;
+    Ok(text.as_slice() == b"a 10 b 0".as_slice())
+}
+
+#[test]
+fn texts_grow(rt: HostRuntime) -> Result<(), Fail> {
+    assert!(rt; grows(rt.alloc())?);
+    Ok(())
+}
+
+#[test]
+fn streams_are_printed(rt: HostRuntime) -> Result<(), Fail> {
+    let report = Report {
+        timestamp: 4,
+        message: Message::Order(Outbound::Rejected(Rejected {
+            token: Token {
+                bytes: *b"A2            ",
+            },
+            reason: RejectReason::SharesExceedSafety,
+        })),
+    };
+    let text = report_lines(rt.alloc(), ALICE, &[report, report])?;
+    let lines =
+        "ALICE 1 4a000000000000000441322020202020202020202020205a\nALICE 2 4a000000000000000441322020202020202020202020205a\n";
+    assert_eq!(rt; text.as_slice(), lines.as_bytes());
+    Ok(())
+}
