@@ -3,6 +3,7 @@
 ghost use Rattle.std.specs.Prelude.{◌≡◌, ◌+◌, ◌&&◌, max, nat_lt, ◌≤◌, ◌<◌, ◌↔◌, ◌++◌, [], ◌∷◌, length, IsTrue, IsFalse, IfOk, IfErr, OnErr, Some, None, is_some};
 ghost use Rattle.gx_units.specs.declared.names.AccountName.{AccountName};
 ghost use Rattle.gx_desk.specs.declared.Action.TheVariants as actions;
+ghost use Rattle.gx_desk.specs.declared.Command.{Command};
 ghost use Rattle.gx_ouch.specs.declared.inbound.EnterOrder.{EnterOrder};
 ghost use Rattle.gx_units.specs.Spelling.{folded_user, folded_password, folded_session};
 ghost use Rattle.gx_history.specs.declared.record.Request.TheVariants as requests;
@@ -13,9 +14,8 @@ ghost use Rattle.gx_history.specs.Brought.{is_brought};
 ghost use Rattle.gx_history.specs.InForce.{line_of, is_closed, is_killed, rules_in_force};
 ghost use Rattle.gx_history.specs.Lists.{slice};
 ghost use Rattle.gx_history.specs.Logins.{login_asked};
-ghost use Rattle.gx_history.specs.People.{user_named};
+ghost use Rattle.gx_history.specs.People.{user_in};
 ghost use Rattle.gx_history.specs.Plain.{rules_need_no_figures};
-ghost use Rattle.gx_history.specs.Requests.{action_of};
 ghost use Rattle.gx_history.specs.Rules.{first_forbidding, IsFirstForbidding};
 ghost use Rattle.gx_history.specs.Showing.{is_askable, is_showable};
 ghost use Rattle.gx_history.specs.Streams.{stream};
@@ -143,8 +143,8 @@ impl Gate {
         ensures denied { IfOk result (λ o. (name : RuleName) → o.verdict ≡ verdicts.Denied name → IsFirstForbidding (rules_now self.old.policy self.old.records a) (facts_now self.old.policy self.old.records a) a.request name) }
         ensures kept { IfOk result (λ o. (name : RuleName) → o.verdict ≡ verdicts.Denied name → IsAsBefore self.old.policy self.old.records self.new.records) }
         ensures entered { IfOk result (λ o. (m : EnterOrder) → a.request ≡ requests.Enter m → o.verdict ≡ verdicts.Granted → TakesEffect self.old.policy self.old.records self.new.records (left_by a o) a.user m) }
-        ensures killed { IfOk result (λ o. (account : AccountName) → action_of a.request ≡ Some (actions.Kill account) → o.verdict ≡ verdicts.Granted → KillsAccount self.old.policy self.old.records self.new.records (left_by a o) account) }
-        ensures lifted { IfOk result (λ o. (account : AccountName) → action_of a.request ≡ Some (actions.Lift account) → o.verdict ≡ verdicts.Granted → LiftsAccount self.old.policy self.old.records self.new.records account) }
+        ensures killed { IfOk result (λ o. (c : Command) (account : AccountName) → a.request ≡ requests.Command c → c.action ≡ actions.Kill account → o.verdict ≡ verdicts.Granted → KillsAccount self.old.policy self.old.records self.new.records (left_by a o) a.user c account) }
+        ensures lifted { IfOk result (λ o. (c : Command) (account : AccountName) → a.request ≡ requests.Command c → c.action ≡ actions.Lift account → o.verdict ≡ verdicts.Granted → LiftsAccount self.old.policy self.old.records self.new.records (left_by a o) a.user c account) }
         ensures lifted_by { IfOk result (λ o. (account : AccountName) → IsTrue (is_killed self.old.policy self.old.records account) → IsFalse (is_killed self.new.policy self.new.records account) → IsGrantedLift self.old.policy account (left_by a o)) }
         ensures unchanged { OnErr result (self.new ≡ self.old) }
         ensures full { day_limit ≤ length self.old.records → result ≡ Err faults.DayFull }
@@ -184,7 +184,7 @@ impl Gate {
     /// Whether the policy has this user.
     #[tactic(auto, using(crate::proofs::Stepping::people_kept))]
     pub fn knows(&self, user: UserName) -> bool
-        ensures { result ≡ is_some (user_named self.now.policy user) }
+        ensures { result ≡ is_some (user_in self.now.policy.users user) }
     {
         self.people.knows(user)
     }

@@ -4,11 +4,11 @@ ghost use Rattle.std.specs.Prelude.{◌≡◌, ◌^◌, ◌<◌, length, is_some
 ghost use Rattle.gx_history.specs.Asking.{facts, is_on_line, is_available, fits_role, of_command, knows_names, has_power, are_his, changes};
 ghost use Rattle.gx_history.specs.Brought.{is_brought};
 ghost use Rattle.gx_history.specs.InForce.{rules_in_force};
-ghost use Rattle.gx_history.specs.People.{account_named};
+ghost use Rattle.gx_history.specs.People.{account_named, role_in};
 ghost use Rattle.gx_history.specs.Plain.{rules_need_no_figures};
 ghost use Rattle.gx_history.specs.Showing.{answers};
 ghost use Rattle.gx_history.specs.Verdicts.{verdict, verdict_by};
-ghost use Rattle.gx_people.specs.Entitled.{holds, people_in_force, role_in};
+ghost use Rattle.gx_people.specs.Entitled.{holds, people_in_force};
 ghost use Rattle.gx_plain.specs.Stage.{are_brought};
 ghost use Rattle.gx_core.specs.Known.{is_known_among};
 

@@ -25,7 +25,7 @@ use Rattle.gx_history.specs.Asking.{facts, live_named, named_order}
 use Rattle.gx_history.specs.Executions.{Standing, standing, standings, standing_under, executions, is_live, live_orders}
 use Rattle.gx_history.specs.Lists.{last_such}
 use Rattle.gx_history.specs.Orders.{Order, orders, orders_added, orders_made, order_under, entered, replacing, is_token_used}
-use Rattle.gx_history.specs.People.{role_of}
+use Rattle.gx_history.specs.People.{role_in}
 use Rattle.gx_history.specs.Requests.{granted, asked, is_granted, is_order, new_token}
 use Rattle.gx_history.specs.RuleNames.{rules_before}
 use Rattle.gx_history.specs.Rules.{forbids}
@@ -110,7 +110,7 @@ pub found_passes : {X : Type 0} (p : X → Bool) (xs : List X) (x : X) → last_
 found_passes {X} p xs x h = found_last (λ (y : X). p y ≡ true) None (filter p xs) x (nothing_found (λ (y : X). p y ≡ true) x) (all_pass p xs) h
 
 -- an order that is live under the token is an order under the token
-under_known : (policy : PolicyData) (history : List RecordData) (user : UserName) (token : Token)
+pub under_known : (policy : PolicyData) (history : List RecordData) (user : UserName) (token : Token)
     → is_none (standing_under (live_orders policy history) user token) ≡ false → is_none (order_under (orders policy history) user token) ≡ false
 unfolding live_orders standings
 under_known policy history user token h =
@@ -203,7 +203,7 @@ one_order policy history r a q o asks grants e makes for_order under his numbere
 enter_adds : (policy : PolicyData) (history : List RecordData) (r : RecordData) (a : Asked) (m : EnterOrder) → next policy history (steps.Asked a) ≡ Some r
     → r.step ≡ steps.Asked a → r.verdict ≡ verdicts.Granted → a.request ≡ requests.Enter m → AddsOne policy history r
 enter_adds policy history r a m left asks grants e =
-    let his : HasAccount (role_of policy a.user) = entered_has_account policy history a r m left grants e in
+    let his : HasAccount (role_in policy.users a.user) = entered_has_account policy history a r m left grants e in
     one_order policy history r a (requests.Enter m) (entered policy r a.user his.0 m) asks grants e
     (ap (λ (found : Option AccountName). option_map_or (λ (account : AccountName). entered policy r a.user account m ∷ []) found []) his.1) refl refl refl refl
 

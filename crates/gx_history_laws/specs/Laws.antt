@@ -1,34 +1,30 @@
 -- What the definitions say of every policy, every history and every request.
 use Rattle.std.specs.Option.{option_map_or}
-use Rattle.std.specs.Prelude.{◌≡◌, ℕ, ◌+◌, ◌≤◌, length, List, [], ◌∷◌, ◌++◌, map, Some, None, ◌↔◌, IsTrue, IsFalse, Bool, false, ◌&&◌, filter}
+use Rattle.std.specs.Prelude.{◌≡◌, ◌+◌, ◌≤◌, ◌||◌, unwrap_or, length, List, [], ◌∷◌, ◌++◌, map, Some, ◌↔◌, IsTrue, IsFalse, Bool, false, ◌&&◌, filter}
 use Rattle.std.specs.List.{list_any, AllByRecursion}
 use Rattle.gx_units.specs.Names.{same_user, same_token}
 use Rattle.gx_units.specs.declared.names.AccountName.{AccountName}
+use Rattle.gx_units.specs.declared.names.Token.{Token}
 use Rattle.gx_units.specs.declared.names.UserName.{UserName}
-use Rattle.gx_ouch.specs.declared.inbound.EnterOrder.{EnterOrder}
 use Rattle.gx_desk.specs.declared.Action.{Action}
-use Rattle.gx_desk.specs.declared.Action.TheVariants as actions
 use Rattle.gx_history.specs.declared.policy.PolicyData.{PolicyData}
 use Rattle.gx_history.specs.declared.record.Asked.{Asked}
 use Rattle.gx_history.specs.declared.record.RecordData.{RecordData}
-use Rattle.gx_history.specs.declared.record.Request.TheVariants as requests
 use Rattle.gx_history.specs.declared.record.RuleName.{RuleName}
 use Rattle.gx_history.specs.declared.record.Step.{Step}
 use Rattle.gx_history.specs.declared.record.Step.TheVariants as steps
 use Rattle.gx_history.specs.declared.record.Verdict.TheVariants as verdicts
-use Rattle.gx_history.specs.Book.{incoming}
-use Rattle.gx_history.specs.Effects.{IsAsBefore, TakesEffect, KillsAccount, LiftsAccount, IsGrantedLift, HasNoOrders}
-use Rattle.gx_history.specs.Executions.{Execution, Standing, executions, live_orders, open_shares}
-use Rattle.gx_history.specs.Orders.{Order, orders, ends_account, total}
-use Rattle.gx_history.specs.Requests.{granted, granted_action, action_of, is_order}
-use Rattle.gx_history.specs.InForce.{is_killed}
+use Rattle.gx_history.specs.Executions.{Execution, Standing, live_orders, open_shares}
+use Rattle.gx_history.specs.InForce.{is_closed, is_killed, kill_or_lift_of, line_of, login_or_logout_of, record_closes}
+use Rattle.gx_history.specs.Orders.{Order, orders, ends_account, is_token_used, record_uses, total}
+use Rattle.gx_history.specs.Requests.{granted, granted_action, granted_mark, is_order}
 use Rattle.gx_history.specs.Lists.{are_distinct}
 use Rattle.gx_history.specs.People.{account_of}
 use Rattle.gx_history.specs.Streams.{stream, reports_of}
 use Rattle.gx_history.specs.Rules.{applies, written_order, IsFirstForbidding}
 use Rattle.gx_history.specs.Showing.{is_askable, is_showable}
 use Rattle.gx_history.specs.Soundness.{is_sound}
-use Rattle.gx_history.specs.Verdicts.{verdict, facts_now, rules_now, next, moment_of, run, day_limit, Follows, IsLegal}
+use Rattle.gx_history.specs.Verdicts.{verdict, facts_now, rules_now, next, last_moment, moment_of, run, day_limit, Follows, IsLegal}
 
 -- a request leaves one record: the next number, the moment, the request and its verdict
 abbrev pub RequestsLeaveRecords : Type 0
@@ -50,16 +46,6 @@ DeniedByTheFirst = (policy : PolicyData) (history : List RecordData) (a : Asked)
 abbrev pub RequestsAreShown : Type 0
 RequestsAreShown = (policy : PolicyData) (history : List RecordData) (a : Asked) (r : RecordData)
     → IsTrue (is_sound policy) → IsTrue (is_askable a) → next policy history (steps.Asked a) ≡ Some r → IsTrue (is_showable r)
-
--- a matching step leaves no record exactly where no order waits to be matched
-abbrev pub IdleWhereNoneWaits : Type 0
-IdleWhereNoneWaits = (policy : PolicyData) (history : List RecordData) (handed : ℕ)
-    → next policy history (steps.Matching handed) ≡ None ↔ incoming policy history ≡ []
-
--- a denied record changes no order, no figure, no book and nothing in force
-abbrev pub DenialsChangeNothing : Type 0
-DenialsChangeNothing = (policy : PolicyData) (history : List RecordData) (r : RecordData) (rule : RuleName)
-    → r.verdict ≡ verdicts.Denied rule → IsAsBefore policy history (history ++ r ∷ [])
 
 -- a history is legal exactly where its beginning is, and its last record is what its step leaves
 abbrev pub LegalGoesOn : Type 0
@@ -118,48 +104,30 @@ abbrev pub AccountsAreTheUsers : Type 0
 AccountsAreTheUsers = (policy : PolicyData) (history : List RecordData)
     → AllByRecursion (λ (o : Order). account_of policy o.user ≡ Some o.account) (orders policy history)
 
--- no Enter or Replace of a killed account is granted
-abbrev pub KilledPlaceNoOrders : Type 0
-KilledPlaceNoOrders = (policy : PolicyData) (history : List RecordData) (a : Asked) (r : RecordData) (account : AccountName)
-    → next policy history (steps.Asked a) ≡ Some r → r.verdict ≡ verdicts.Granted → IsTrue (is_order a.request) → account_of policy a.user ≡ Some account
-    → IsFalse (is_killed policy history account)
-
--- in a legal history no order of a killed account has open shares, resting or not
-abbrev pub KilledAreNotLive : Type 0
-KilledAreNotLive = (policy : PolicyData) (history : List RecordData)
-    → IsLegal policy history
-    → AllByRecursion (λ (o : Order). IsTrue (is_killed policy history o.account) → open_shares (executions policy history) history o ≡ 0) (orders policy history)
-
--- a granted Enter is live with all its shares, the last of those that wait to be matched
-abbrev pub EntersTakeEffect : Type 0
-EntersTakeEffect = (policy : PolicyData) (history : List RecordData) (a : Asked) (r : RecordData) (m : EnterOrder)
-    → IsLegal policy history → next policy history (steps.Asked a) ≡ Some r → a.request ≡ requests.Enter m → r.verdict ≡ verdicts.Granted
-    → TakesEffect policy history (history ++ r ∷ []) r a.user m
-
--- a granted Kill kills the account and ends its orders, and no other changes
-abbrev pub KillsTakeEffect : Type 0
-KillsTakeEffect = (policy : PolicyData) (history : List RecordData) (a : Asked) (r : RecordData) (account : AccountName)
-    → IsLegal policy history → next policy history (steps.Asked a) ≡ Some r → action_of a.request ≡ Some (actions.Kill account) → r.verdict ≡ verdicts.Granted
-    → KillsAccount policy history (history ++ r ∷ []) r account
-
--- a granted Lift lifts the account, and brings no order back
-abbrev pub LiftsTakeEffect : Type 0
-LiftsTakeEffect = (policy : PolicyData) (history : List RecordData) (a : Asked) (r : RecordData) (account : AccountName)
-    → IsLegal policy history → next policy history (steps.Asked a) ≡ Some r → action_of a.request ≡ Some (actions.Lift account) → r.verdict ≡ verdicts.Granted
-    → LiftsAccount policy history (history ++ r ∷ []) account
-
--- a killed account is killed no longer only by a Lift, granted to an officer with the power and the account
-abbrev pub KillsEndByLifts : Type 0
-KillsEndByLifts = (policy : PolicyData) (history : List RecordData) (r : RecordData) (account : AccountName)
-    → Follows policy (history, r) → IsTrue (is_killed policy history account) → IsFalse (is_killed policy (history ++ r ∷ []) account)
-    → IsGrantedLift policy account r
-
--- in a legal history a killed account has no order that is live, waits or rests
-abbrev pub KilledHaveNoOrders : Type 0
-KilledHaveNoOrders = (policy : PolicyData) (history : List RecordData) (account : AccountName)
-    → IsLegal policy history → IsTrue (is_killed policy history account) → HasNoOrders policy history account
-
 -- one more record adds what it owes to the end of each stream, and changes nothing that was told
 abbrev pub StreamsGrow : Type 0
 StreamsGrow = (policy : PolicyData) (history : List RecordData) (r : RecordData) (user : UserName)
     → stream policy (history ++ r ∷ []) user ≡ stream policy history user ++ reports_of policy user (history, r)
+
+-- one more record uses at most one token more: that of an Enter or a Replace that is granted or answered
+abbrev pub TokensGrow : Type 0
+TokensGrow = (history : List RecordData) (r : RecordData) (user : UserName) (token : Token)
+    → is_token_used (history ++ r ∷ []) user token ≡ (is_token_used history user token || record_uses user token r)
+
+-- a granted Login puts its user on a line, a granted Logout on none, and no other record moves anybody
+abbrev pub LinesGoOn : Type 0
+LinesGoOn = (history : List RecordData) (r : RecordData) (user : UserName)
+    → line_of (history ++ r ∷ []) user ≡ unwrap_or (login_or_logout_of user r) (line_of history user)
+
+-- a granted Kill or Lift of the account decides whether it is killed, and no other record does
+abbrev pub KillsGoOn : Type 0
+KillsGoOn = (policy : PolicyData) (history : List RecordData) (r : RecordData) (account : AccountName)
+    → is_killed policy (history ++ r ∷ []) account ≡ unwrap_or (granted_mark (kill_or_lift_of account) r) (is_killed policy history account)
+
+-- a granted Close Day closes the day, and it stays closed
+abbrev pub DaysEnd : Type 0
+DaysEnd = (history : List RecordData) (r : RecordData) → is_closed (history ++ r ∷ []) ≡ (is_closed history || record_closes r)
+
+-- the moment of the last record is that of the record
+abbrev pub MomentsGoOn : Type 0
+MomentsGoOn = (history : List RecordData) (r : RecordData) → last_moment (history ++ r ∷ []) ≡ r.moment

@@ -1,6 +1,6 @@
 //! Laws of the definitions, each as what a function without a body ensures.
 
-ghost use Rattle.gx_history_laws.specs.Laws.{RequestsLeaveRecords, GrantedWhereNoneForbids, DeniedByTheFirst, RequestsAreShown, IdleWhereNoneWaits, DenialsChangeNothing, LegalGoesOn, RunsAreLegal, LegalAreRuns, NumbersArePlaces, OpenIsWithinTotal, EndedAreNotLive, OrdersAreGrants, OrderNumbersAreWithin, TokensDiffer, AccountsAreTheUsers, KilledPlaceNoOrders, KilledAreNotLive, EntersTakeEffect, KillsTakeEffect, LiftsTakeEffect, KillsEndByLifts, KilledHaveNoOrders, StreamsGrow};
+ghost use Rattle.gx_history_laws.specs.Laws.{RequestsLeaveRecords, GrantedWhereNoneForbids, DeniedByTheFirst, RequestsAreShown, LegalGoesOn, RunsAreLegal, LegalAreRuns, NumbersArePlaces, OrdersAreGrants, OrderNumbersAreWithin, TokensDiffer, AccountsAreTheUsers, OpenIsWithinTotal, EndedAreNotLive, TokensGrow, LinesGoOn, KillsGoOn, DaysEnd, MomentsGoOn, StreamsGrow};
 
 /// A request leaves a record of its verdict: granted where no rule forbids, else denied by the first that does.
 pub fn requests_are_judged()
@@ -8,16 +8,6 @@ pub fn requests_are_judged()
     ensures granted { GrantedWhereNoneForbids }
     ensures denied { DeniedByTheFirst }
     ensures shown { RequestsAreShown }
-{}
-
-/// A matching step leaves a record exactly where an order waits to be matched.
-pub fn matching_waits_for_orders()
-    ensures { IdleWhereNoneWaits }
-{}
-
-/// A denied record changes no order, no figure, no book and nothing in force.
-pub fn denials_change_nothing()
-    ensures { DenialsChangeNothing }
 {}
 
 /// Legal histories are the runs of steps, and go on record by record.
@@ -36,33 +26,19 @@ pub fn orders_are_granted_requests()
     ensures accounts { AccountsAreTheUsers }
 {}
 
-/// A granted Enter is live with all its shares, the last of those that wait to be matched.
-pub fn granted_enters_take_effect()
-    ensures { EntersTakeEffect }
-{}
-
-/// A granted Kill kills the account and ends its orders, each reported with what was open; no other order changes.
-pub fn granted_kills_take_effect()
-    ensures { KillsTakeEffect }
-{}
-
-/// A granted Lift lifts the account, and brings no order back.
-pub fn granted_lifts_take_effect()
-    ensures { LiftsTakeEffect }
-{}
-
 /// Open shares are a part of the total, and a Kill or the end of the day leaves none.
 pub fn orders_end()
     ensures within { OpenIsWithinTotal }
     ensures ended { EndedAreNotLive }
 {}
 
-/// A killed account is granted no Enter and no Replace, and none of its orders is live until an officer lifts it.
-pub fn killed_accounts_do_not_trade()
-    ensures none_placed { KilledPlaceNoOrders }
-    ensures none_live { KilledAreNotLive }
-    ensures no_orders { KilledHaveNoOrders }
-    ensures until_lifted { KillsEndByLifts }
+/// What one more record does to used tokens, lines, kills, the end of the day and the moment, from that record alone.
+pub fn states_go_on()
+    ensures tokens { TokensGrow }
+    ensures lines { LinesGoOn }
+    ensures kills { KillsGoOn }
+    ensures day { DaysEnd }
+    ensures moment { MomentsGoOn }
 {}
 
 /// What a user was told stays, and each record adds to the end.

@@ -14,9 +14,9 @@ use Rattle.gx_history.specs.declared.policy.Role.{Role}
 use Rattle.gx_history.specs.declared.policy.Role.TheVariants as roles
 use Rattle.gx_history.specs.declared.policy.User.{User}
 use Rattle.gx_history.specs.declared.record.RecordData.{RecordData}
-use Rattle.gx_history.specs.People.{is_reader, role_of, user_named, reader_named}
+use Rattle.gx_history.specs.People.{is_reader, role_in, user_in, reader_in}
 use Rattle.gx_history.specs.Requests.{granted_actions}
-use Rattle.gx_people.specs.Entitled.{user_in, role_in, change_role, with_account, without_account, granted_to, revoked_from, reader_in, given, people_in_force}
+use Rattle.gx_people.specs.Entitled.{change_role, with_account, without_account, granted_to, revoked_from, given, people_in_force}
 use Rattle.gx_people.proofs.Table.{some_is}
 
 -- the user of a name, after a role changed
@@ -61,7 +61,7 @@ all_stays g stays (action ∷ done) users name = all_stays g stays done (given u
 
 -- what stays of the users in force
 pub stays_in_force : {Y : Type 0} (g : User → Y) → Stays g → (policy : PolicyData) (history : List RecordData) (name : UserName)
-    → option_map g (user_in (people_in_force policy history) name) ≡ option_map g (user_named policy name)
+    → option_map g (user_in (people_in_force policy history) name) ≡ option_map g (user_in policy.users name)
 unfolding people_in_force
 stays_in_force g stays policy history name = all_stays g stays (granted_actions history) policy.users name
 
@@ -93,9 +93,9 @@ given_word k stays users action name =
 
 -- a word on the role of a user in force
 pub role_word : {Y : Type 0} (k : Option Role → Y) → RoleStays (λ r. k (Some r)) → (policy : PolicyData) (history : List RecordData) (name : UserName)
-    → k (role_in (people_in_force policy history) name) ≡ k (role_of policy name)
+    → k (role_in (people_in_force policy history) name) ≡ k (role_in policy.users name)
 role_word k stays policy history name =
-    word_of k (user_in (people_in_force policy history) name) (user_named policy name)
+    word_of k (user_in (people_in_force policy history) name) (user_in policy.users name)
     (stays_in_force (λ (u : User). k (Some u.role)) (role_stays (λ r. k (Some r)) stays) policy history name)
 
 pub reader_stays : RoleStays (λ r. is_reader (Some r))
@@ -147,6 +147,6 @@ all_reader (action ∷ done) users written = all_reader done (given users action
 
 -- the reader whom an officer names is the policy's
 pub reader_in_force : (policy : PolicyData) (history : List RecordData) (written : WrittenName)
-    → option_map (λ (u : User). u.name) (reader_in (people_in_force policy history) written) ≡ option_map (λ (u : User). u.name) (reader_named policy written)
+    → option_map (λ (u : User). u.name) (reader_in (people_in_force policy history) written) ≡ option_map (λ (u : User). u.name) (reader_in policy.users written)
 unfolding people_in_force
 reader_in_force policy history written = all_reader (granted_actions history) policy.users written

@@ -22,10 +22,10 @@ use Rattle.gx_history.specs.declared.record.Asked.{Asked}
 use Rattle.gx_history.specs.declared.record.RecordData.{RecordData}
 use Rattle.gx_history.specs.InForce.{in_role, is_entitled, grant_or_revoke_of, last_mark}
 use Rattle.gx_history.specs.Lists.{last_value, where_true}
-use Rattle.gx_history.specs.People.{is_reader, role_of, names_account}
+use Rattle.gx_history.specs.People.{is_reader, role_in, names_account, user_in, reader_in}
 use Rattle.gx_history.specs.Requests.{granted, granted_actions, granted_mark, action_of}
 use Rattle.gx_history.specs.Soundness.{is_sound}
-use Rattle.gx_people.specs.Entitled.{user_in, role_in, change_role, with_account, without_account, granted_to, revoked_from, reader_in, given, people_in_force, sees}
+use Rattle.gx_people.specs.Entitled.{change_role, with_account, without_account, granted_to, revoked_from, given, people_in_force, sees}
 use Rattle.gx_people.proofs.Table.{some_is, user_is}
 use Rattle.gx_people.proofs.Spelling.{AreUpper, same_written, sound_upper}
 use Rattle.gx_people.proofs.Changing.{user_changed, role_word, reader_stays, given_word}
@@ -352,9 +352,9 @@ entitled_from (r ∷ rs) users reader account upper reads =
 pub kept : (policy : PolicyData) (history : List RecordData) (reader : UserName) (account : AccountName) → is_sound policy ≡ true
     → sees (people_in_force policy history) reader account ≡ is_entitled policy history reader account
 unfolding people_in_force is_entitled
-kept policy history reader account sound = by (is_reader (role_of policy reader)) refl
+kept policy history reader account sound = by (is_reader (role_in policy.users reader)) refl
   where
-    by : (b : Bool) → is_reader (role_of policy reader) ≡ b → sees (people_in_force policy history) reader account ≡ is_entitled policy history reader account
+    by : (b : Bool) → is_reader (role_in policy.users reader) ≡ b → sees (people_in_force policy history) reader account ≡ is_entitled policy history reader account
     by true reads =
         entitled_from history policy.users reader account (sound_upper policy sound) reads
         ∙ ap (λ b. b && last_mark (grant_or_revoke_of reader account) history (sees policy.users reader account)) (sym reads)

@@ -15,11 +15,11 @@ use Rattle.gx_history.specs.declared.policy.User.{User}
 use Rattle.gx_history.specs.declared.record.RecordData.{RecordData}
 use Rattle.gx_history.specs.Asking.{has_power, sees_now}
 use Rattle.gx_history.specs.InForce.{is_entitled}
-use Rattle.gx_history.specs.Logins as logins
-use Rattle.gx_history.specs.People.{account_of, account_of_role, is_officer, is_trader, reader_named, role_of, user_named}
+use Rattle.gx_history.specs.Logins.{password_is, same_password}
+use Rattle.gx_history.specs.People.{account_of, account_of_role, is_officer, is_trader, reader_in, role_in, user_in}
 use Rattle.gx_history.specs.Requests.{granted_action}
 use Rattle.gx_history.specs.Soundness.{is_sound}
-use Rattle.gx_people.specs.Entitled.{given, granted_to, has, has_in_role, holds, holds_in_role, password_is, people_in_force, power_of, reader_in, revoked_from, role_in, sees, user_in}
+use Rattle.gx_people.specs.Entitled.{given, granted_to, has, has_in_role, holds, holds_in_role, people_in_force, power_of, revoked_from, sees}
 use Rattle.gx_history_laws.proofs.NextInForce.{granted_next}
 use Rattle.gx_people.proofs.Table.{is_some_map, map_or, some_is}
 use Rattle.gx_people.proofs.Changing.{RoleStays, reader_in_force, role_word, stays_in_force}
@@ -35,8 +35,8 @@ pub named_see : (policy : PolicyData) (history : List RecordData) (written : Wri
 named_see policy history written account sound =
     let sees_it : UserName → Bool = λ (name : UserName). sees (people_in_force policy history) name account in
     ap (λ o. option_map_or sees_it o false) (reader_in_force policy history written)
-    ∙ sym (map_or (λ (u : User). u.name) sees_it (reader_named policy written))
-    ∙ map_or_same (λ (u : User). sees_it u.name) (λ (u : User). is_entitled policy history u.name account) (λ u. kept policy history u.name account sound) (reader_named policy written)
+    ∙ sym (map_or (λ (u : User). u.name) sees_it (reader_in policy.users written))
+    ∙ map_or_same (λ (u : User). sees_it u.name) (λ (u : User). is_entitled policy history u.name account) (λ u. kept policy history u.name account sound) (reader_in policy.users written)
 
 pub first_users : (policy : PolicyData) → people_in_force policy [] ≡ policy.users
 unfolding people_in_force
@@ -62,9 +62,9 @@ power_for_is (Some (roles.Officer his scope)) (actions.Revoke reader account) = 
 power_for_is (Some (roles.Officer his scope)) actions.CloseDay = refl
 
 pub powers_stay : (policy : PolicyData) (history : List RecordData) (user : UserName) (action : Action)
-    → has (people_in_force policy history) user (power_of action) ≡ has_power (role_of policy user) action
+    → has (people_in_force policy history) user (power_of action) ≡ has_power (role_in policy.users user) action
 powers_stay policy history user action =
-    role_word (λ (role : Option Role). has_in_role role (power_of action)) stays policy history user ∙ power_for_is (role_of policy user) action
+    role_word (λ (role : Option Role). has_in_role role (power_of action)) stays policy history user ∙ power_for_is (role_in policy.users user) action
   where
     stays : RoleStays (λ r. has_in_role (Some r) (power_of action))
     stays a (roles.Trader account) = (refl, refl)
@@ -72,7 +72,7 @@ powers_stay policy history user action =
     stays a (roles.Reader names) = (refl, refl)
 
 pub scopes_stay : (policy : PolicyData) (history : List RecordData) (user : UserName) (account : AccountName)
-    → holds (people_in_force policy history) user account ≡ holds_in_role (role_of policy user) account
+    → holds (people_in_force policy history) user account ≡ holds_in_role (role_in policy.users user) account
 scopes_stay policy history user account = role_word (λ (role : Option Role). holds_in_role role account) stays policy history user
   where
     stays : RoleStays (λ r. holds_in_role (Some r) account)
@@ -86,7 +86,7 @@ trader_stays a (roles.Officer his scope) = (refl, refl)
 trader_stays a (roles.Reader names) = (refl, refl)
 
 pub traders_stay : (policy : PolicyData) (history : List RecordData) (user : UserName)
-    → is_trader (role_in (people_in_force policy history) user) ≡ is_trader (role_of policy user)
+    → is_trader (role_in (people_in_force policy history) user) ≡ is_trader (role_in policy.users user)
 traders_stay policy history user = role_word (λ (role : Option Role). is_trader role) trader_stays policy history user
 
 officer_stays : RoleStays (λ r. is_officer (Some r))
@@ -95,7 +95,7 @@ officer_stays a (roles.Officer his scope) = (refl, refl)
 officer_stays a (roles.Reader names) = (refl, refl)
 
 pub officers_stay : (policy : PolicyData) (history : List RecordData) (user : UserName)
-    → is_officer (role_in (people_in_force policy history) user) ≡ is_officer (role_of policy user)
+    → is_officer (role_in (people_in_force policy history) user) ≡ is_officer (role_in policy.users user)
 officers_stay policy history user = role_word (λ (role : Option Role). is_officer role) officer_stays policy history user
 
 account_stays : RoleStays account_of_role
@@ -108,19 +108,19 @@ pub accounts_stay : (policy : PolicyData) (history : List RecordData) (user : Us
 accounts_stay policy history user = role_word (option_and_then account_of_role) account_stays policy history user
 
 pub passwords_stay : (policy : PolicyData) (history : List RecordData) (user : UserName) (password : Password)
-    → password_is (people_in_force policy history) user password ≡ logins.password_is policy user password
+    → password_is (people_in_force policy history) user password ≡ password_is policy.users user password
 passwords_stay policy history user password =
-    let test : Password → Bool = λ (p : Password). logins.same_password p password in
+    let test : Password → Bool = λ (p : Password). same_password p password in
     map_or (λ (u : User). u.password) test (user_in (people_in_force policy history) user)
     ∙ ap (λ o. option_map_or test o false) (stays_in_force (λ (u : User). u.password) (λ n a u. (refl, refl)) policy history user)
-    ∙ sym (map_or (λ (u : User). u.password) test (user_named policy user))
+    ∙ sym (map_or (λ (u : User). u.password) test (user_in policy.users user))
 
 pub users_stay : (policy : PolicyData) (history : List RecordData) (user : UserName)
-    → is_some (user_in (people_in_force policy history) user) ≡ is_some (user_named policy user)
+    → is_some (user_in (people_in_force policy history) user) ≡ is_some (user_in policy.users user)
 users_stay policy history user =
     sym (is_some_map (λ (u : User). u.password) (user_in (people_in_force policy history) user))
     ∙ ap is_some (stays_in_force (λ (u : User). u.password) (λ n a u. (refl, refl)) policy history user)
-    ∙ is_some_map (λ (u : User). u.password) (user_named policy user)
+    ∙ is_some_map (λ (u : User). u.password) (user_in policy.users user)
 
 pub grants_go : (users : List User) (written : WrittenName) (account : AccountName) (reader : UserName)
     → option_map (λ (u : User). u.name) (reader_in users written) ≡ Some reader → given users (actions.Grant written account) ≡ granted_to reader account users

@@ -19,10 +19,10 @@ use Rattle.gx_history.specs.declared.policy.User.{User}
 use Rattle.gx_history.specs.declared.policy.PolicyData.{PolicyData}
 use Rattle.gx_history.specs.Lists.{are_distinct}
 use Rattle.gx_history.specs.InForce.{in_role}
-use Rattle.gx_history.specs.Logins.{same_password}
-use Rattle.gx_history.specs.People.{is_reader}
+use Rattle.gx_history.specs.Logins.{password_is, same_password}
+use Rattle.gx_history.specs.People.{is_reader, user_in, role_in, reader_in}
 use Rattle.gx_history.specs.Soundness.{is_sound, names_differ}
-use Rattle.gx_people.specs.Entitled.{user_in, role_in, change_role, password_is, reader_in, sees}
+use Rattle.gx_people.specs.Entitled.{change_role, sees}
 use Rattle.gx_people.specs.View.{role_of_standing, user_of, users_of}
 use Rattle.gx_people.specs.declared.person.Person.{Person}
 

@@ -1,13 +1,9 @@
 -- Who may do what, and who sees which account, among users as they are now.
 use Rattle.std.specs.Option.{option_map_or}
-use Rattle.std.specs.Prelude.{Bool, false, not, ◌&&◌, List, [], ◌∷◌, ◌++◌, map, fold, filter, if◌then◌else◌, Option, Some, option_map}
-use Rattle.std.specs.List.{find}
+use Rattle.std.specs.Prelude.{Bool, false, not, ◌&&◌, List, [], ◌∷◌, ◌++◌, map, fold, filter, if◌then◌else◌, Option, Some}
 use Rattle.gx_units.specs.Names.{same_user, same_account}
 use Rattle.gx_units.specs.declared.names.AccountName.{AccountName}
-use Rattle.gx_units.specs.declared.names.Password.{Password}
 use Rattle.gx_units.specs.declared.names.UserName.{UserName}
-use Rattle.gx_desk.specs.Names.{is_written}
-use Rattle.gx_desk.specs.declared.WrittenName.{WrittenName}
 use Rattle.gx_desk.specs.declared.Action.{Action}
 use Rattle.gx_desk.specs.declared.Action.TheVariants as actions
 use Rattle.gx_history.specs.declared.policy.PolicyData.{PolicyData}
@@ -17,19 +13,10 @@ use Rattle.gx_history.specs.declared.policy.Role.TheVariants as roles
 use Rattle.gx_history.specs.declared.policy.User.{User}
 use Rattle.gx_history.specs.declared.record.RecordData.{RecordData}
 use Rattle.gx_history.specs.InForce.{in_role}
-use Rattle.gx_history.specs.Logins.{same_password}
-use Rattle.gx_history.specs.People.{covers, is_reader, names_account}
+use Rattle.gx_history.specs.People.{covers, names_account, reader_in, role_in}
 use Rattle.gx_history.specs.Requests.{granted_actions}
 use Rattle.gx_people.specs.declared.power.Power.{Power}
 use Rattle.gx_people.specs.declared.power.Power.TheVariants as powers
-
--- the user of this name
-abbrev pub user_in : List User → UserName → Option User
-user_in users name = find (λ (u : User). same_user u.name name) users
-
--- the role of the user, if he is known
-abbrev pub role_in : List User → UserName → Option Role
-role_in users name = option_map (λ (u : User). u.role) (user_in users name)
 
 -- one of an officer's powers
 abbrev pub includes : Powers → Power → Bool
@@ -66,10 +53,6 @@ may users officer power account = has users officer power && holds users officer
 abbrev pub sees : List User → UserName → AccountName → Bool
 sees users reader account = option_map_or (λ role. in_role role account) (role_in users reader) false
 
--- the password, in upper case, is that of the user
-abbrev pub password_is : List User → UserName → Password → Bool
-password_is users user given = option_map_or (λ (u : User). same_password u.password given) (user_in users user) false
-
 -- a reader's accounts with this one last, unless it is there; any other role as it is
 abbrev pub with_account : AccountName → Role → Role
 with_account account (roles.Reader names) = roles.Reader (if names_account names account then names else names ++ account ∷ [])
@@ -91,10 +74,6 @@ granted_to reader account users = map (change_role reader (with_account account)
 -- the users, the account revoked from the reader
 abbrev pub revoked_from : UserName → AccountName → List User → List User
 revoked_from reader account users = map (change_role reader (without_account account)) users
-
--- the reader whom an officer names, in the policy's own spelling
-abbrev pub reader_in : List User → WrittenName → Option User
-reader_in users written = find (λ (u : User). is_written written u.name && is_reader (Some u.role)) users
 
 -- the users after the command was granted
 abbrev pub given : List User → Action → List User

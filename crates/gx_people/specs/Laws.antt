@@ -13,11 +13,11 @@ use Rattle.gx_history.specs.declared.policy.User.{User}
 use Rattle.gx_history.specs.declared.record.RecordData.{RecordData}
 use Rattle.gx_history.specs.Asking.{has_power, sees_now}
 use Rattle.gx_history.specs.InForce.{is_entitled}
-use Rattle.gx_history.specs.Logins as logins
-use Rattle.gx_history.specs.People.{account_of, account_of_role, is_officer, is_reader, is_trader, reader_named, role_of, user_named}
+use Rattle.gx_history.specs.Logins.{password_is}
+use Rattle.gx_history.specs.People.{account_of, account_of_role, is_officer, is_reader, is_trader, reader_in, role_in, user_in}
 use Rattle.gx_history.specs.Requests.{granted_action}
 use Rattle.gx_history.specs.Soundness.{is_sound}
-use Rattle.gx_people.specs.Entitled.{given, granted_to, has, holds, holds_in_role, password_is, people_in_force, power_of, reader_in, revoked_from, role_in, sees, user_in}
+use Rattle.gx_people.specs.Entitled.{given, granted_to, has, holds, holds_in_role, people_in_force, power_of, revoked_from, sees}
 
 -- who sees which account in force is who is entitled to it
 abbrev pub EntitlementsAreKept : Type 0
@@ -43,27 +43,27 @@ NextByTheCommand = (policy : PolicyData) (history : List RecordData) (r : Record
 -- powers are the policy's
 abbrev pub PowersStay : Type 0
 PowersStay = (policy : PolicyData) (history : List RecordData) (user : UserName) (action : Action)
-    → has (people_in_force policy history) user (power_of action) ≡ has_power (role_of policy user) action
+    → has (people_in_force policy history) user (power_of action) ≡ has_power (role_in policy.users user) action
 
 -- officers' accounts are the policy's
 abbrev pub ScopesStay : Type 0
 ScopesStay = (policy : PolicyData) (history : List RecordData) (user : UserName) (account : AccountName)
-    → holds (people_in_force policy history) user account ≡ holds_in_role (role_of policy user) account
+    → holds (people_in_force policy history) user account ≡ holds_in_role (role_in policy.users user) account
 
 -- traders are the policy's
 abbrev pub TradersStay : Type 0
 TradersStay = (policy : PolicyData) (history : List RecordData) (user : UserName)
-    → is_trader (role_in (people_in_force policy history) user) ≡ is_trader (role_of policy user)
+    → is_trader (role_in (people_in_force policy history) user) ≡ is_trader (role_in policy.users user)
 
 -- officers are the policy's
 abbrev pub OfficersStay : Type 0
 OfficersStay = (policy : PolicyData) (history : List RecordData) (user : UserName)
-    → is_officer (role_in (people_in_force policy history) user) ≡ is_officer (role_of policy user)
+    → is_officer (role_in (people_in_force policy history) user) ≡ is_officer (role_in policy.users user)
 
 -- readers are the policy's
 abbrev pub ReadersStay : Type 0
 ReadersStay = (policy : PolicyData) (history : List RecordData) (user : UserName)
-    → is_reader (role_in (people_in_force policy history) user) ≡ is_reader (role_of policy user)
+    → is_reader (role_in (people_in_force policy history) user) ≡ is_reader (role_in policy.users user)
 
 -- traders' accounts are the policy's
 abbrev pub AccountsStay : Type 0
@@ -73,17 +73,17 @@ AccountsStay = (policy : PolicyData) (history : List RecordData) (user : UserNam
 -- passwords are the policy's
 abbrev pub PasswordsStay : Type 0
 PasswordsStay = (policy : PolicyData) (history : List RecordData) (user : UserName) (password : Password)
-    → password_is (people_in_force policy history) user password ≡ logins.password_is policy user password
+    → password_is (people_in_force policy history) user password ≡ password_is policy.users user password
 
 -- the users are the policy's
 abbrev pub UsersStay : Type 0
 UsersStay = (policy : PolicyData) (history : List RecordData) (user : UserName)
-    → is_some (user_in (people_in_force policy history) user) ≡ is_some (user_named policy user)
+    → is_some (user_in (people_in_force policy history) user) ≡ is_some (user_in policy.users user)
 
 -- the reader whom an officer names is the policy's
 abbrev pub NamesStay : Type 0
 NamesStay = (policy : PolicyData) (history : List RecordData) (written : WrittenName)
-    → option_map (λ (u : User). u.name) (reader_in (people_in_force policy history) written) ≡ option_map (λ (u : User). u.name) (reader_named policy written)
+    → option_map (λ (u : User). u.name) (reader_in (people_in_force policy history) written) ≡ option_map (λ (u : User). u.name) (reader_in policy.users written)
 
 -- a grant to a reader shows him the account, and changes nothing that anyone else sees
 abbrev pub GrantsAddOnePair : Type 0

@@ -4,8 +4,9 @@ ghost use Rattle.std.specs.Prelude.{◌≡◌, IsTrue, IfOk, OnOk, OnErr, option
 ghost use Rattle.gx_units.specs.Names.{same_account, same_user};
 ghost use Rattle.gx_units.specs.declared.names.AccountName.{AccountName};
 ghost use Rattle.gx_units.specs.declared.names.UserName.{UserName};
-ghost use Rattle.gx_history.specs.People.{account_of_role, is_officer, is_reader, is_trader};
-ghost use Rattle.gx_people.specs.Entitled.{granted_to, has, holds, may, password_is, reader_in, revoked_from, role_in, sees, user_in};
+ghost use Rattle.gx_history.specs.Logins.{password_is};
+ghost use Rattle.gx_history.specs.People.{account_of_role, is_officer, is_reader, is_trader, reader_in, role_in, user_in};
+ghost use Rattle.gx_people.specs.Entitled.{granted_to, has, holds, may, revoked_from, sees};
 ghost use Rattle.gx_people.specs.View.{role_of_standing};
 
 use crate::person::{Person, Standing};

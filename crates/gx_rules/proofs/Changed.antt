@@ -12,8 +12,9 @@ use Rattle.gx_history.specs.declared.policy.RuleKind.{RuleKind}
 use Rattle.gx_history.specs.declared.policy.RuleKind.TheVariants as kinds
 use Rattle.gx_history.specs.Asking.{knows_stocks}
 use Rattle.gx_history.specs.InForce.{adding, change_rule, limit_of, lists_stock, removing, stocks_of, with_limit, with_stocks}
+use Rattle.gx_history.specs.People.{rule_in}
 use Rattle.gx_rules.specs.Laws.{names_of, scopes_of}
-use Rattle.gx_rules.specs.Settings.{limit_in, lists_in, restricted, rule_in, unrestricted, with_limit_of}
+use Rattle.gx_rules.specs.Settings.{limit_in, lists_in, restricted, unrestricted, with_limit_of}
 
 -- the rules of other names
 module _ (name : RuleId) (change : RuleKind → RuleKind) where

@@ -14,9 +14,10 @@ use Rattle.gx_history.specs.declared.policy.FileRule.{FileRule}
 use Rattle.gx_history.specs.declared.policy.RuleKind.{RuleKind}
 use Rattle.gx_history.specs.Asking.{knows_stocks}
 use Rattle.gx_history.specs.InForce.{change_rule, limit_of, lists_stock, stocks_of}
+use Rattle.gx_history.specs.People.{rule_in}
 use Rattle.gx_rules.specs.declared.book_rule.BookRule.{BookRule}
 use Rattle.gx_rules.specs.Books.{kind_of, rule_named, rules_of}
-use Rattle.gx_rules.specs.Settings.{limit_in, lists_in, rule_in}
+use Rattle.gx_rules.specs.Settings.{limit_in, lists_in}
 
 pub same_rule_symm : (a b : RuleId) → same_rule a b ≡ same_rule b a
 same_rule_symm a b = nat_list_eq_equiv.symm a.bytes b.bytes

@@ -12,7 +12,8 @@ use Rattle.gx_history.specs.declared.policy.Scope.{Scope}
 use Rattle.gx_history.specs.Asking.{knows_stocks}
 use Rattle.gx_history.specs.InForce.{change_rule, changed, rules_in_force}
 use Rattle.gx_history.specs.Requests.{granted_action}
-use Rattle.gx_rules.specs.Settings.{limit_in, lists_in, restricted, rule_in, unrestricted, with_limit_of}
+use Rattle.gx_history.specs.People.{rule_in}
+use Rattle.gx_rules.specs.Settings.{limit_in, lists_in, restricted, unrestricted, with_limit_of}
 
 -- one more record changes the rules by the command that it grants, if it grants one
 abbrev pub RulesAfterOneMore : Type 0

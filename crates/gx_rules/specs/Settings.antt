@@ -1,16 +1,11 @@
 -- The file's rules with their settings: what they are, and what commands make of them.
 use Rattle.std.specs.Prelude.{ℕ, Bool, List, map, Option, option_and_then}
-use Rattle.std.specs.List.{find}
-use Rattle.gx_units.specs.Names.{same_rule}
 use Rattle.gx_units.specs.declared.names.RuleId.{RuleId}
 use Rattle.gx_units.specs.declared.names.Symbol.{Symbol}
 use Rattle.gx_history.specs.declared.policy.FileRule.{FileRule}
 use Rattle.gx_history.specs.Asking.{has_stock}
+use Rattle.gx_history.specs.People.{rule_in}
 use Rattle.gx_history.specs.InForce.{limit_of, with_limit, with_stocks, adding, removing, change_rule}
-
--- the rule of this name
-abbrev pub rule_in : List FileRule → RuleId → Option FileRule
-rule_in rules name = find (λ (r : FileRule). same_rule r.name name) rules
 
 -- the rule's limit, if it has one that Set Limit may change
 abbrev pub limit_in : List FileRule → RuleId → Option ℕ

@@ -3,10 +3,11 @@
 ghost use Rattle.std.specs.Prelude.{◌≡◌, ◌≤◌, length, IsTrue, IsFalse, is_some, IfOk, OnOk, OnErr, IfSome, IfNone};
 ghost use Rattle.std.specs.List.{zip, list_all, list_any};
 ghost use Rattle.gx_history.specs.Asking.{knows_stocks};
+ghost use Rattle.gx_history.specs.People.{rule_in};
 ghost use Rattle.gx_history.specs.Plain.{without_figures};
 ghost use Rattle.gx_history.specs.Rules.{applies, first_file_rule, first_forbidding, written_order, IsFirstForbidding};
 ghost use Rattle.gx_rules.specs.Books.{lists_once, names_differ, rules_of};
-ghost use Rattle.gx_rules.specs.Settings.{limit_in, lists_in, restricted, rule_in, unrestricted, with_limit_of};
+ghost use Rattle.gx_rules.specs.Settings.{limit_in, lists_in, restricted, unrestricted, with_limit_of};
 
 use crate::book_rule::BookRule;
 use crate::order::{NO_FIGURES, first_before, first_behind};

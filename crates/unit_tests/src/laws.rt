@@ -1,17 +1,25 @@
 //! The laws, which are functions that do nothing: each can be called.
 
-use gx_history_laws::laws::{
-    days_are_runs, denials_change_nothing, granted_enters_take_effect, granted_kills_take_effect,
-    granted_lifts_take_effect, killed_accounts_do_not_trade, matching_waits_for_orders,
-    orders_are_granted_requests, orders_end, requests_are_judged, streams_grow,
+use gx_effects::laws::{
+    books_are_in_price_time_order, books_are_never_crossed, denials_change_nothing,
+    granted_cancels_take_effect, granted_enters_take_effect, granted_kills_take_effect,
+    granted_lifts_take_effect, granted_logins_and_logouts_take_effect,
+    granted_replaces_take_effect, killed_accounts_are_not_filled, killed_accounts_do_not_trade,
+    live_orders_are_named, matching_settles, matching_steps_take_effect, matching_waits_for_orders,
 };
-use gx_history_laws::rows::{rows_of_commands, rows_of_orders, rows_of_reports, rows_of_rules};
+use gx_history_laws::laws::{
+    days_are_runs, orders_are_granted_requests, orders_end, requests_are_judged, states_go_on,
+    streams_grow,
+};
 use gx_ouch::read_messages_have_no_gaps;
 use gx_people::laws::{
     commands_change_one_pair, entitlements_are_kept, people_after_one_more, powers_stay,
 };
 use gx_policyfile::{
     each_is_sound, keys_are_known, names_in_places_differ, order_is_kept, places_are_short,
+};
+use gx_rows::rows::{
+    rows_of_commands, rows_of_matching, rows_of_orders, rows_of_reports, rows_of_rules,
 };
 use gx_rules::{a_setting_changes_no_name, other_rules_stay, rules_after_one_more};
 use gx_soup::{held_back, nothing_after_fault, packets_grow, read_back};
@@ -33,20 +41,35 @@ fn call_laws_of_texts() {
 /// The laws of days, and the runs worked by hand.
 fn call_laws_of_days() {
     requests_are_judged();
-    matching_waits_for_orders();
-    denials_change_nothing();
     days_are_runs();
+    states_go_on();
     orders_are_granted_requests();
-    granted_enters_take_effect();
-    granted_kills_take_effect();
-    granted_lifts_take_effect();
     orders_end();
-    killed_accounts_do_not_trade();
     streams_grow();
     rows_of_orders();
     rows_of_commands();
     rows_of_rules();
+    rows_of_matching();
     rows_of_reports();
+}
+
+/// The laws of requests' effects and of matching.
+fn call_laws_of_effects() {
+    denials_change_nothing();
+    granted_logins_and_logouts_take_effect();
+    granted_enters_take_effect();
+    granted_cancels_take_effect();
+    granted_replaces_take_effect();
+    live_orders_are_named();
+    granted_kills_take_effect();
+    granted_lifts_take_effect();
+    killed_accounts_do_not_trade();
+    matching_waits_for_orders();
+    matching_steps_take_effect();
+    books_are_in_price_time_order();
+    books_are_never_crossed();
+    matching_settles();
+    killed_accounts_are_not_filled();
 }
 
 /// The laws of people and of rules in force.
@@ -64,5 +87,6 @@ fn call_laws_of_settings() {
 fn laws_are_there() {
     call_laws_of_texts();
     call_laws_of_days();
+    call_laws_of_effects();
     call_laws_of_settings();
 }

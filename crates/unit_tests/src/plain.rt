@@ -132,24 +132,28 @@ fn day_of_orders() -> [Record; 6] {
     ]
 }
 
-#[test]
-fn records_are_walked(rt: HostRuntime) {
+/// The moment of the last record, and of none; the line that ALICE is on before she logs out, and behind it; and who has
+/// used the token, of ALICE, BOB and OLGA.
+fn orders_walked() -> ([u64; 2], [Option<u16>; 2], [bool; 3]) {
     let day = day_of_orders();
     let moments = [last_moment(&day), last_moment(&day[..0])];
-    assert_eq!(rt; moments, [6, 0]);
     let lines = [line_of(&day[..4], ALICE), line_of(&day, ALICE)];
-    assert_eq!(rt; lines, [Some(7), None]);
     let used = [
         is_token_used(&day, ALICE, A1),
         is_token_used(&day, BOB, A1),
         is_token_used(&day, OLGA, A1),
     ];
-    assert_eq!(rt; used, [true, true, false]);
-    let tokens = [
-        new_token(&Request::Enter(ORDER)),
-        new_token(&Request::Logout),
-    ];
-    assert!(rt; tokens == [Some(A1), None]);
+    (moments, lines, used)
+}
+
+#[test]
+fn records_are_walked(rt: HostRuntime) {
+    let (moments, lines, used) = orders_walked();
+    assert!(rt; moments == [6, 0]);
+    assert!(rt; lines == [Some(7), None]);
+    assert!(rt; used == [true, true, false]);
+    assert!(rt; new_token(&Request::Enter(ORDER)) == Some(A1));
+    assert!(rt; new_token(&Request::Logout).is_none());
 }
 
 /// OLGA kills ALFA, may not close the day, lifts ALFA, and closes the day.

@@ -61,6 +61,12 @@ fn bad_lines(rt: HostRuntime) {
     }
 }
 
+/// Whether it is told in these words.
+fn is_told(alloc: Global, wrong: Wrong, words: &str) -> Result<bool, OutOfMemory> {
+    let text = format!(in alloc; "{wrong}")?;
+    Ok(text.as_str() == words)
+}
+
 #[test]
 fn what_is_wrong(rt: HostRuntime) -> Result<(), Fail> {
     let wrong = Wrong {
@@ -68,9 +74,12 @@ fn what_is_wrong(rt: HostRuntime) -> Result<(), Fail> {
         wanted: Wanted::Shares,
     };
     assert!(rt; read("2 ALICE enter A1 B x TEST 10000 99999") == Err(wrong));
-    assert_eq!(rt;
-        format!(in rt.alloc(); "{wrong}")?.as_str(),
-        "word 6: wanted SHARES, a number below 2^32"
+    assert!(rt;
+        is_told(
+            rt.alloc(),
+            wrong,
+            "word 6: wanted SHARES, a number below 2^32"
+        )?
     );
     Ok(())
 }

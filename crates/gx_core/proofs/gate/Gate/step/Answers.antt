@@ -4,14 +4,15 @@ use Rattle.gx_history.specs.declared.record.RecordData.{RecordData}
 use Rattle.gx_history.specs.declared.record.RuleName.{RuleName}
 use Rattle.gx_history_laws.proofs.Granting.{denied_names_first, granted_exactly}
 use Rattle.gx_ouch.specs.declared.inbound.EnterOrder.{EnterOrder}
+use Rattle.gx_desk.specs.declared.Command.{Command}
 use Rattle.gx_units.specs.declared.names.AccountName.{AccountName}
 use Rattle.gx_history.specs.Effects.{IsAsBefore, TakesEffect, KillsAccount, LiftsAccount}
 use Rattle.gx_history.specs.InForce.{is_killed}
 use Rattle.gx_core.specs.Gates.{IsKept, left_by}
-use Rattle.gx_history_laws.proofs.Effects.{as_before}
-use Rattle.gx_history_laws.proofs.Entered.{takes_effect}
-use Rattle.gx_history_laws.proofs.Killing.{kill_takes_effect}
-use Rattle.gx_history_laws.proofs.Lifting.{lift_takes_effect, kill_ends_by_lift}
+use Rattle.gx_effects.proofs.Effects.{as_before}
+use Rattle.gx_effects.proofs.Taking.{takes_effect}
+use Rattle.gx_effects.proofs.Killing.{kill_takes_effect}
+use Rattle.gx_effects.proofs.Lifting.{lift_takes_effect, kill_ends_by_lift}
 use Rattle.gx_core.proofs.Stepping.{kept_next}
 use Rattle.gx_core.proofs.gate.Gate.step.Goals as goal
 
@@ -47,17 +48,17 @@ returns-clause-entered c =
 
 pub returns-clause-killed : goal.returns-clause-killed
 returns-clause-killed c =
-    rw (← c.self.view_is) (λ (account : AccountName) kills granted.
-    subst (λ (records : List RecordData). KillsAccount c.self.inside.policy c.self.inside.history.records records (left_by c.args.a c.outcome_of-outcome.result) account)
+    rw (← c.self.view_is) (λ (command : Command) (account : AccountName) asks kills granted.
+    subst (λ (records : List RecordData). KillsAccount c.self.inside.policy c.self.inside.history.records records (left_by c.args.a c.outcome_of-outcome.result) c.args.a.user command account)
     (sym (c.in_ok-push.ensures.ok ∙ ap (λ (r : RecordData). c.self.inside.history.records ++ r ∷ []) c.record_of.ensures))
-    (kill_takes_effect c.self.inside.policy c.self.inside.history.records c.args.a (left_by c.args.a c.outcome_of-outcome.result) account c.self.invariant.legal c.outcome_of-outcome.ensures.next kills granted))
+    (kill_takes_effect c.self.inside.policy c.self.inside.history.records c.args.a (left_by c.args.a c.outcome_of-outcome.result) command account c.self.invariant.legal c.outcome_of-outcome.ensures.next asks kills granted))
 
 pub returns-clause-lifted : goal.returns-clause-lifted
 returns-clause-lifted c =
-    rw (← c.self.view_is) (λ (account : AccountName) lifts granted.
-    subst (λ (records : List RecordData). LiftsAccount c.self.inside.policy c.self.inside.history.records records account)
+    rw (← c.self.view_is) (λ (command : Command) (account : AccountName) asks lifts granted.
+    subst (λ (records : List RecordData). LiftsAccount c.self.inside.policy c.self.inside.history.records records (left_by c.args.a c.outcome_of-outcome.result) c.args.a.user command account)
     (sym (c.in_ok-push.ensures.ok ∙ ap (λ (r : RecordData). c.self.inside.history.records ++ r ∷ []) c.record_of.ensures))
-    (lift_takes_effect c.self.inside.policy c.self.inside.history.records c.args.a (left_by c.args.a c.outcome_of-outcome.result) account c.self.invariant.legal c.outcome_of-outcome.ensures.next lifts granted))
+    (lift_takes_effect c.self.inside.policy c.self.inside.history.records c.args.a (left_by c.args.a c.outcome_of-outcome.result) command account c.self.invariant.legal c.outcome_of-outcome.ensures.next asks lifts granted))
 
 pub returns-clause-lifted_by : goal.returns-clause-lifted_by
 returns-clause-lifted_by c =

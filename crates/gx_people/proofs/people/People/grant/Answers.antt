@@ -1,7 +1,7 @@
 use Rattle.std.proofs.Common.{◌≡◌, ◌∙◌, ap, sym, refl, true≢false}
 use Rattle.std.proofs.lemmas.Result.{on_ok_weaker, on_err_weaker}
-use Rattle.gx_history.specs.People.{is_reader}
-use Rattle.gx_people.specs.Entitled.{granted_to, role_in, sees, with_account}
+use Rattle.gx_history.specs.People.{is_reader, role_in}
+use Rattle.gx_people.specs.Entitled.{granted_to, sees, with_account}
 use Rattle.gx_people.specs.View.{role_of_standing, users_of}
 use Rattle.gx_people.specs.declared.person.Person.{Person}
 use Rattle.gx_people.proofs.Entitling.{granted_pair}

@@ -1,6 +1,6 @@
 use Rattle.std.proofs.Common.{◌∙◌, ap, sym, refl, true≢false}
-use Rattle.gx_history.specs.People.{is_reader}
-use Rattle.gx_people.specs.Entitled.{revoked_from, role_in, sees, without_account}
+use Rattle.gx_history.specs.People.{is_reader, role_in}
+use Rattle.gx_people.specs.Entitled.{revoked_from, sees, without_account}
 use Rattle.gx_people.specs.View.{users_of}
 use Rattle.gx_people.specs.declared.person.Person.{Person}
 use Rattle.gx_people.proofs.Entitling.{revoked_pair}

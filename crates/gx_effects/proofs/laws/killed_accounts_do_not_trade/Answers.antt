@@ -1,0 +1,8 @@
+use Rattle.gx_effects.proofs.Emptied.{killed_have_no_orders}
+use Rattle.gx_effects.proofs.Killed.{granted_is_not_killed}
+use Rattle.gx_effects.proofs.Lifting.{kill_ends_by_lift}
+use Rattle.gx_effects.proofs.NotLive.{killed_are_not_live}
+use Rattle.gx_effects.proofs.laws.killed_accounts_do_not_trade.Goals as goal
+
+pub returns : goal.returns
+returns c = record { none_placed = granted_is_not_killed; none_live = killed_are_not_live; no_orders = killed_have_no_orders; until_lifted = kill_ends_by_lift }

@@ -1,0 +1,11 @@
+use Rattle.gx_effects.proofs.Orderly.{legal_is_orderly}
+use Rattle.gx_effects.proofs.Settling.{settled_idle, settled_step, settled_adds, settled_ends}
+use Rattle.gx_effects.proofs.laws.matching_settles.Goals as goal
+
+pub returns : goal.returns
+returns c = record {
+  idle = settled_idle;
+  step = λ policy history moment r legal. settled_step policy history moment r (legal_is_orderly policy history legal);
+  matches = settled_adds;
+  none_left = λ policy history moment legal. settled_ends policy history moment (legal_is_orderly policy history legal);
+}

@@ -1,0 +1,5 @@
+pub mod OrderRows
+pub mod CommandRows
+pub mod RuleRows
+pub mod MatchingRows
+pub mod ReportRows
