@@ -151,7 +151,7 @@ pub live_after_end : (policy : PolicyData) (history : List RecordData) (r : Reco
 live_after_end policy history r number orderly is =
     live_of_change policy history (history ++ r ∷ []) (shares_left number 0) (end_revives_none number) (standings_ended policy history r number orderly is)
 
-same_rests : (policy : PolicyData) (history : List RecordData) (r : RecordData) (number : ℕ) → r.verdict ≡ verdicts.Expired number → rested (history ++ r ∷ []) ≡ rested history
+pub same_rests : (policy : PolicyData) (history : List RecordData) (r : RecordData) (number : ℕ) → r.verdict ≡ verdicts.Expired number → rested (history ++ r ∷ []) ≡ rested history
 same_rests policy history r number e = rested_next history r ∙ ap (λ (v : Verdict). rested history ++ option_to_list (rested_of v)) e ∙ append-nil (rested history)
 
 pub incoming_after_end : (policy : PolicyData) (history : List RecordData) (r : RecordData) (number : ℕ) → IsOrderly policy history → (is : IsEnd policy history r number)

@@ -58,7 +58,7 @@ pub record IsFill (policy : PolicyData) (history : List RecordData) (r : RecordD
   pub of_taker : f.taker ≡ taker.order.number
   pub of_maker : f.maker ≡ maker.order.number
 
-same_fill : (f g : Fill) → verdicts.Filled f ≡ verdicts.Filled g → f ≡ g
+pub same_fill : (f g : Fill) → verdicts.Filled f ≡ verdicts.Filled g → f ≡ g
 same_fill f g e = cc
 
 pub is_fill : (policy : PolicyData) (history : List RecordData) (handed : ℕ) (r : RecordData) (f : Fill) → IsOrderly policy history → next policy history (steps.Matching handed) ≡ Some r
@@ -237,7 +237,7 @@ fill_revives_none f s h = lt-ltb 0 s.open_shares (some s.open_shares (cond (is_s
     some : (n m : ℕ) → 0 < n - m → 0 < n
     some n m k = omega arith
 
-rests_kept : (policy : PolicyData) (history : List RecordData) (r : RecordData) (f : Fill) → r.verdict ≡ verdicts.Filled f → rested (history ++ r ∷ []) ≡ rested history
+pub rests_kept : (policy : PolicyData) (history : List RecordData) (r : RecordData) (f : Fill) → r.verdict ≡ verdicts.Filled f → rested (history ++ r ∷ []) ≡ rested history
 rests_kept policy history r f e =
     rested_next history r ∙ ap (λ (v : Verdict). rested history ++ option_to_list (rested_of v)) e ∙ append-nil (rested history)
 

@@ -6,6 +6,7 @@ use Rattle.gx_units.specs.Names.{same_account, same_stock}
 use Rattle.gx_units.specs.declared.names.AccountName.{AccountName}
 use Rattle.gx_units.specs.declared.names.Symbol.{Symbol}
 use Rattle.gx_units.specs.declared.names.UserName.{UserName}
+use Rattle.gx_desk.specs.declared.Action.{Action}
 use Rattle.gx_desk.specs.declared.Action.TheVariants as actions
 use Rattle.gx_desk.specs.declared.Command.{Command}
 use Rattle.gx_history.specs.declared.policy.FileRule.{FileRule}
@@ -16,17 +17,18 @@ use Rattle.gx_history.specs.declared.record.Request.TheVariants as requests
 use Rattle.gx_history.specs.declared.record.Step.TheVariants as steps
 use Rattle.gx_history.specs.declared.record.Verdict.TheVariants as verdicts
 use Rattle.gx_history.specs.Book.{incoming, resting, rested, has_rested, by_price, is_on_side}
-use Rattle.gx_history.specs.Effects.{KillsAccount, is_of, of_others}
+use Rattle.gx_history.specs.Effects.{KillsAccount}
 use Rattle.gx_history.specs.Executions.{Standing, standing, standings, standing_numbered, executions, open_shares, is_live, live_orders}
 use Rattle.gx_history.specs.InForce.{is_killed, kill_or_lift_of}
 use Rattle.gx_history.specs.Lists.{where_true}
-use Rattle.gx_history.specs.Orders.{Order, orders}
+use Rattle.gx_history.specs.Orders.{Order, orders, ends_account}
 use Rattle.gx_history.specs.Verdicts.{next, IsLegal}
 use Rattle.gx_history_laws.proofs.Ends.{ended, nothing_open, sooner}
 use Rattle.gx_history_laws.proofs.Keeping.{AddsNothing, orders_kept, executions_kept, open_kept, incoming_of_live, resting_of_standings}
 use Rattle.gx_history_laws.proofs.NextInForce.{is_killed_next}
 use Rattle.gx_history_laws.proofs.NextOrders.{standing_after, rests}
 use Rattle.gx_history_laws.proofs.Numbers.{number_left, numbers_are_within}
+use Rattle.gx_effects.specs.OneMore.{not_ended}
 use Rattle.gx_effects.proofs.Commanding.{GrantsCommand, grants_the_command, account_is_itself, mark_granted, action_granted, command_adds_nothing, ends_by_command, IsKillOrLift, only_kill_changes, told_by_command}
 use Rattle.gx_effects.proofs.Lessening.{all_found_changed, rest_on_side}
 use Rattle.gx_effects.proofs.Placing.{filter_swap}
@@ -41,13 +43,13 @@ kill_marks_one account = record {
   marks_no_other = λ (other : AccountName) (officer : UserName) (differs : same_account account other ≡ false). ap (λ (b : Bool). where_true b true) differs;
 }
 
--- the order with nothing open, if it is one of the account
-abbrev struck : AccountName → Standing → Standing
-struck account s = record { order = s.order; open_shares = cond (is_of account s) 0 s.open_shares }
+-- the order with nothing open, if the action ends the orders of its account
+abbrev pub struck : Action → Standing → Standing
+struck action s = record { order = s.order; open_shares = cond (ends_account s.order.account action) 0 s.open_shares }
 
-order_struck : (policy : PolicyData) (history : List RecordData) (r : RecordData) (a : Asked) (account : AccountName) (o : Order) → GrantsCommand r a (actions.Kill account) → o.number < r.number
-    → standing_after policy history r o ≡ struck account (standing (executions policy history) history o)
-order_struck policy history r a account o g early = ap (λ (shares : ℕ). stands shares) (at (same_account account o.account) refl)
+order_struck : (policy : PolicyData) (history : List RecordData) (r : RecordData) (a : Asked) (action : Action) (o : Order) → GrantsCommand r a action → o.number < r.number
+    → standing_after policy history r o ≡ struck action (standing (executions policy history) history o)
+order_struck policy history r a action o g early = ap (λ (shares : ℕ). stands shares) (at (ends_account o.account action) refl)
   where
     stands : ℕ → Standing
     stands shares = record { order = o; open_shares = shares }
@@ -56,54 +58,54 @@ order_struck policy history r a account o g early = ap (λ (shares : ℕ). stand
     and_false true = refl
     and_false false = refl
 
-    at : (b : Bool) → same_account account o.account ≡ b
-        → open_shares (executions policy (history ++ r ∷ [])) (history ++ r ∷ []) o ≡ cond (same_account account o.account) 0 (open_shares (executions policy history) history o)
+    at : (b : Bool) → ends_account o.account action ≡ b
+        → open_shares (executions policy (history ++ r ∷ [])) (history ++ r ∷ []) o ≡ cond (ends_account o.account action) 0 (open_shares (executions policy history) history o)
     at true e =
-        nothing_open policy history r o (ended o r (actions.Kill account) (action_granted r a (actions.Kill account) g) early e)
+        nothing_open policy history r o (ended o r action (action_granted r a action g) early e)
         ∙ sym (ap (λ (b : Bool). cond b 0 (open_shares (executions policy history) history o)) e)
     at false e =
-        open_kept policy history r o (command_adds_nothing policy history r a (actions.Kill account) g)
-        (ends_by_command o r a (actions.Kill account) g ∙ ap (λ (b : Bool). nat_lt o.number r.number && b) e ∙ and_false (nat_lt o.number r.number))
+        open_kept policy history r o (command_adds_nothing policy history r a action g)
+        (ends_by_command o r a action g ∙ ap (λ (b : Bool). nat_lt o.number r.number && b) e ∙ and_false (nat_lt o.number r.number))
         ∙ sym (ap (λ (b : Bool). cond b 0 (open_shares (executions policy history) history o)) e)
 
-all_struck : (policy : PolicyData) (history : List RecordData) (r : RecordData) (a : Asked) (account : AccountName) → GrantsCommand r a (actions.Kill account)
+all_struck : (policy : PolicyData) (history : List RecordData) (r : RecordData) (a : Asked) (action : Action) → GrantsCommand r a action
     → (os : List Order) → AllByRecursion (λ (o : Order). o.number < r.number) os
-    → map (standing_after policy history r) os ≡ map (struck account) (map (standing (executions policy history) history) os)
-all_struck policy history r a account g [] early = refl
-all_struck policy history r a account g (o ∷ os) early =
-    ap (λ (s : Standing). s ∷ map (standing_after policy history r) os) (order_struck policy history r a account o g early.0)
-    ∙ ap (λ (ss : List Standing). struck account (standing (executions policy history) history o) ∷ ss) (all_struck policy history r a account g os early.1)
+    → map (standing_after policy history r) os ≡ map (struck action) (map (standing (executions policy history) history) os)
+all_struck policy history r a action g [] early = refl
+all_struck policy history r a action g (o ∷ os) early =
+    ap (λ (s : Standing). s ∷ map (standing_after policy history r) os) (order_struck policy history r a action o g early.0)
+    ∙ ap (λ (ss : List Standing). struck action (standing (executions policy history) history o) ∷ ss) (all_struck policy history r a action g os early.1)
 
-standings_struck : (policy : PolicyData) (history : List RecordData) (r : RecordData) (a : Asked) (account : AccountName) → GrantsCommand r a (actions.Kill account)
-    → IsLegal policy history → r.number ≡ length history + 1 → standings policy (history ++ r ∷ []) ≡ map (struck account) (standings policy history)
+pub standings_struck : (policy : PolicyData) (history : List RecordData) (r : RecordData) (a : Asked) (action : Action) → GrantsCommand r a action
+    → IsLegal policy history → r.number ≡ length history + 1 → standings policy (history ++ r ∷ []) ≡ map (struck action) (standings policy history)
 unfolding standings
-standings_struck policy history r a account g legal place =
-    ap (map (standing_after policy history r)) (orders_kept policy history r (command_adds_nothing policy history r a (actions.Kill account) g))
-    ∙ all_struck policy history r a account g (orders policy history) (sooner (length history) r.number place (orders policy history) (numbers_are_within policy history legal))
+standings_struck policy history r a action g legal place =
+    ap (map (standing_after policy history r)) (orders_kept policy history r (command_adds_nothing policy history r a action g))
+    ∙ all_struck policy history r a action g (orders policy history) (sooner (length history) r.number place (orders policy history) (numbers_are_within policy history legal))
 
 -- what asks for open shares passes the others alone
-others_pass : (account : AccountName) (p : Standing → Bool) → ((s : Standing) → s.open_shares ≡ 0 → p s ≡ false) → (ss : List Standing)
-    → filter p (map (struck account) ss) ≡ of_others account (filter p ss)
-others_pass account p h [] = refl
-others_pass account p h (s ∷ ss) =
-    ap (λ (rest : List Standing). cond (p (struck account s)) (struck account s ∷ rest) rest) (others_pass account p h ss)
-    ∙ at (is_of account s) refl
+others_pass : (action : Action) (p : Standing → Bool) → ((s : Standing) → s.open_shares ≡ 0 → p s ≡ false) → (ss : List Standing)
+    → filter p (map (struck action) ss) ≡ not_ended action (filter p ss)
+others_pass action p h [] = refl
+others_pass action p h (s ∷ ss) =
+    ap (λ (rest : List Standing). cond (p (struck action s)) (struck action s ∷ rest) rest) (others_pass action p h ss)
+    ∙ at (ends_account s.order.account action) refl
   where
     stands : Bool → Standing
     stands b = record { order = s.order; open_shares = cond b 0 s.open_shares }
 
     rest : List Standing
-    rest = of_others account (filter p ss)
+    rest = not_ended action (filter p ss)
 
-    dropped : (c : Bool) → is_of account s ≡ true → rest ≡ of_others account (cond c (s ∷ filter p ss) (filter p ss))
+    dropped : (c : Bool) → ends_account s.order.account action ≡ true → rest ≡ not_ended action (cond c (s ∷ filter p ss) (filter p ss))
     dropped true e = sym (ap (λ (b : Bool). cond (not b) (s ∷ rest) rest) e)
     dropped false e = refl
 
-    kept : (c : Bool) → is_of account s ≡ false → cond c (s ∷ rest) rest ≡ of_others account (cond c (s ∷ filter p ss) (filter p ss))
+    kept : (c : Bool) → ends_account s.order.account action ≡ false → cond c (s ∷ rest) rest ≡ not_ended action (cond c (s ∷ filter p ss) (filter p ss))
     kept true e = sym (ap (λ (b : Bool). cond (not b) (s ∷ rest) rest) e)
     kept false e = refl
 
-    at : (b : Bool) → is_of account s ≡ b → cond (p (struck account s)) (struck account s ∷ rest) rest ≡ of_others account (cond (p s) (s ∷ filter p ss) (filter p ss))
+    at : (b : Bool) → ends_account s.order.account action ≡ b → cond (p (struck action s)) (struck action s ∷ rest) rest ≡ not_ended action (cond (p s) (s ∷ filter p ss) (filter p ss))
     at true e =
         ap (λ (b : Bool). cond (p (stands b)) (stands b ∷ rest) rest) e
         ∙ ap (λ (b : Bool). cond b (stands true ∷ rest) rest) (h (stands true) refl)
@@ -116,29 +118,29 @@ not_live s h = ap (nat_lt 0) h
 no_rest : (stock : Symbol) (buy : Bool) (s : Standing) → s.open_shares ≡ 0 → rests stock buy s ≡ false
 no_rest stock buy s h = ap (λ (shares : ℕ). nat_lt 0 shares && same_stock s.order.terms.stock stock && is_on_side buy s.order) h
 
-live_left : (policy : PolicyData) (history : List RecordData) (r : RecordData) (account : AccountName)
-    → standings policy (history ++ r ∷ []) ≡ map (struck account) (standings policy history) → live_orders policy (history ++ r ∷ []) ≡ of_others account (live_orders policy history)
+pub live_left : (policy : PolicyData) (history : List RecordData) (r : RecordData) (action : Action)
+    → standings policy (history ++ r ∷ []) ≡ map (struck action) (standings policy history) → live_orders policy (history ++ r ∷ []) ≡ not_ended action (live_orders policy history)
 unfolding live_orders
-live_left policy history r account strikes = ap (filter is_live) strikes ∙ others_pass account is_live not_live (standings policy history)
+live_left policy history r action strikes = ap (filter is_live) strikes ∙ others_pass action is_live not_live (standings policy history)
 
-incoming_left : (policy : PolicyData) (history : List RecordData) (r : RecordData) (account : AccountName) → AddsNothing policy history r
-    → standings policy (history ++ r ∷ []) ≡ map (struck account) (standings policy history) → incoming policy (history ++ r ∷ []) ≡ of_others account (incoming policy history)
+pub incoming_left : (policy : PolicyData) (history : List RecordData) (r : RecordData) (action : Action) → AddsNothing policy history r
+    → standings policy (history ++ r ∷ []) ≡ map (struck action) (standings policy history) → incoming policy (history ++ r ∷ []) ≡ not_ended action (incoming policy history)
 unfolding incoming
-incoming_left policy history r account nothing strikes =
+incoming_left policy history r action nothing strikes =
     incoming_of_live policy history r nothing
-    ∙ ap (filter (λ (s : Standing). not (has_rested history s))) (live_left policy history r account strikes)
-    ∙ filter_swap (λ (s : Standing). not (has_rested history s)) (λ (s : Standing). not (is_of account s)) (live_orders policy history)
+    ∙ ap (filter (λ (s : Standing). not (has_rested history s))) (live_left policy history r action strikes)
+    ∙ filter_swap (λ (s : Standing). not (has_rested history s)) (λ (s : Standing). not (ends_account s.order.account action)) (live_orders policy history)
 
-resting_left : (policy : PolicyData) (history : List RecordData) (r : RecordData) (account : AccountName) (stock : Symbol) (buy : Bool) → AddsNothing policy history r
-    → standings policy (history ++ r ∷ []) ≡ map (struck account) (standings policy history) → resting policy (history ++ r ∷ []) stock buy ≡ of_others account (resting policy history stock buy)
+pub resting_left : (policy : PolicyData) (history : List RecordData) (r : RecordData) (action : Action) (stock : Symbol) (buy : Bool) → AddsNothing policy history r
+    → standings policy (history ++ r ∷ []) ≡ map (struck action) (standings policy history) → resting policy (history ++ r ∷ []) stock buy ≡ not_ended action (resting policy history stock buy)
 unfolding resting
-resting_left policy history r account stock buy nothing strikes =
+resting_left policy history r action stock buy nothing strikes =
     let rested_before : List Standing = filter_map (standing_numbered (standings policy history)) (rested history) in
     resting_of_standings policy history r stock buy nothing
     ∙ ap (λ (ss : List Standing). by_price (filter (rests stock buy) (filter_map (standing_numbered ss) (rested history)))) strikes
-    ∙ ap (λ (ss : List Standing). by_price (filter (rests stock buy) ss)) (all_found_changed (λ (s : Standing). cond (is_of account s) 0 s.open_shares) (standings policy history) (rested history))
-    ∙ ap by_price (others_pass account (rests stock buy) (no_rest stock buy) rested_before)
-    ∙ by_price_filter buy (λ (s : Standing). not (is_of account s)) (filter (rests stock buy) rested_before) (rest_on_side stock buy rested_before)
+    ∙ ap (λ (ss : List Standing). by_price (filter (rests stock buy) ss)) (all_found_changed (λ (s : Standing). cond (ends_account s.order.account action) 0 s.open_shares) (standings policy history) (rested history))
+    ∙ ap by_price (others_pass action (rests stock buy) (no_rest stock buy) rested_before)
+    ∙ by_price_filter buy (λ (s : Standing). not (ends_account s.order.account action)) (filter (rests stock buy) rested_before) (rest_on_side stock buy rested_before)
 
 -- a granted Kill takes effect
 pub kill_takes_effect : (policy : PolicyData) (history : List RecordData) (a : Asked) (r : RecordData) (c : Command) (account : AccountName)
@@ -147,16 +149,16 @@ pub kill_takes_effect : (policy : PolicyData) (history : List RecordData) (a : A
 kill_takes_effect policy history a r c account legal left asks kills granted =
     let g : GrantsCommand r a (actions.Kill account) = grants_the_command policy history a r c (actions.Kill account) left asks kills granted in
     let nothing : AddsNothing policy history r = command_adds_nothing policy history r a (actions.Kill account) g in
-    let strikes : standings policy (history ++ r ∷ []) ≡ map (struck account) (standings policy history) =
-    standings_struck policy history r a account g legal (number_left policy history (steps.Asked a) r left) in
+    let strikes : standings policy (history ++ r ∷ []) ≡ map (struck (actions.Kill account)) (standings policy history) =
+    standings_struck policy history r a (actions.Kill account) g legal (number_left policy history (steps.Asked a) r left) in
     record {
       is_killed_now =
           is_killed_next policy history r account
           ∙ ap (λ (m : Option Bool). unwrap_or m (is_killed policy history account))
           (mark_granted (kill_or_lift_of account) r a (actions.Kill account) g ∙ ap (λ (b : Bool). where_true b true) (account_is_itself account));
-      live_left = live_left policy history r account strikes;
-      incoming_left = incoming_left policy history r account nothing strikes;
-      resting_left = λ (stock : Symbol) (buy : Bool). resting_left policy history r account stock buy nothing strikes;
+      live_left = live_left policy history r (actions.Kill account) strikes;
+      incoming_left = incoming_left policy history r (actions.Kill account) nothing strikes;
+      resting_left = λ (stock : Symbol) (buy : Bool). resting_left policy history r (actions.Kill account) stock buy nothing strikes;
       orders_kept = orders_kept policy history r nothing;
       executions_kept = executions_kept policy history r nothing;
       in_force = only_kill_changes policy history r a (actions.Kill account) account g (kill_marks_one account);

@@ -33,5 +33,7 @@ pub mod Reviving
 pub mod NeverCrossed
 pub mod PriceTime
 pub mod BookSides
+pub mod FairFills
+pub mod OneMore
 pub mod Settling
 pub mod Sweeps

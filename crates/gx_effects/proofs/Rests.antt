@@ -136,7 +136,7 @@ incoming_after_rest policy history r number is same =
     ∙ first_leaves number is.first is.waiting is.has_number is.others_apart
 
 -- and rests behind those that it does not better
-resting_more : (policy : PolicyData) (history : List RecordData) (r : RecordData) (number : ℕ) (stock : Symbol) (buy : Bool) → (is : IsRest policy history r number) → standings policy (history ++ r ∷ []) ≡ standings policy history
+pub resting_more : (policy : PolicyData) (history : List RecordData) (r : RecordData) (number : ℕ) (stock : Symbol) (buy : Bool) → (is : IsRest policy history r number) → standings policy (history ++ r ∷ []) ≡ standings policy history
     → resting policy (history ++ r ∷ []) stock buy
     ≡ (if same_stock is.first.order.terms.stock stock && is_on_side buy is.first.order then placed is_better (resting policy history stock buy) is.first else resting policy history stock buy)
 unfolding resting

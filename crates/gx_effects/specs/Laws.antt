@@ -18,6 +18,7 @@ use Rattle.gx_history.specs.declared.record.Login.{Login}
 use Rattle.gx_history.specs.declared.record.RecordData.{RecordData}
 use Rattle.gx_history.specs.declared.record.Request.TheVariants as requests
 use Rattle.gx_history.specs.declared.record.RuleName.{RuleName}
+use Rattle.gx_history.specs.declared.record.Step.{Step}
 use Rattle.gx_history.specs.declared.record.Step.TheVariants as steps
 use Rattle.gx_history.specs.declared.record.Verdict.TheVariants as verdicts
 use Rattle.gx_history.specs.Book.{IsAtRest, by_time, has_price, has_rested, incoming, is_ahead, is_on_side, resting}
@@ -27,11 +28,12 @@ use Rattle.gx_history.specs.Orders.{Order, orders, order_under, total}
 use Rattle.gx_history.specs.Requests.{is_order}
 use Rattle.gx_history.specs.InForce.{is_killed}
 use Rattle.gx_history.specs.Lists.{IsInOrder}
-use Rattle.gx_history.specs.Matched.{FillsOrders, RestsOrder, ExpiresOrder}
+use Rattle.gx_history.specs.Matched.{FillsOrders, IsFair, RestsOrder, ExpiresOrder}
 use Rattle.gx_history.specs.Matching.{matching, crosses}
 use Rattle.gx_history.specs.People.{account_of}
 use Rattle.gx_history.specs.Settling.{settled, AddsMatches, FillsNoneOf}
 use Rattle.gx_history.specs.Verdicts.{next, Follows, IsLegal}
+use Rattle.gx_effects.specs.OneMore.{change_of, live_with, incoming_with, resting_with}
 
 -- a denied record changes no order, no figure, no book and nothing in force
 abbrev pub DenialsChangeNothing : Type 0
@@ -77,6 +79,11 @@ ReplacesTakeEffect = (policy : PolicyData) (history : List RecordData) (a : Aske
 abbrev pub TotalsAreOpenAndDone : Type 0
 TotalsAreOpenAndDone = (policy : PolicyData) (history : List RecordData)
     → AllByRecursion (λ (s : Standing). total history s.order ≡ s.open_shares + done (executions policy history) s.order) (live_orders policy history)
+
+-- a live order is found under its number
+abbrev pub LiveOrdersAreFound : Type 0
+LiveOrdersAreFound = (policy : PolicyData) (history : List RecordData)
+    → IsLegal policy history → AllByRecursion (λ (s : Standing). standing_numbered (live_orders policy history) s.order.number ≡ Some s) (live_orders policy history)
 
 -- a user's live order under a token is his one order under it
 abbrev pub LiveOrdersAreTheOne : Type 0
@@ -132,6 +139,11 @@ abbrev pub FillsTakeEffect : Type 0
 FillsTakeEffect = (policy : PolicyData) (history : List RecordData) (handed : ℕ) (r : RecordData) (f : Fill)
     → IsLegal policy history → next policy history (steps.Matching handed) ≡ Some r → r.verdict ≡ verdicts.Filled f
     → FillsOrders policy history (history ++ r ∷ []) r f
+
+-- and it is between two live orders that have its shares open
+abbrev pub FillsAreFair : Type 0
+FillsAreFair = (policy : PolicyData) (history : List RecordData) (handed : ℕ) (r : RecordData) (f : Fill)
+    → IsLegal policy history → next policy history (steps.Matching handed) ≡ Some r → r.verdict ≡ verdicts.Filled f → IsFair policy history f
 
 -- a matching step that puts an order to rest changes its place alone
 abbrev pub RestsTakeEffect : Type 0
@@ -194,3 +206,19 @@ SettledLeavesNone = (policy : PolicyData) (history : List RecordData) (moment : 
 abbrev pub KilledAreNotFilled : Type 0
 KilledAreNotFilled = (policy : PolicyData) (history : List RecordData) (account : AccountName) (moment : ℕ)
     → IsLegal policy history → IsTrue (is_killed policy history account) → FillsNoneOf policy history (settled policy history moment) account
+
+-- one more record changes the live orders, those that wait and each side of the book by one word for what it does
+abbrev pub LiveOrdersGoOn : Type 0
+LiveOrdersGoOn = (policy : PolicyData) (history : List RecordData) (step : Step) (r : RecordData)
+    → IsLegal policy history → next policy history step ≡ Some r
+    → live_orders policy (history ++ r ∷ []) ≡ live_with (change_of policy history r) (live_orders policy history)
+
+abbrev pub WaitingGoOn : Type 0
+WaitingGoOn = (policy : PolicyData) (history : List RecordData) (step : Step) (r : RecordData)
+    → IsLegal policy history → next policy history step ≡ Some r
+    → incoming policy (history ++ r ∷ []) ≡ incoming_with (change_of policy history r) (incoming policy history)
+
+abbrev pub RestingGoOn : Type 0
+RestingGoOn = (policy : PolicyData) (history : List RecordData) (step : Step) (r : RecordData) (stock : Symbol) (buy : Bool)
+    → IsLegal policy history → next policy history step ≡ Some r
+    → resting policy (history ++ r ∷ []) stock buy ≡ resting_with (change_of policy history r) stock buy (resting policy history stock buy)

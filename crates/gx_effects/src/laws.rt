@@ -1,6 +1,6 @@
 //! Laws of what a record changes and of what matching comes to, each as what a function without a body ensures.
 
-ghost use Rattle.gx_effects.specs.Laws.{DenialsChangeNothing, DenialsAreTold, LoginsTakeEffect, LogoutsTakeEffect, EntersTakeEffect, CancelsTakeEffect, ReplacesTakeEffect, TotalsAreOpenAndDone, LiveOrdersAreTheOne, KillsTakeEffect, LiftsTakeEffect, KilledPlaceNoOrders, KilledAreNotLive, KilledHaveNoOrders, KillsEndByLifts, IdleWhereNoneWaits, NothingWhereNoneWaits, RestingByPrice, RestingByTime, RestingAlone, RestingWhole, FillsTakeEffect, RestsTakeEffect, ExpiriesTakeEffect, NeverCrossed, SettledWhereIdle, SettledStepByStep, SettledByMatches, SettledLeavesNone, KilledAreNotFilled};
+ghost use Rattle.gx_effects.specs.Laws.{LiveOrdersGoOn, WaitingGoOn, RestingGoOn, DenialsChangeNothing, DenialsAreTold, LoginsTakeEffect, LogoutsTakeEffect, EntersTakeEffect, CancelsTakeEffect, ReplacesTakeEffect, TotalsAreOpenAndDone, LiveOrdersAreTheOne, LiveOrdersAreFound, KillsTakeEffect, LiftsTakeEffect, KilledPlaceNoOrders, KilledAreNotLive, KilledHaveNoOrders, KillsEndByLifts, IdleWhereNoneWaits, NothingWhereNoneWaits, RestingByPrice, RestingByTime, RestingAlone, RestingWhole, FillsTakeEffect, FillsAreFair, RestsTakeEffect, ExpiriesTakeEffect, NeverCrossed, SettledWhereIdle, SettledStepByStep, SettledByMatches, SettledLeavesNone, KilledAreNotFilled};
 
 /// A denied record changes no order, no figure, no book and nothing in force; at most who asked is told of it.
 pub fn denials_change_nothing()
@@ -34,6 +34,7 @@ pub fn granted_replaces_take_effect()
 pub fn live_orders_are_named()
     ensures total { TotalsAreOpenAndDone }
     ensures one { LiveOrdersAreTheOne }
+    ensures found { LiveOrdersAreFound }
 {}
 
 /// A granted Kill kills the account and ends its orders, each reported with what was open; no other order changes.
@@ -63,6 +64,7 @@ pub fn matching_waits_for_orders()
 /// What each matching step changes: both sides of a fill, the place of an order that rests, an order that ends.
 pub fn matching_steps_take_effect()
     ensures fills { FillsTakeEffect }
+    ensures fair { FillsAreFair }
     ensures rests { RestsTakeEffect }
     ensures expiries { ExpiriesTakeEffect }
 {}
@@ -92,4 +94,11 @@ pub fn matching_settles()
 /// A Kill between two fills of a sweep ends the rest of it: no later match fills an order of the account.
 pub fn killed_accounts_are_not_filled()
     ensures { KilledAreNotFilled }
+{}
+
+/// What one more record does to the live orders, to those that wait to be matched and to each side of the book.
+pub fn orders_go_on()
+    ensures live { LiveOrdersGoOn }
+    ensures waiting { WaitingGoOn }
+    ensures resting { RestingGoOn }
 {}

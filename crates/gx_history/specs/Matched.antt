@@ -1,5 +1,5 @@
 -- What a matching step changes, and what it leaves as it was.
-use Rattle.std.specs.Prelude.{◌≡◌, ℕ, ◌-◌, Bool, true, not, ◌&&◌, ◌||◌, ◌==◌, IsTrue, IsFalse, List, [], ◌∷◌, ◌++◌, map, if◌then◌else◌}
+use Rattle.std.specs.Prelude.{◌≡◌, ℕ, ◌-◌, Bool, true, not, ◌&&◌, ◌||◌, ◌==◌, IsTrue, IsFalse, List, [], ◌∷◌, ◌++◌, map, if◌then◌else◌, Some, ◌<◌, ◌≤◌}
 use Rattle.gx_units.specs.Names.{same_stock}
 use Rattle.gx_units.specs.declared.names.Symbol.{Symbol}
 use Rattle.gx_units.specs.declared.names.UserName.{UserName}
@@ -9,7 +9,7 @@ use Rattle.gx_history.specs.declared.record.Fill.{Fill}
 use Rattle.gx_history.specs.declared.record.RecordData.{RecordData}
 use Rattle.gx_history.specs.Book.{incoming, resting, is_better, is_buy_order, is_on_side}
 use Rattle.gx_history.specs.Effects.{KeepsInForce, with_open, still_open, resized, with_left}
-use Rattle.gx_history.specs.Executions.{Execution, Standing, executions, standings, live_orders}
+use Rattle.gx_history.specs.Executions.{Execution, Standing, executions, standings, live_orders, standing_numbered}
 use Rattle.gx_history.specs.Lists.{placed}
 use Rattle.gx_history.specs.Matching.{crosses, filled}
 use Rattle.gx_history.specs.Orders.{Order, orders}
@@ -61,6 +61,20 @@ pub record FillsOrders (policy : PolicyData) (before after : List RecordData) (r
       ≡ stream policy before user
       ++ map (reported r) (reports_of_execution r user (taker_side f taker.order) ++ reports_of_execution r user (maker_side f maker.order))
       ++ copies_of policy user (before, r)
+
+-- A fill is between two live orders of one stock and of two sides, found under their numbers, at the price of the one that rested, and for some shares that both have open.
+pub record IsFair (policy : PolicyData) (before : List RecordData) (f : Fill) : Type 0 where
+  pub taker : Standing
+  pub maker : Standing
+  pub taker_lives : standing_numbered (live_orders policy before) f.taker ≡ Some taker
+  pub maker_lives : standing_numbered (live_orders policy before) f.maker ≡ Some maker
+  pub they_differ : IsFalse (f.taker == f.maker)
+  pub of_one_stock : IsTrue (same_stock maker.order.terms.stock taker.order.terms.stock)
+  pub of_two_sides : IsTrue (is_on_side (not (is_buy_order taker.order)) maker.order)
+  pub at_its_price : f.price ≡ maker.order.terms.price
+  pub some_shares : 0 < f.shares
+  pub taker_has_them : f.shares ≤ taker.open_shares
+  pub maker_has_them : f.shares ≤ maker.open_shares
 
 -- the order trades with none of these, the best of which comes first
 abbrev pub meets_none : Order → List Standing → Bool

@@ -17,3 +17,4 @@ pub mod Runs
 pub mod Ends
 pub mod Adding
 pub mod Tokens
+pub mod Listed

@@ -1,6 +1,6 @@
 -- What the definitions say of every policy, every history and every request.
 use Rattle.std.specs.Option.{option_map_or}
-use Rattle.std.specs.Prelude.{◌≡◌, ◌+◌, ◌≤◌, ◌||◌, unwrap_or, length, List, [], ◌∷◌, ◌++◌, map, Some, ◌↔◌, IsTrue, IsFalse, Bool, false, ◌&&◌, filter}
+use Rattle.std.specs.Prelude.{◌≡◌, ◌+◌, ◌≤◌, ◌||◌, unwrap_or, is_some, length, List, [], ◌∷◌, ◌++◌, map, Some, ◌↔◌, IsTrue, IsFalse, Bool, false, ◌&&◌, filter}
 use Rattle.std.specs.List.{list_any, AllByRecursion}
 use Rattle.gx_units.specs.Names.{same_user, same_token}
 use Rattle.gx_units.specs.declared.names.AccountName.{AccountName}
@@ -19,7 +19,7 @@ use Rattle.gx_history.specs.InForce.{is_closed, is_killed, kill_or_lift_of, line
 use Rattle.gx_history.specs.Orders.{Order, orders, ends_account, is_token_used, record_uses, total}
 use Rattle.gx_history.specs.Requests.{granted, granted_action, granted_mark, is_order}
 use Rattle.gx_history.specs.Lists.{are_distinct}
-use Rattle.gx_history.specs.People.{account_of}
+use Rattle.gx_history.specs.People.{account_of, stock_named}
 use Rattle.gx_history.specs.Streams.{stream, reports_of}
 use Rattle.gx_history.specs.Rules.{applies, written_order, IsFirstForbidding}
 use Rattle.gx_history.specs.Showing.{is_askable, is_showable}
@@ -98,6 +98,11 @@ is_same_token a b = same_user a.user b.user && same_token a.token b.token
 -- no user has two orders under one token
 abbrev pub TokensDiffer : Type 0
 TokensDiffer = (policy : PolicyData) (history : List RecordData) → IsLegal policy history → IsTrue (are_distinct is_same_token (orders policy history))
+
+-- an order is in a stock of the policy
+abbrev pub StocksAreListed : Type 0
+StocksAreListed = (policy : PolicyData) (history : List RecordData)
+    → IsLegal policy history → AllByRecursion (λ (o : Order). IsTrue (is_some (stock_named policy o.terms.stock))) (orders policy history)
 
 -- an order's account is the one that its user trades for
 abbrev pub AccountsAreTheUsers : Type 0

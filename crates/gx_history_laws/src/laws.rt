@@ -1,6 +1,6 @@
 //! Laws of the definitions, each as what a function without a body ensures.
 
-ghost use Rattle.gx_history_laws.specs.Laws.{RequestsLeaveRecords, GrantedWhereNoneForbids, DeniedByTheFirst, RequestsAreShown, LegalGoesOn, RunsAreLegal, LegalAreRuns, NumbersArePlaces, OrdersAreGrants, OrderNumbersAreWithin, TokensDiffer, AccountsAreTheUsers, OpenIsWithinTotal, EndedAreNotLive, TokensGrow, LinesGoOn, KillsGoOn, DaysEnd, MomentsGoOn, StreamsGrow};
+ghost use Rattle.gx_history_laws.specs.Laws.{RequestsLeaveRecords, GrantedWhereNoneForbids, DeniedByTheFirst, RequestsAreShown, LegalGoesOn, RunsAreLegal, LegalAreRuns, NumbersArePlaces, OrdersAreGrants, OrderNumbersAreWithin, TokensDiffer, AccountsAreTheUsers, StocksAreListed, OpenIsWithinTotal, EndedAreNotLive, TokensGrow, LinesGoOn, KillsGoOn, DaysEnd, MomentsGoOn, StreamsGrow};
 
 /// A request leaves a record of its verdict: granted where no rule forbids, else denied by the first that does.
 pub fn requests_are_judged()
@@ -18,12 +18,14 @@ pub fn days_are_runs()
     ensures numbers { NumbersArePlaces }
 {}
 
-/// The orders of a legal history are its granted Enters and Replaces, each under a token of its own.
+/// The orders of a legal history are its granted Enters and Replaces, each under a token of its own, for its user's
+/// account and in a listed stock.
 pub fn orders_are_granted_requests()
     ensures grants { OrdersAreGrants }
     ensures numbers { OrderNumbersAreWithin }
     ensures tokens { TokensDiffer }
     ensures accounts { AccountsAreTheUsers }
+    ensures stocks { StocksAreListed }
 {}
 
 /// Open shares are a part of the total, and a Kill or the end of the day leaves none.

@@ -6,6 +6,7 @@ use gx_effects::laws::{
     granted_lifts_take_effect, granted_logins_and_logouts_take_effect,
     granted_replaces_take_effect, killed_accounts_are_not_filled, killed_accounts_do_not_trade,
     live_orders_are_named, matching_settles, matching_steps_take_effect, matching_waits_for_orders,
+    orders_go_on,
 };
 use gx_history_laws::laws::{
     days_are_runs, orders_are_granted_requests, orders_end, requests_are_judged, states_go_on,
@@ -70,6 +71,7 @@ fn call_laws_of_effects() {
     books_are_never_crossed();
     matching_settles();
     killed_accounts_are_not_filled();
+    orders_go_on();
 }
 
 /// The laws of people and of rules in force.
