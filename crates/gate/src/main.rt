@@ -3,9 +3,8 @@
 
 use clap::error::ErrorKind;
 use clap::{Arg, ArgMatches, Command, Error};
-use gx_core::Gate;
+use gx_core::{Gate, first_that_needs_figures};
 use gx_history::policy::Policy;
-use gx_plain::figured::first_that_needs_figures;
 use gx_policyfile::{FaultKind, PolicyFault, read_policy};
 use gx_server::{
     Counted, Explained, PipeFault, ScriptFault, policy_line, run_pipe, run_script_explained,

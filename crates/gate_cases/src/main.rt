@@ -9,6 +9,8 @@
 //!   the sample policy less its rules that ask for figures.
 //! - `-- pipe`: the bytes of a connection, in hex. The verdicts of its records are told, and the bytes that it was sent.
 //! - `-- script`: a script; `-- script-in-hex`: its bytes in hex. What it prints is told.
+//! - `-- again`: the lines of a script, each a run of its own, and run again where its step was refused, as for want of
+//!   memory. The verdicts of their records are told: they are the same, whichever step was refused.
 //!
 //! The parts of a case run on one gate, one after the other; in the end it is told who is logged in and which accounts
 //! are killed. Each case is run twice: with devices that give and take large pieces, and with devices that give and
@@ -23,9 +25,8 @@ mod runs;
 mod texts;
 
 use devices::Limits;
-use gx_core::Gate;
+use gx_core::{Gate, first_that_needs_figures};
 use gx_history::policy::Policy;
-use gx_plain::figured::first_that_needs_figures;
 use gx_policyfile::{SAMPLE, read_policy};
 use gx_server::sample_without_figures;
 use gx_units::OutOfMemory;

@@ -1,8 +1,8 @@
 //! What a policy says: how much it holds, and its rules.
 
 use crate::texts::{put, put_bytes, text_of};
+use gx_core::first_that_needs_figures;
 use gx_history::policy::{Count, FileRule, Policy, RuleKind, Scope};
-use gx_plain::figured::first_that_needs_figures;
 use gx_server::policy_line;
 use gx_units::{AccountName, OutOfMemory, Symbol};
 use std::alloc::Global;

@@ -137,6 +137,30 @@ fn tell_script(
     put_end(out, &ended)
 }
 
+/// Makes the step of a script's line, and makes it again where it left no record: it was refused then.
+fn step_again(alloc: Global, gate: &mut Gate, limits: Limits, line: &str) {
+    let before = gate.length();
+    follow(alloc, gate, limits, line.as_bytes());
+    if gate.length() == before {
+        follow(alloc, gate, limits, line.as_bytes());
+    }
+}
+
+/// Makes the steps of a script's lines, each again where it is refused, and tells of the verdicts of their records.
+fn tell_again(
+    alloc: Global,
+    out: &mut String,
+    gate: &mut Gate,
+    limits: Limits,
+    text: &str,
+) -> Result<(), OutOfMemory> {
+    let from = gate.length().saturating_add(1);
+    for line in text.lines() {
+        step_again(alloc, gate, limits, line);
+    }
+    put_verdicts(alloc, out, gate, from)
+}
+
 /// The limits that a part's head names, or the usual ones where it names none.
 fn limits_of(words: &str, usual: Limits) -> Option<Limits> {
     if words.is_empty() {
@@ -165,6 +189,7 @@ fn tell_part(
             let input = bytes_of(alloc, text)?;
             tell_pipe(alloc, out, gate, limits, input.as_slice())
         }
+        ("again", Some(limits)) => tell_again(alloc, out, gate, limits, text),
         ("script", Some(limits)) => tell_script(alloc, out, gate, limits, text.as_bytes()),
         ("script-in-hex", Some(limits)) => {
             let input = bytes_of(alloc, text)?;

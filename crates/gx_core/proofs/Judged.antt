@@ -1,49 +1,70 @@
--- What the gate keeps of people, where all records are of requests that are brought.
-use Rattle.std.proofs.Common.{◌≡◌, true, List, refl}
-use Rattle.std.specs.Prelude.{Option, Some, None}
+-- What the keepers answer is what the rules ask of the records.
+use Rattle.std.proofs.Common.{◌≡◌, ℕ, ◌+◌, ◌<◌, ◌^◌, max, pred, arith, length, drop, List, refl, ◌∙◌, ap}
+use Rattle.std.proofs.lemmas.List.{length-take, length-drop}
+use Rattle.gx_history.specs.Lists.{slice}
+use Rattle.std.specs.Prelude.{Option, Some, None, false, is_some, option_map, option_and_then}
+use Rattle.std.specs.Option.{option_map_or}
 use Rattle.gx_units.specs.declared.names.AccountName.{AccountName}
+use Rattle.gx_units.specs.declared.names.Password.{Password}
+use Rattle.gx_units.specs.declared.names.Token.{Token}
 use Rattle.gx_units.specs.declared.names.UserName.{UserName}
 use Rattle.gx_desk.specs.declared.Action.{Action}
 use Rattle.gx_desk.specs.declared.Action.TheVariants as actions
-use Rattle.gx_history.specs.declared.record.RecordData.{RecordData}
-use Rattle.gx_history.specs.declared.record.Request.{Request}
-use Rattle.gx_history.specs.declared.record.Request.TheVariants as requests
 use Rattle.gx_history.specs.declared.policy.PolicyData.{PolicyData}
-use Rattle.gx_history.specs.declared.policy.User.{User}
 use Rattle.gx_history.specs.declared.policy.Role.{Role}
 use Rattle.gx_history.specs.declared.policy.Role.TheVariants as roles
-use Rattle.gx_history.specs.Asking.{are_his, knows_user}
-use Rattle.gx_history.specs.Brought.{is_command_brought}
-use Rattle.gx_people.specs.Entitled.{people_in_force, given, holds_in_role}
-use Rattle.gx_plain.specs.Stage.{are_brought}
-use Rattle.gx_plain.proofs.Staging.{all_keep}
-use Rattle.gx_core.specs.Known.{is_known_among}
+use Rattle.gx_history.specs.declared.policy.User.{User}
+use Rattle.gx_history.specs.declared.record.RecordData.{RecordData}
+use Rattle.gx_history.specs.declared.record.Request.{Request}
+use Rattle.gx_history.specs.declared.report.Report.{Report}
+use Rattle.gx_history.specs.Asking.{are_his, has_power, live_named, named_order, takes_nothing}
+use Rattle.gx_history.specs.Executions.{executions}
+use Rattle.gx_history.specs.InForce.{is_closed, is_killed, line_of}
+use Rattle.gx_history.specs.Logins.{password_is}
+use Rattle.gx_history.specs.Orders.{is_token_used}
+use Rattle.gx_history.specs.People.{account_of, account_of_role, is_officer, is_trader, role_in, user_in}
+use Rattle.gx_history.specs.Streams.{stream}
+use Rattle.gx_history.specs.Verdicts.{last_moment}
+use Rattle.gx_day.specs.DayData.{DayData, killed_in, line_in}
+use Rattle.gx_day.proofs.Answering.{ends_are_kept, kills_are_kept, lines_are_kept, moments_are_kept}
+use Rattle.gx_orders.specs.InForce.{cuts_nothing, named, order_named, orders_in_force}
+use Rattle.gx_orders.specs.LiveOrders.{OrdersData, is_used}
+use Rattle.gx_orders.proofs.Keeping.{named_fact_is, takes_nothing_is, used_is}
+use Rattle.gx_people.specs.Entitled.{has, holds, holds_in_role, power_of}
+use Rattle.gx_people.proofs.Keeping.{accounts_stay, officers_stay, passwords_stay, powers_stay, scopes_stay, traders_stay, users_stay}
+use Rattle.gx_streams.specs.Streams.{reports_in}
+use Rattle.gx_streams.proofs.Finding.{reports_are}
+use Rattle.gx_core.specs.declared.keepers.Keepers.{Keepers}
+use Rattle.gx_core.specs.Kept.{IsKept}
 
--- Kill and Lift do not change who sees what
-people_keep : (users : List User) (action : Action) → is_command_brought action ≡ true → given users action ≡ users
-people_keep users (actions.Kill account) h = refl
-people_keep users (actions.Lift account) h = refl
-people_keep users (actions.SetLimit rule limit) h = cc
-people_keep users (actions.Restrict rule stock) h = cc
-people_keep users (actions.Unrestrict rule stock) h = cc
-people_keep users (actions.Grant reader account) h = cc
-people_keep users (actions.Revoke reader account) h = cc
-people_keep users actions.CloseDay h = cc
+-- people
+pub users_are_known : (policy : PolicyData) (history : List RecordData) (k : Keepers) (user : UserName) → IsKept policy history k
+    → is_some (user_in k.people user) ≡ is_some (user_in policy.users user)
+users_are_known policy history k user kept = ap (λ (users : List User). is_some (user_in users user)) kept.in_force.people ∙ users_stay policy history user
 
--- the people in force are the policy's
-pub people_are_the_files : (policy : PolicyData) (history : List RecordData) → are_brought history ≡ true → people_in_force policy history ≡ policy.users
-unfolding people_in_force are_brought
-people_are_the_files policy history h = all_keep given policy.users (people_keep policy.users) history h
+pub passwords_are_known : (policy : PolicyData) (history : List RecordData) (k : Keepers) (user : UserName) (given : Password) → IsKept policy history k
+    → password_is k.people user given ≡ password_is policy.users user given
+passwords_are_known policy history k user given kept = ap (λ (users : List User). password_is users user given) kept.in_force.people ∙ passwords_stay policy history user given
 
--- the policy's users are those whom a login may name
-pub known_among : (policy : PolicyData) (user : UserName) (q : Request) → is_known_among policy.users user q ≡ knows_user policy user q
-known_among policy user (requests.Login m) = refl
-known_among policy user requests.Logout = refl
-known_among policy user (requests.Unreadable m) = refl
-known_among policy user (requests.Enter m) = refl
-known_among policy user (requests.Command c) = refl
-known_among policy user (requests.Replace m) = refl
-known_among policy user (requests.Cancel m) = refl
+pub traders_are_known : (policy : PolicyData) (history : List RecordData) (k : Keepers) (user : UserName) → IsKept policy history k
+    → is_trader (role_in k.people user) ≡ is_trader (role_in policy.users user)
+traders_are_known policy history k user kept = ap (λ (users : List User). is_trader (role_in users user)) kept.in_force.people ∙ traders_stay policy history user
+
+pub officers_are_known : (policy : PolicyData) (history : List RecordData) (k : Keepers) (user : UserName) → IsKept policy history k
+    → is_officer (role_in k.people user) ≡ is_officer (role_in policy.users user)
+officers_are_known policy history k user kept = ap (λ (users : List User). is_officer (role_in users user)) kept.in_force.people ∙ officers_stay policy history user
+
+pub accounts_are_known : (policy : PolicyData) (history : List RecordData) (k : Keepers) (user : UserName) → IsKept policy history k
+    → option_and_then account_of_role (role_in k.people user) ≡ account_of policy user
+accounts_are_known policy history k user kept = ap (λ (users : List User). option_and_then account_of_role (role_in users user)) kept.in_force.people ∙ accounts_stay policy history user
+
+pub powers_are_known : (policy : PolicyData) (history : List RecordData) (k : Keepers) (user : UserName) (action : Action) → IsKept policy history k
+    → has k.people user (power_of action) ≡ has_power (role_in policy.users user) action
+powers_are_known policy history k user action kept = ap (λ (users : List User). has users user (power_of action)) kept.in_force.people ∙ powers_stay policy history user action
+
+pub scopes_are_known : (policy : PolicyData) (history : List RecordData) (k : Keepers) (user : UserName) (account : AccountName) → IsKept policy history k
+    → holds k.people user account ≡ holds_in_role (role_in policy.users user) account
+scopes_are_known policy history k user account kept = ap (λ (users : List User). holds users user account) kept.in_force.people ∙ scopes_stay policy history user account
 
 -- a Kill or a Lift concerns the account that it names
 pub his_account : (policy : PolicyData) (history : List RecordData) (role : Option Role) (account : AccountName)
@@ -52,3 +73,43 @@ his_account policy history None account = (refl, refl)
 his_account policy history (Some (roles.Trader named)) account = (refl, refl)
 his_account policy history (Some (roles.Officer powers scope)) account = (refl, refl)
 his_account policy history (Some (roles.Reader names)) account = (refl, refl)
+
+-- the day
+pub line_is_known : (policy : PolicyData) (history : List RecordData) (k : Keepers) (user : UserName) → IsKept policy history k → line_in k.day user ≡ line_of history user
+line_is_known policy history k user kept = ap (λ (day : DayData). line_in day user) kept.in_force.day ∙ lines_are_kept policy history user kept.legal
+
+pub kill_is_known : (policy : PolicyData) (history : List RecordData) (k : Keepers) (account : AccountName) → IsKept policy history k
+    → killed_in k.day account ≡ is_killed policy history account
+kill_is_known policy history k account kept = ap (λ (day : DayData). killed_in day account) kept.in_force.day ∙ kills_are_kept policy history account kept.legal
+
+pub end_is_known : (policy : PolicyData) (history : List RecordData) (k : Keepers) → IsKept policy history k → k.day.closed ≡ is_closed history
+end_is_known policy history k kept = ap (λ (day : DayData). day.closed) kept.in_force.day ∙ ends_are_kept policy history
+
+pub moment_is_known : (policy : PolicyData) (history : List RecordData) (k : Keepers) → IsKept policy history k → k.day.moment ≡ last_moment history
+moment_is_known policy history k kept = ap (λ (day : DayData). day.moment) kept.in_force.day ∙ moments_are_kept policy history
+
+-- live orders and tokens
+pub tokens_are_known : (policy : PolicyData) (history : List RecordData) (k : Keepers) (user : UserName) (token : Token) → IsKept policy history k
+    → is_used k.orders.used user token ≡ is_token_used history user token
+tokens_are_known policy history k user token kept = ap (λ (orders : OrdersData). is_used orders.used user token) kept.in_force.orders ∙ used_is policy history user token
+
+pub orders_are_known : (policy : PolicyData) (history : List RecordData) (k : Keepers) → IsKept policy history k → k.orders.live ≡ (orders_in_force policy history).live
+orders_are_known policy history k kept = ap (λ (orders : OrdersData). orders.live) kept.in_force.orders
+
+pub named_are_known : (policy : PolicyData) (history : List RecordData) (user : UserName) (q : Request)
+    → option_map (named_order (executions policy history)) (live_named policy history user q) ≡ option_map named (order_named (orders_in_force policy history).live user q)
+named_are_known policy history user q = named_fact_is policy history user q
+
+pub cuts_are_known : (policy : PolicyData) (history : List RecordData) (user : UserName) (q : Request)
+    → option_map_or (takes_nothing history q) (live_named policy history user q) false ≡ option_map_or (cuts_nothing q) (order_named (orders_in_force policy history).live user q) false
+cuts_are_known policy history user q = takes_nothing_is policy history user q
+
+-- what users were told
+pub reports_are_known : (policy : PolicyData) (history : List RecordData) (k : Keepers) (user : UserName) → IsKept policy history k
+    → reports_in k.streams user ≡ stream policy history user
+reports_are_known policy history k user kept = reports_are policy history k.streams kept.legal kept.in_force.streams user
+
+-- a number behind the last report fits, where the first that is wanted does
+pub numbers_fit : (owed : List Report) (from most : ℕ) → length owed < 2 ^ 63 → from < 2 ^ 64 → max 1 from + length (slice owed from most) < 2 ^ 64
+numbers_fit owed from most few fits =
+    omega (arith, length-take most (drop (pred (max 1 from)) owed), length-drop (pred (max 1 from)) owed, few, fits)

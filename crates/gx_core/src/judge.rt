@@ -1,27 +1,31 @@
-//! A request judged on the records so far.
+//! A request judged on what the gate keeps of its records.
 
-ghost use Rattle.std.specs.Prelude.{◌≡◌, ◌^◌, ◌<◌, length, is_some, IsTrue};
-ghost use Rattle.gx_history.specs.Asking.{facts, is_on_line, is_available, fits_role, of_command, knows_names, has_power, are_his, changes};
+ghost use Rattle.std.specs.Prelude.{◌≡◌, ◌≤◌, ◌<◌, false, is_some, length, option_map, IsTrue, Some};
+ghost use Rattle.std.specs.Option.{option_map_or};
+ghost use Rattle.gx_history.specs.declared.record.Step.TheVariants as steps;
+ghost use Rattle.gx_history.specs.Asking.{are_his, changes, facts, fits_role, has_power, is_on_line, knows_names, knows_user, live_named, named_order, of_command, takes_nothing};
 ghost use Rattle.gx_history.specs.Brought.{is_brought};
-ghost use Rattle.gx_history.specs.InForce.{rules_in_force};
-ghost use Rattle.gx_history.specs.People.{account_named, role_in};
-ghost use Rattle.gx_history.specs.Plain.{rules_need_no_figures};
-ghost use Rattle.gx_history.specs.Showing.{answers};
-ghost use Rattle.gx_history.specs.Verdicts.{verdict, verdict_by};
-ghost use Rattle.gx_people.specs.Entitled.{holds, people_in_force};
-ghost use Rattle.gx_plain.specs.Stage.{are_brought};
-ghost use Rattle.gx_core.specs.Known.{is_known_among};
+ghost use Rattle.gx_history.specs.Executions.{executions};
+ghost use Rattle.gx_history.specs.Orders.{is_token_used};
+ghost use Rattle.gx_history.specs.People.{account_named, account_of, role_in};
+ghost use Rattle.gx_history.specs.Requests.{new_token};
+ghost use Rattle.gx_history.specs.Showing.{answers, is_askable, is_showable};
+ghost use Rattle.gx_history.specs.Verdicts.{day_limit, moment_of, next, verdict, verdict_by};
+ghost use Rattle.gx_orders.specs.InForce.{cuts_nothing, named, order_named, orders_in_force};
+ghost use Rattle.gx_people.specs.Entitled.{holds_in_role};
+ghost use Rattle.gx_core.specs.Gates.{left_by};
+ghost use Rattle.gx_core.specs.Known.{accounts_held, change_asked, cuts_none, has_used, is_available_after, named_asked, names_known, order_asked, power_held, role_asking};
+ghost use Rattle.gx_core.specs.Steps.{next_of, verdict_of};
 
+use crate::gate::Gate;
+use crate::listed::{account_named, fits_firm, lists_its_stock};
+use crate::outcome::Outcome;
+use crate::request::{named_token, new_token};
 use gx_desk::Action;
-use gx_history::facts::Facts;
-use gx_history::policy::Policy;
-use gx_history::record::{Asked, Record, Request, RuleName, Verdict};
-use gx_people::people::People;
+use gx_history::facts::{Facts, NamedOrder};
+use gx_history::record::{Asked, Request, RuleName, Verdict};
+use gx_orders::live_order::LiveOrder;
 use gx_people::power::Power;
-use gx_plain::people::{account_named, fits_firm, lists_its_stock};
-use gx_plain::records::{is_closed, is_killed, is_token_used, last_moment, line_of, new_token};
-use gx_plain::streams::count_reports;
-use gx_rules::RuleBook;
 use gx_units::{AccountName, Moment, UserName};
 
 fn is_on_line(on: Option<u16>, line: u16) -> bool
@@ -30,37 +34,35 @@ fn is_on_line(on: Option<u16>, line: u16) -> bool
     on == Some(line)
 }
 
-fn is_known(people: &People, a: &Asked) -> bool
-    ensures { result ≡ is_known_among people.now a.now.user a.now.request }
+/// Whether a Login's session name is right, and the report that it asks for is there or comes next.
+fn is_available(owed: u64, request: &Request) -> bool
+    ensures { result ≡ is_available_after owed request.now }
 {
-    match &a.request {
-        Request::Login(m) => m.password_is_right && people.knows(a.user),
+    match request {
+        Request::Login(m) => m.session_is_right && (m.wanted <= 1 || m.wanted - 1 <= owed),
         _ => true,
     }
 }
 
-fn is_available(policy: &Policy, records: &[Record], a: &Asked) -> bool
-    requires records { IsTrue (are_brought records.now) }
-    requires few { length records.now < 2 ^ 32 }
-    ensures { result ≡ is_available policy.now records.now a.now.user a.now.request }
+/// What the rules ask of a live order.
+fn named_order(order: &LiveOrder) -> NamedOrder
+    ensures { result ≡ named order.now }
 {
-    match &a.request {
-        Request::Login(m) => {
-            m.session_is_right
-                && (m.wanted <= 1 || m.wanted - 1 <= count_reports(policy, records, a.user) as u64)
-        }
-        _ => true,
+    NamedOrder {
+        order: order.number,
+        side: order.terms.side,
+        stock: order.terms.stock,
+        done: u64::from(order.done),
     }
 }
 
-fn fits_role(people: &People, a: &Asked) -> bool
-    requires { IsTrue (is_brought a.now.request) }
-    ensures { result ≡ fits_role (role_in people.now a.now.user) a.now.request }
+/// Whether the request is a Cancel that asks for no less than the order's size.
+fn cuts_nothing(request: &Request, order: &LiveOrder) -> bool
+    ensures { result ≡ cuts_nothing request.now order.now }
 {
-    match &a.request {
-        Request::Enter(_) => people.is_trader(a.user),
-        Request::Command(_) => people.is_officer(a.user),
-        _ => true,
+    match request {
+        Request::Cancel(m) => order.total <= m.shares,
+        _ => false,
     }
 }
 
@@ -81,96 +83,6 @@ const NO_COMMAND: CommandFacts = CommandFacts {
     would_change: true,
 };
 
-/// What the rules ask about a command that concerns one account.
-fn on_account(
-    people: &People,
-    policy: &Policy,
-    user: UserName,
-    action: &Action,
-    account: AccountName,
-    would_change: bool,
-) -> CommandFacts
-    ensures names { result.names_are_known ≡ is_some (account_named policy.now account) }
-    ensures power { result.has_power ≡ has_power (role_in people.now user) action.now }
-    ensures his { result.accounts_are_his ≡ holds people.now user account }
-    ensures changes { result.would_change ≡ would_change }
-{
-    CommandFacts {
-        names_are_known: account_named(policy, account).is_some(),
-        has_power: people.has(user, Power::of(action)),
-        accounts_are_his: people.holds(user, account),
-        would_change,
-    }
-}
-
-/// What the rules ask about a command, where it is brought.
-#[tactic(auto, using(crate::proofs::Judged::his_account))]
-fn command_facts(people: &People, policy: &Policy, records: &[Record], a: &Asked) -> CommandFacts
-    requires { IsTrue (is_brought a.now.request) }
-    ensures names { result.names_are_known ≡ of_command (knows_names policy.now records.now) a.now.request }
-    ensures power { result.has_power ≡ of_command (has_power (role_in people.now a.now.user)) a.now.request }
-    ensures his { result.accounts_are_his ≡ of_command (are_his policy.now records.now (role_in people.now a.now.user)) a.now.request }
-    ensures changes { result.would_change ≡ of_command (changes policy.now records.now a.now.user) a.now.request }
-{
-    let Request::Command(c) = a.request else {
-        return NO_COMMAND;
-    };
-    match c.action {
-        Action::Kill(account) => {
-            let would_change = !is_killed(policy, records, account);
-            on_account(people, policy, a.user, &c.action, account, would_change)
-        }
-        Action::Lift(account) => {
-            let would_change = is_killed(policy, records, account);
-            on_account(people, policy, a.user, &c.action, account, would_change)
-        }
-        _ => NO_COMMAND,
-    }
-}
-
-/// What the rules ask of the records, for a request that is brought and at this moment, where these are the people in
-/// force.
-#[tactic(auto, unfolding(gx_history::specs::Asking::facts), using(crate::proofs::Judged::people_are_the_files, crate::proofs::Judged::known_among))]
-fn facts_of(
-    people: &People,
-    policy: &Policy,
-    records: &[Record],
-    a: &Asked,
-    moment: Moment,
-) -> Facts
-    requires people { people.now ≡ people_in_force policy.now records.now }
-    requires request { IsTrue (is_brought a.now.request) }
-    requires records { IsTrue (are_brought records.now) }
-    requires few { length records.now < 2 ^ 32 }
-    ensures { result ≡ facts policy.now records.now a.now moment }
-{
-    let account = people.account_of(a.user);
-    let on = line_of(records, a.user);
-    let command = command_facts(people, policy, records, a);
-    Facts {
-        may_log_in: is_known(people, a),
-        is_logged_in: on.is_some(),
-        session_is_available: is_available(policy, records, a),
-        is_on_this_line: is_on_line(on, a.line),
-        role_fits: fits_role(people, a),
-        token_is_used: new_token(&a.request).is_some_and(|token| is_token_used(
-            records, a.user, token,
-        )),
-        named: None,
-        cancel_takes_nothing: false,
-        day_is_closed: is_closed(records),
-        account_is_killed: account.is_some_and(|name| is_killed(policy, records, name)),
-        firm_fits: fits_firm(policy, account, &a.request),
-        stock_is_listed: lists_its_stock(policy, &a.request),
-        names_are_known: command.names_are_known,
-        has_power: command.has_power,
-        accounts_are_his: command.accounts_are_his,
-        would_change: command.would_change,
-        account,
-        moment,
-    }
-}
-
 fn verdict_by(found: Option<RuleName>) -> Verdict
     ensures { result ≡ verdict_by found }
 {
@@ -180,28 +92,184 @@ fn verdict_by(found: Option<RuleName>) -> Verdict
     }
 }
 
-/// The verdict on a request that is brought, where these are the people and the rules in force, and no rule asks for
-/// figures: denied by the first rule of the written order that forbids it, and else granted.
-pub fn judge(
-    people: &People,
-    rules: &RuleBook,
-    policy: &Policy,
-    records: &[Record],
-    a: &Asked,
-) -> Verdict
-    requires people { people.now ≡ people_in_force policy.now records.now }
-    requires rules { rules.now ≡ rules_in_force policy.now records.now }
-    requires request { IsTrue (is_brought a.now.request) }
-    requires records { IsTrue (are_brought records.now) }
-    requires few { length records.now < 2 ^ 32 }
-    requires plain { IsTrue (rules_need_no_figures policy.now) }
-    ensures verdict { result ≡ verdict policy.now records.now a.now }
-    ensures shown { IsTrue (answers a.now.request result) }
-{
-    let moment = a.handed.max(last_moment(records));
-    // that the policy is sound, which `shown` rests on
-    let _ = policy.rules();
-    let known = facts_of(people, policy, records, a, moment);
-    let found = rules.first_forbidding_without_figures(&known, &a.request);
-    verdict_by(found)
+impl Gate {
+    /// Whether a Login's user is in the policy, and its password is right.
+    #[tactic(auto, using(crate::proofs::Judged::users_are_known))]
+    fn knows_who_asks(&self, a: &Asked) -> bool
+        ensures { result ≡ knows_user self.now.policy a.now.user a.now.request }
+    {
+        match &a.request {
+            Request::Login(m) => m.password_is_right && self.keepers.people.knows(a.user),
+            _ => true,
+        }
+    }
+
+    /// Whether orders are asked for by a trader, and commands by an officer.
+    #[tactic(auto, using(crate::proofs::Judged::traders_are_known, crate::proofs::Judged::officers_are_known))]
+    fn fits_role(&self, a: &Asked) -> bool
+        ensures { result ≡ fits_role (role_in self.now.policy.users a.now.user) a.now.request }
+    {
+        let people = &self.keepers.people;
+        match &a.request {
+            Request::Enter(_) | Request::Replace(_) | Request::Cancel(_) => {
+                people.is_trader(a.user)
+            }
+            Request::Command(_) => people.is_officer(a.user),
+            _ => true,
+        }
+    }
+
+    /// The account that the user trades for, if he trades.
+    #[tactic(auto, using(crate::proofs::Judged::accounts_are_known))]
+    fn account_of(&self, user: UserName) -> Option<AccountName>
+        ensures { result ≡ account_of self.now.policy user }
+    {
+        self.keepers.people.account_of(user)
+    }
+
+    /// Whether the request's new token was used before by its user.
+    #[tactic(auto, using(crate::proofs::Judged::tokens_are_known))]
+    fn token_is_used(&self, a: &Asked) -> bool
+        ensures { result ≡ has_used self.now a.now }
+    {
+        new_token(&a.request).is_some_and(|token| self.keepers.orders.is_used(a.user, token))
+    }
+
+    /// The live order that a Replace or a Cancel names.
+    #[tactic(auto, using(crate::proofs::Judged::orders_are_known))]
+    fn order_named(&self, a: &Asked) -> Option<LiveOrder>
+        ensures { result ≡ order_asked self.now a.now }
+    {
+        self.keepers.orders.under(a.user, named_token(&a.request)?)
+    }
+
+    /// What the rules ask of the order that a Replace or a Cancel names.
+    #[tactic(auto, using(crate::proofs::Judged::named_are_known))]
+    fn named(&self, a: &Asked) -> Option<NamedOrder>
+        ensures { result ≡ named_asked self.now a.now }
+    {
+        let order = self.order_named(a)?;
+        Some(named_order(&order))
+    }
+
+    /// Whether a Cancel asks for no less than its order's size.
+    #[tactic(auto, using(crate::proofs::Judged::cuts_are_known))]
+    fn cancel_takes_nothing(&self, a: &Asked) -> bool
+        ensures { result ≡ cuts_none self.now a.now }
+    {
+        match self.order_named(a) {
+            Some(order) => cuts_nothing(&a.request, &order),
+            None => false,
+        }
+    }
+
+    /// What the rules ask about a Kill or a Lift of the account.
+    #[tactic(auto, using(crate::proofs::Judged::powers_are_known, crate::proofs::Judged::scopes_are_known))]
+    fn on_account(
+        &self,
+        a: &Asked,
+        action: &Action,
+        account: AccountName,
+        would_change: bool,
+    ) -> CommandFacts
+        ensures names { result.names_are_known ≡ is_some (account_named self.now.policy account) }
+        ensures power { result.has_power ≡ has_power (role_asking self.now a.now) action.now }
+        ensures his { result.accounts_are_his ≡ holds_in_role (role_asking self.now a.now) account }
+        ensures changes { result.would_change ≡ would_change }
+    {
+        CommandFacts {
+            names_are_known: account_named(&self.policy, account).is_some(),
+            has_power: self.keepers.people.has(a.user, Power::of(action)),
+            accounts_are_his: self.keepers.people.holds(a.user, account),
+            would_change,
+        }
+    }
+
+    /// What the rules ask about a command, where it is brought.
+    #[tactic(auto, using(crate::proofs::Judged::his_account))]
+    fn command_facts(&self, a: &Asked) -> CommandFacts
+        requires { IsTrue (is_brought a.now.request) }
+        ensures names { result.names_are_known ≡ names_known self.now a.now }
+        ensures power { result.has_power ≡ power_held self.now a.now }
+        ensures his { result.accounts_are_his ≡ accounts_held self.now a.now }
+        ensures changes { result.would_change ≡ change_asked self.now a.now }
+    {
+        let Request::Command(c) = a.request else {
+            return NO_COMMAND;
+        };
+        match c.action {
+            Action::Kill(account) => {
+                self.on_account(a, &c.action, account, !self.is_killed(account))
+            }
+            Action::Lift(account) => {
+                self.on_account(a, &c.action, account, self.is_killed(account))
+            }
+            _ => NO_COMMAND,
+        }
+    }
+
+    /// What the rules ask of the records, for a request that is brought and at this moment.
+    #[tactic(auto, unfolding(gx_history::specs::Asking::facts))]
+    fn facts_of(&self, a: &Asked, moment: Moment) -> Facts
+        requires { IsTrue (is_brought a.now.request) }
+        ensures { result ≡ facts self.now.policy self.now.records a.now moment }
+    {
+        let account = self.account_of(a.user);
+        let on = self.on(a.user);
+        let command = self.command_facts(a);
+        Facts {
+            may_log_in: self.knows_who_asks(a),
+            is_logged_in: on.is_some(),
+            session_is_available: is_available(self.count_reports(a.user), &a.request),
+            is_on_this_line: is_on_line(on, a.line),
+            role_fits: self.fits_role(a),
+            token_is_used: self.token_is_used(a),
+            named: self.named(a),
+            cancel_takes_nothing: self.cancel_takes_nothing(a),
+            day_is_closed: self.is_closed(),
+            account_is_killed: account.is_some_and(|name| self.is_killed(name)),
+            firm_fits: fits_firm(&self.policy, account, &a.request),
+            stock_is_listed: lists_its_stock(&self.policy, &a.request),
+            names_are_known: command.names_are_known,
+            has_power: command.has_power,
+            accounts_are_his: command.accounts_are_his,
+            would_change: command.would_change,
+            account,
+            moment,
+        }
+    }
+
+    /// The verdict on a request that is brought, at the moment of its record: denied by the first rule of the written
+    /// order that forbids it, and else granted.
+    fn judge(&self, a: &Asked, moment: Moment) -> Verdict
+        requires brought { IsTrue (is_brought a.now.request) }
+        requires moment { moment ≡ moment_of self.now.records (steps.Asked a.now) }
+        ensures verdict { result ≡ verdict_of self.now a.now }
+        ensures shown { IsTrue (answers a.now.request result) }
+    {
+        // that the policy is sound, which `shown` rests on
+        let _ = self.policy.rules();
+        let known = self.facts_of(a, moment);
+        let rules = &self.keepers.rules;
+        verdict_by(rules.first_forbidding_without_figures(&known, &a.request))
+    }
+
+    /// The number, the moment and the verdict of the record that the request leaves.
+    #[tactic(auto, using(gx_history_laws::proofs::Granting::next_in_parts))]
+    pub(crate) fn outcome_of(&self, a: &Asked) -> Outcome
+        requires askable { IsTrue (is_askable a.now) }
+        requires brought { IsTrue (is_brought a.now.request) }
+        requires room { length self.now.records < day_limit }
+        ensures next { next_of self.now a.now ≡ Some (left_by a.now result) }
+        ensures verdict { result.verdict ≡ verdict_of self.now a.now }
+        ensures shown { IsTrue (is_showable (left_by a.now result)) }
+        ensures fits { result.number ≤ day_limit }
+    {
+        let moment = a.handed.max(self.last_moment());
+        Outcome {
+            number: self.length() + 1,
+            moment,
+            verdict: self.judge(a, moment),
+        }
+    }
 }

@@ -1,16 +1,14 @@
 //! The request that a login makes, and what it is told.
 
-ghost use Rattle.std.specs.Prelude.{◌≡◌, ◌<◌, ◌^◌, length, IsTrue};
+ghost use Rattle.std.specs.Prelude.{◌≡◌};
 ghost use Rattle.gx_units.specs.Spelling.{folded_user, folded_password, folded_session};
-ghost use Rattle.gx_history.specs.Logins.{session_is, login_asked, first_wanted};
-ghost use Rattle.gx_core.specs.Logins.{login_answered};
-ghost use Rattle.gx_plain.specs.Stage.{are_brought};
+ghost use Rattle.gx_history.specs.Logins.{session_is, first_wanted};
+ghost use Rattle.gx_core.specs.Logins.{login_answer_after, login_asked_of};
 
 use crate::outcome::LoginAnswer;
 use gx_history::policy::Policy;
-use gx_history::record::{Login, Record, Request, RuleName, Verdict};
+use gx_history::record::{Login, Request, RuleName, Verdict};
 use gx_people::people::People;
-use gx_plain::streams::count_reports;
 use gx_units::{LoginRejection, Password, SessionName, UserName};
 
 const BLANK_SESSION: SessionName = SessionName {
@@ -32,8 +30,7 @@ pub fn login_asked(
     session: SessionName,
     wanted: u64,
 ) -> Request
-    requires people { people.now ≡ policy.now.users }
-    ensures { result ≡ login_asked policy.now (folded_user user) (folded_password password) (folded_session session) wanted }
+    ensures { result ≡ login_asked_of people.now policy.now user password session wanted }
 {
     Request::Login(Login {
         password_is_right: people.password_is(user.folded(), password.folded()),
@@ -48,22 +45,14 @@ fn first_wanted(owed: u64, wanted: u64) -> u64
     if wanted == 0 { owed.max(1) } else { wanted }
 }
 
-/// What a login with this verdict is told.
-pub fn login_answered(
-    policy: &Policy,
-    records: &[Record],
-    user: UserName,
-    wanted: u64,
-    verdict: Verdict,
-) -> LoginAnswer
-    requires brought { IsTrue (are_brought records.now) }
-    requires few { length records.now < 2 ^ 32 }
-    ensures { result ≡ login_answered policy.now records.now user wanted verdict }
+/// What a login with this verdict is told, where so many reports are owed to its user.
+pub fn login_answered(policy: &Policy, owed: u64, wanted: u64, verdict: Verdict) -> LoginAnswer
+    ensures { result ≡ login_answer_after policy.now owed wanted verdict }
 {
     match verdict {
         Verdict::Granted => LoginAnswer::Accepted {
             session: policy.session(),
-            next: first_wanted(count_reports(policy, records, user) as u64, wanted),
+            next: first_wanted(owed, wanted),
         },
         Verdict::Denied(RuleName::L3) => {
             LoginAnswer::Rejected(LoginRejection::SessionNotAvailable)

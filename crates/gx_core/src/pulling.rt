@@ -1,19 +1,12 @@
 //! A part of a user's stream.
 
-ghost use Rattle.std.specs.Prelude.{◌≡◌, ◌+◌, ◌&&◌, length, max, nat_lt, IfOk, IsTrue};
-ghost use Rattle.gx_history.specs.InForce.{is_closed};
+ghost use Rattle.std.specs.Prelude.{◌≡◌, ◌+◌, length, max, IfOk};
 ghost use Rattle.gx_history.specs.Lists.{slice};
-ghost use Rattle.gx_history.specs.Streams.{stream};
-ghost use Rattle.gx_plain.specs.Stage.{are_brought};
+ghost use Rattle.gx_core.specs.Kept.{is_past_the_end, reports_kept};
 
-use gx_history::policy::Policy;
-use gx_history::record::Record;
+use crate::keepers::Keepers;
 use gx_history::report::Report;
-use gx_plain::records::is_closed;
-use gx_plain::slices::slice;
-use gx_plain::streams::all_reports;
 use gx_units::{OutOfMemory, UserName};
-use std::alloc::Global;
 use std::marker::Model;
 
 /// Reports, the oldest first. Contracts see them as a list.
@@ -50,23 +43,15 @@ pub struct Pulled {
 }
 
 /// The user's reports from this number on, 0 counting as 1, and at most so many.
-pub fn pull(
-    alloc: Global,
-    policy: &Policy,
-    records: &[Record],
-    user: UserName,
-    from: u64,
-    most: u64,
-) -> Result<Pulled, OutOfMemory>
-    requires { IsTrue (are_brought records.now) }
-    ensures reports { IfOk result (λ p. p.reports ≡ slice (stream policy.now records.now user) from most) }
+pub fn pull(keepers: &Keepers, user: UserName, from: u64, most: u64) -> Result<Pulled, OutOfMemory>
+    ensures reports { IfOk result (λ p. p.reports ≡ slice (reports_kept keepers.now user) from most) }
     ensures next { IfOk result (λ p. p.next ≡ max 1 from + length p.reports) }
-    ensures ended { IfOk result (λ p. p.ended ≡ (is_closed records.now && nat_lt (length (stream policy.now records.now user)) p.next)) }
+    ensures ended { IfOk result (λ p. p.ended ≡ is_past_the_end keepers.now user p.next) }
 {
-    let all = all_reports(alloc, policy, records, user)?;
-    let items = slice(all.as_slice(), from, most).to_vec(alloc)?;
+    let owed = keepers.streams.len(user) as u64;
+    let items = keepers.streams.slice(user, from, most)?;
     let next = from.max(1) + items.len() as u64;
-    let ended = is_closed(records) && (all.len() as u64) < next;
+    let ended = keepers.day.is_closed() && owed < next;
     Ok(Pulled {
         reports: Reports { items },
         next,

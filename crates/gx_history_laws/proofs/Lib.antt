@@ -18,3 +18,4 @@ pub mod Ends
 pub mod Adding
 pub mod Tokens
 pub mod Listed
+pub mod PlainRules

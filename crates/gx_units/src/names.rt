@@ -34,7 +34,7 @@ impl<T: Drop> From<AllocFailed<T>> for OutOfMemory {
 }
 
 /// An order token: 14 bytes that a trader chooses, compared as bytes.
-#[derive(Clone, Copy, PartialEq, Eq)]
+#[derive(Clone, Copy, PartialEq, Eq, Hash)]
 pub struct Token {
     pub bytes: [u8; 14],
 }

@@ -1,4 +1,4 @@
-//! Payloads and reports whose bytes were given from outside, and lists that keep what is put in them.
+//! Payloads and reports whose bytes were given from outside, lists that keep what is put in them, and parts of lists.
 
 ghost use Rattle.std.specs.Prelude.{◌<◌};
 
@@ -10,6 +10,7 @@ use gx_history::policy::{
 };
 use gx_history::record::{Asked, Record, RecordData, Request, Step, Unreadable, Verdict};
 use gx_history::report::{Message, Report};
+use gx_history::slices::slice;
 use gx_ouch::{Accepted, EnterOrder, Executed, Liquidity, MESSAGE_ROOM, OrderTerms, Outbound};
 use gx_units::{AccountName, Firm, OutOfMemory, Password, RuleId, Symbol, Token, UserName};
 use std::alloc::Global;
@@ -147,18 +148,22 @@ fn numbers(records: &[Record]) -> Option<[u64; 2]> {
     }
 }
 
-/// Puts two records in a history: how many it has before and after, and their numbers.
-fn records_kept(alloc: Global) -> Result<([usize; 2], Option<[u64; 2]>), OutOfMemory> {
+/// Puts two records in a history, the second in a kept place: how many it has before, how many places are kept between
+/// the two, how many it has after, and their numbers.
+fn records_kept(alloc: Global) -> Result<([usize; 3], Option<[u64; 2]>), OutOfMemory> {
     let mut history = History::new(alloc);
     let before = history.len();
     history.push(logout(1))?;
-    history.push(logout(2))?;
-    Ok(([before, history.len()], numbers(history.as_slice())))
+    history.reserve(1)?;
+    let kept = history.spare();
+    history.push_reserved(logout(2));
+    let after = history.len();
+    Ok(([before, kept, after], numbers(history.as_slice())))
 }
 
 #[test]
 fn records_are_kept(rt: HostRuntime) -> Result<(), Fail> {
-    assert!(rt; records_kept(rt.alloc())? == ([0, 2], Some([1, 2])));
+    assert!(rt; records_kept(rt.alloc())? == ([0, 1, 2], Some([1, 2])));
     Ok(())
 }
 
@@ -256,4 +261,12 @@ fn scopes_cover_their_accounts(rt: HostRuntime) -> Result<(), Fail> {
     assert!(rt; copy_covers(rt.alloc(), Scope::All)? == [true, true]);
     assert!(rt; scope_of_alfa_covers(rt.alloc())? == [true, false]);
     Ok(())
+}
+
+#[test]
+fn slices_are_cut(rt: HostRuntime) {
+    let numbers = [1u8, 2, 3];
+    assert!(rt; matches!(slice(&numbers, 0, 2), [1, 2]));
+    assert!(rt; matches!(slice(&numbers, 3, 2), [3]));
+    assert!(rt; slice(&numbers, 5, 2).is_empty());
 }

@@ -1,5 +1,6 @@
 //! The laws, which are functions that do nothing: each can be called.
 
+use gx_day::laws::{a_day_begins, days_go_on};
 use gx_effects::laws::{
     books_are_in_price_time_order, books_are_never_crossed, denials_change_nothing,
     granted_cancels_take_effect, granted_enters_take_effect, granted_kills_take_effect,
@@ -12,6 +13,7 @@ use gx_history_laws::laws::{
     days_are_runs, orders_are_granted_requests, orders_end, requests_are_judged, states_go_on,
     streams_grow,
 };
+use gx_orders::laws::{orders_after_a_match, orders_after_a_request, requests_fit_the_orders};
 use gx_ouch::read_messages_have_no_gaps;
 use gx_people::laws::{
     commands_change_one_pair, entitlements_are_kept, people_after_one_more, powers_stay,
@@ -24,6 +26,10 @@ use gx_rows::rows::{
 };
 use gx_rules::{a_setting_changes_no_name, other_rules_stay, rules_after_one_more};
 use gx_soup::{held_back, nothing_after_fault, packets_grow, read_back};
+use gx_streams::laws::{
+    changes_are_shown, only_the_known_are_told, owed_is_told, places_are_taken,
+    reports_are_streams, streams_go_on, streams_stay_told,
+};
 
 /// The laws of packets, of messages and of policy files.
 fn call_laws_of_texts() {
@@ -85,10 +91,29 @@ fn call_laws_of_settings() {
     a_setting_changes_no_name();
 }
 
+/// The laws of what is kept while a day runs: lines, kills and the clock, live orders, and what users are told.
+fn call_laws_of_what_is_kept() {
+    a_day_begins();
+    days_go_on();
+    gx_day::laws::what_is_kept_answers();
+    orders_after_a_request();
+    requests_fit_the_orders();
+    orders_after_a_match();
+    gx_orders::laws::what_is_kept_answers();
+    streams_go_on();
+    changes_are_shown();
+    streams_stay_told();
+    owed_is_told();
+    places_are_taken();
+    only_the_known_are_told();
+    reports_are_streams();
+}
+
 #[test]
 fn laws_are_there() {
     call_laws_of_texts();
     call_laws_of_days();
     call_laws_of_effects();
     call_laws_of_settings();
+    call_laws_of_what_is_kept();
 }

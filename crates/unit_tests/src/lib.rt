@@ -12,12 +12,12 @@ mod ouch;
 #[cfg(test)]
 mod people;
 #[cfg(test)]
-mod plain;
-#[cfg(test)]
 mod rules;
 #[cfg(test)]
 mod script;
 #[cfg(test)]
 mod soup;
+#[cfg(test)]
+mod streams;
 #[cfg(test)]
 mod units;

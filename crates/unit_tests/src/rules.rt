@@ -3,7 +3,6 @@
 ghost use Rattle.std.specs.Prelude.{◌≡◌};
 ghost use Rattle.gx_history.specs.declared.policy.Scope.TheVariants as scopes;
 
-use crate::plain::empty_policy;
 use gx_desk::{Action, Command, Tag};
 use gx_history::facts::{Facts, Figures, ProposedOrder, RuleFigures};
 use gx_history::policy::{
@@ -124,6 +123,20 @@ fn entering_with(
 /// The rule that forbids an order first, where all figures are 0.
 fn first_without_figures(book: &RuleBook, order: EnterOrder) -> Option<RuleName> {
     book.first_forbidding_without_figures(&NOTHING_WRONG, &Request::Enter(order))
+}
+
+/// A policy that names nothing but its session.
+#[tactic(auto, unfolding(gx_history::specs::Soundness::is_sound))]
+fn empty_policy(alloc: Global) -> Policy {
+    Policy::new(PolicyData {
+        session: SessionName {
+            bytes: *b"GATE01    ",
+        },
+        accounts: Accounts::new(Vec::new(alloc)),
+        stocks: Stocks::new(Vec::new(alloc)),
+        users: Users::new(Vec::new(alloc)),
+        rules: FileRules::new(Vec::new(alloc)),
+    })
 }
 
 /// The book of a policy file without rules.

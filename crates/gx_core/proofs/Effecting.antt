@@ -1,0 +1,81 @@
+-- What the record that a request leaves changes.
+use Rattle.std.proofs.Common.{◌≡◌, true, false, List, [], ◌∷◌, ◌++◌, refl, ◌∙◌, ap, sym}
+use Rattle.std.specs.Prelude.{Some, drop}
+use Rattle.gx_desk.specs.declared.Action.{Action}
+use Rattle.gx_desk.specs.declared.Action.TheVariants as actions
+use Rattle.gx_desk.specs.declared.Command.{Command}
+use Rattle.gx_history.specs.declared.policy.PolicyData.{PolicyData}
+use Rattle.gx_history.specs.declared.record.Asked.{Asked}
+use Rattle.gx_history.specs.declared.record.RecordData.{RecordData}
+use Rattle.gx_history.specs.declared.record.Request.{Request}
+use Rattle.gx_history.specs.declared.record.Request.TheVariants as requests
+use Rattle.gx_history.specs.declared.record.RuleName.{RuleName}
+use Rattle.gx_history.specs.declared.record.RuleName.TheVariants.{L1, L2, L3, G1, G2, G3}
+use Rattle.gx_history.specs.declared.record.Step.TheVariants as steps
+use Rattle.gx_history.specs.declared.record.Verdict.{Verdict}
+use Rattle.gx_history.specs.declared.record.Verdict.TheVariants as verdicts
+use Rattle.gx_history.specs.Brought.{is_brought}
+use Rattle.gx_history.specs.Requests.{is_judged, is_unreadable}
+use Rattle.gx_history.specs.RuleNames.{rules_before}
+use Rattle.gx_history.specs.Rules.{forbids}
+use Rattle.gx_history.specs.Verdicts.{facts_now, next, IsLegal}
+use Rattle.gx_history_laws.proofs.Granting.{asked_is_judged, granted_passes_before}
+use Rattle.gx_history_laws.proofs.Order.{none_among}
+use Rattle.gx_effects.proofs.Effects.{is_told}
+use Rattle.gx_effects.proofs.Killing.{kill_takes_effect}
+use Rattle.gx_effects.proofs.Lifting.{lift_takes_effect}
+use Rattle.gx_effects.proofs.Lines.{login_takes_effect, logout_takes_effect}
+use Rattle.gx_effects.proofs.Taking.{takes_effect}
+use Rattle.gx_core.specs.Steps.{CommandEffect, GrantEffect, VerdictEffect}
+
+-- what is unreadable is denied
+pub unreadable_is_denied : (policy : PolicyData) (history : List RecordData) (a : Asked) (r : RecordData)
+    → next policy history (steps.Asked a) ≡ Some r → r.verdict ≡ verdicts.Granted → is_unreadable a.request ≡ false
+unfolding rules_before
+unreadable_is_denied policy history a r left granted =
+    none_among (λ (name : RuleName). forbids name (facts_now policy history a) a.request)
+    (L1 ∷ L2 ∷ L3 ∷ G1 ∷ G2 ∷ []) G3 (drop 6 rules_before)
+    (granted_passes_before policy history a r left granted)
+
+by_command : (policy : PolicyData) (history : List RecordData) (a : Asked) (r : RecordData) (c : Command)
+    → IsLegal policy history → next policy history (steps.Asked a) ≡ Some r → a.request ≡ requests.Command c → r.verdict ≡ verdicts.Granted
+    → is_brought a.request ≡ true → (action : Action) → c.action ≡ action
+    → CommandEffect policy history (history ++ r ∷ []) r a.user c action
+by_command policy history a r c legal left asks granted brought (actions.Kill account) is =
+    kill_takes_effect policy history a r c account legal left asks is granted
+by_command policy history a r c legal left asks granted brought (actions.Lift account) is =
+    lift_takes_effect policy history a r c account legal left asks is granted
+by_command policy history a r c legal left asks granted brought (actions.SetLimit rule limit) is = let off : is_brought (requests.Command c) ≡ true = sym (ap is_brought asks) ∙ brought in cc
+by_command policy history a r c legal left asks granted brought (actions.Restrict rule stock) is = let off : is_brought (requests.Command c) ≡ true = sym (ap is_brought asks) ∙ brought in cc
+by_command policy history a r c legal left asks granted brought (actions.Unrestrict rule stock) is = let off : is_brought (requests.Command c) ≡ true = sym (ap is_brought asks) ∙ brought in cc
+by_command policy history a r c legal left asks granted brought (actions.Grant reader account) is = let off : is_brought (requests.Command c) ≡ true = sym (ap is_brought asks) ∙ brought in cc
+by_command policy history a r c legal left asks granted brought (actions.Revoke reader account) is = let off : is_brought (requests.Command c) ≡ true = sym (ap is_brought asks) ∙ brought in cc
+by_command policy history a r c legal left asks granted brought actions.CloseDay is = let off : is_brought (requests.Command c) ≡ true = sym (ap is_brought asks) ∙ brought in cc
+
+by_grant : (policy : PolicyData) (history : List RecordData) (a : Asked) (r : RecordData)
+    → IsLegal policy history → next policy history (steps.Asked a) ≡ Some r → r.verdict ≡ verdicts.Granted
+    → is_brought a.request ≡ true → (q : Request) → a.request ≡ q
+    → GrantEffect policy history (history ++ r ∷ []) r a q
+by_grant policy history a r legal left granted brought (requests.Login m) asks = login_takes_effect policy history a r m left asks granted
+by_grant policy history a r legal left granted brought requests.Logout asks = logout_takes_effect policy history a r left asks granted
+by_grant policy history a r legal left granted brought (requests.Unreadable m) asks =
+    let denied : true ≡ false = sym (ap is_unreadable asks) ∙ unreadable_is_denied policy history a r left granted in cc
+by_grant policy history a r legal left granted brought (requests.Enter m) asks = takes_effect policy history a r m legal left asks granted
+by_grant policy history a r legal left granted brought (requests.Replace m) asks = let off : false ≡ true = sym (ap is_brought asks) ∙ brought in cc
+by_grant policy history a r legal left granted brought (requests.Cancel m) asks = let off : false ≡ true = sym (ap is_brought asks) ∙ brought in cc
+by_grant policy history a r legal left granted brought (requests.Command c) asks = by_command policy history a r c legal left asks granted brought c.action refl
+
+by_verdict : (policy : PolicyData) (history : List RecordData) (a : Asked) (r : RecordData)
+    → IsLegal policy history → next policy history (steps.Asked a) ≡ Some r → is_brought a.request ≡ true
+    → (given : Verdict) → r.verdict ≡ given → VerdictEffect policy history (history ++ r ∷ []) r a given
+by_verdict policy history a r legal left brought verdicts.Granted is = by_grant policy history a r legal left is brought a.request refl
+by_verdict policy history a r legal left brought (verdicts.Denied rule) is = is_told policy history a r rule left is
+by_verdict policy history a r legal left brought (verdicts.Filled f) is = let judged : false ≡ true = sym (ap is_judged is) ∙ asked_is_judged policy history a r left in cc
+by_verdict policy history a r legal left brought (verdicts.Rested number) is = let judged : false ≡ true = sym (ap is_judged is) ∙ asked_is_judged policy history a r left in cc
+by_verdict policy history a r legal left brought (verdicts.Expired number) is = let judged : false ≡ true = sym (ap is_judged is) ∙ asked_is_judged policy history a r left in cc
+
+-- what the record changes, by its verdict
+pub effect_of : (policy : PolicyData) (history : List RecordData) (a : Asked) (r : RecordData)
+    → IsLegal policy history → next policy history (steps.Asked a) ≡ Some r → is_brought a.request ≡ true
+    → VerdictEffect policy history (history ++ r ∷ []) r a r.verdict
+effect_of policy history a r legal left brought = by_verdict policy history a r legal left brought r.verdict refl

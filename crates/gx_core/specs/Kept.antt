@@ -1,0 +1,27 @@
+-- What is always so of a gate and of what it keeps.
+use Rattle.std.specs.Prelude.{ℕ, ◌≤◌, Bool, ◌&&◌, nat_lt, List, length, IsTrue}
+use Rattle.gx_units.specs.declared.names.UserName.{UserName}
+use Rattle.gx_history.specs.declared.policy.PolicyData.{PolicyData}
+use Rattle.gx_history.specs.declared.record.RecordData.{RecordData}
+use Rattle.gx_history.specs.declared.report.Report.{Report}
+use Rattle.gx_history.specs.Plain.{rules_need_no_figures}
+use Rattle.gx_history.specs.Verdicts.{IsLegal, day_limit}
+use Rattle.gx_streams.specs.Streams.{reports_in}
+use Rattle.gx_core.specs.declared.keepers.Keepers.{Keepers}
+use Rattle.gx_core.specs.Keepers.{AreInForce}
+
+-- the records are those of a legal day within its limit, under rules that need no figures, and the keepers hold what is in
+-- force after them
+pub record IsKept (policy : PolicyData) (records : List RecordData) (k : Keepers) : Type 0 where
+  pub legal : IsLegal policy records
+  pub within : length records ≤ day_limit
+  pub plain : IsTrue (rules_need_no_figures policy)
+  pub in_force : AreInForce policy records k
+
+-- the reports of the user
+abbrev pub reports_kept : Keepers → UserName → List Report
+reports_kept k user = reports_in k.streams user
+
+-- the day is closed, and no report of the user has this number
+abbrev pub is_past_the_end : Keepers → UserName → ℕ → Bool
+is_past_the_end k user number = k.day.closed && nat_lt (length (reports_in k.streams user)) number

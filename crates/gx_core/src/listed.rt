@@ -1,0 +1,72 @@
+//! What the policy says of accounts and stocks.
+
+ghost use Rattle.std.specs.Prelude.{◌≡◌, find, is_some};
+ghost use Rattle.gx_units.specs.Names.{same_account, same_stock};
+ghost use Rattle.gx_history.specs.Asking.{fits_firm, lists_its_stock};
+ghost use Rattle.gx_history.specs.Orders.{firm_of};
+ghost use Rattle.gx_history.specs.People.{account_named, stock_named};
+
+use gx_history::policy::{Account, Policy, Stock};
+use gx_history::record::Request;
+use gx_units::{AccountName, Firm, Symbol};
+
+const BLANK_FIRM: Firm = Firm { bytes: *b"    " };
+
+fn find_account(accounts: &[Account], name: AccountName) -> Option<Account>
+    ensures { result ≡ find (λ a. same_account a.name name) accounts.now }
+{
+    accounts.iter().copied().find(|a| a.name == name)
+}
+
+fn find_stock(stocks: &[Stock], name: Symbol) -> Option<Stock>
+    ensures { result ≡ find (λ s. same_stock s.name name) stocks.now }
+{
+    stocks.iter().copied().find(|s| s.name == name)
+}
+
+/// The account of this name.
+pub fn account_named(policy: &Policy, name: AccountName) -> Option<Account>
+    ensures { result ≡ account_named policy.now name }
+{
+    find_account(policy.accounts(), name)
+}
+
+/// The stock of this name.
+pub fn stock_named(policy: &Policy, name: Symbol) -> Option<Stock>
+    ensures { result ≡ stock_named policy.now name }
+{
+    find_stock(policy.stocks(), name)
+}
+
+/// The account's firm, or the one asked for where the policy has no such account.
+pub fn firm_of(policy: &Policy, account: AccountName, asked_for: Firm) -> Firm
+    ensures { result ≡ firm_of policy.now account asked_for }
+{
+    match account_named(policy, account) {
+        Some(found) => found.firm,
+        None => asked_for,
+    }
+}
+
+/// Whether an Enter's firm is blank, or that of the account that it is for; true for any other request.
+pub fn fits_firm(policy: &Policy, account: Option<AccountName>, request: &Request) -> bool
+    ensures { result ≡ fits_firm policy.now account request.now }
+{
+    match (request, account) {
+        (Request::Enter(m), Some(name)) => {
+            m.firm == BLANK_FIRM || m.firm == firm_of(policy, name, m.firm)
+        }
+        (Request::Enter(m), None) => m.firm == BLANK_FIRM,
+        _ => true,
+    }
+}
+
+/// Whether an Enter's stock is listed; true for any other request.
+pub fn lists_its_stock(policy: &Policy, request: &Request) -> bool
+    ensures { result ≡ lists_its_stock policy.now request.now }
+{
+    match request {
+        Request::Enter(m) => stock_named(policy, m.stock).is_some(),
+        _ => true,
+    }
+}

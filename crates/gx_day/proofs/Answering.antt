@@ -1,0 +1,246 @@
+-- What is kept answers as the records of a legal day do.
+use Rattle.std.proofs.Common.{◌≡◌, Bool, true, false, List, [], ◌∷◌, ◌++◌, map, refl, ◌∙◌, sym, ap, cond, ℕ}
+use Rattle.std.proofs.lemmas.Bool.{not-false}
+use Rattle.std.specs.Option.{option_map_or}
+use Rattle.std.specs.Prelude.{Option, Some, None, option_and_then, unwrap_or, is_some, find, drop}
+use Rattle.gx_units.specs.Names.{same_account, same_user}
+use Rattle.gx_units.specs.declared.names.AccountName.{AccountName}
+use Rattle.gx_units.specs.declared.names.UserName.{UserName}
+use Rattle.gx_desk.specs.declared.Action.{Action}
+use Rattle.gx_desk.specs.declared.Action.TheVariants as actions
+use Rattle.gx_desk.specs.declared.Command.{Command}
+use Rattle.gx_history.specs.declared.policy.Account.{Account}
+use Rattle.gx_history.specs.declared.policy.PolicyData.{PolicyData}
+use Rattle.gx_history.specs.declared.policy.User.{User}
+use Rattle.gx_history.specs.declared.record.Asked.{Asked}
+use Rattle.gx_history.specs.declared.record.Login.{Login}
+use Rattle.gx_history.specs.declared.record.RecordData.{RecordData}
+use Rattle.gx_history.specs.declared.record.Request.{Request}
+use Rattle.gx_history.specs.declared.record.Request.TheVariants as requests
+use Rattle.gx_history.specs.declared.record.RuleName.{RuleName}
+use Rattle.gx_history.specs.declared.record.RuleName.TheVariants.{L1, Q1}
+use Rattle.gx_history.specs.declared.record.Step.{Step}
+use Rattle.gx_history.specs.declared.record.Step.TheVariants as steps
+use Rattle.gx_history.specs.declared.record.Verdict.{Verdict}
+use Rattle.gx_history.specs.declared.record.Verdict.TheVariants as verdicts
+use Rattle.gx_history.specs.Asking.{facts, knows_names, knows_user, of_command}
+use Rattle.gx_history.specs.InForce.{is_closed, is_killed, kill_or_lift_of, line_by, line_of}
+use Rattle.gx_history.specs.Lists.{where_true}
+use Rattle.gx_history.specs.People.{account_named, user_in}
+use Rattle.gx_history.specs.Requests.{action_of, asked, granted, is_granted}
+use Rattle.gx_history.specs.RuleNames.{rules_before, rules_behind}
+use Rattle.gx_history.specs.Rules.{forbids}
+use Rattle.gx_history.specs.Verdicts.{Follows, IsLegal, facts_now, last_moment, next, rules_now}
+use Rattle.gx_history_laws.proofs.Granting.{granted_passes, granted_passes_before, legal_keeps, none_behind}
+use Rattle.gx_history_laws.proofs.NextInForce.{is_killed_next, is_killed_none, line_of_next, line_of_none}
+use Rattle.gx_history_laws.proofs.Order.{none_among, some_same}
+use Rattle.gx_day.specs.DayData.{AccountKill, DayData, UserLine, killed_in, line_in}
+use Rattle.gx_day.specs.InForce.{day_in_force, kill_now, line_now}
+use Rattle.gx_day.proofs.Table.{account_is, both, user_is}
+
+-- a granted record was asked for
+was_granted : (v : Verdict) (s : Step) (a : Asked) → cond (is_granted v) (asked s) None ≡ Some a → (s ≡ steps.Asked a) × (v ≡ verdicts.Granted)
+was_granted verdicts.Granted (steps.Asked b) a h = (ap (λ (x : Asked). steps.Asked x) (some_same h), refl)
+was_granted verdicts.Granted (steps.Matching handed) a h = cc
+was_granted (verdicts.Denied rule) s a h = cc
+was_granted (verdicts.Filled f) s a h = cc
+was_granted (verdicts.Rested n) s a h = cc
+was_granted (verdicts.Expired n) s a h = cc
+
+may_log_in_is : (policy : PolicyData) (history : List RecordData) (a : Asked) → (facts_now policy history a).may_log_in ≡ knows_user policy a.user a.request
+unfolding facts
+may_log_in_is policy history a = refl
+
+names_are_known_is : (policy : PolicyData) (history : List RecordData) (a : Asked) → (facts_now policy history a).names_are_known ≡ of_command (knows_names policy history) a.request
+unfolding facts
+names_are_known_is policy history a = refl
+
+login_is_no_bar : (policy : PolicyData) (history : List RecordData) (a : Asked) (r : RecordData)
+    → next policy history (steps.Asked a) ≡ Some r → r.verdict ≡ verdicts.Granted → forbids L1 (facts_now policy history a) a.request ≡ false
+unfolding rules_before
+login_is_no_bar policy history a r e granted =
+    none_among (λ (name : RuleName). forbids name (facts_now policy history a) a.request) [] L1 (drop 1 rules_before) (granted_passes_before policy history a r e granted)
+
+names_are_no_bar : (policy : PolicyData) (history : List RecordData) (a : Asked) (r : RecordData)
+    → next policy history (steps.Asked a) ≡ Some r → r.verdict ≡ verdicts.Granted → forbids Q1 (facts_now policy history a) a.request ≡ false
+unfolding rules_behind
+names_are_no_bar policy history a r e granted =
+    none_among (λ (name : RuleName). forbids name (facts_now policy history a) a.request) [] Q1 (drop 1 rules_behind)
+    (none_behind (rules_now policy history a) (facts_now policy history a) a.request (granted_passes policy history a r e granted))
+
+-- who is granted a Login is known
+login_is_known : (policy : PolicyData) (history : List RecordData) (a : Asked) (r : RecordData) (m : Login)
+    → next policy history (steps.Asked a) ≡ Some r → r.verdict ≡ verdicts.Granted → a.request ≡ requests.Login m → is_some (user_in policy.users a.user) ≡ true
+login_is_known policy history a r m e granted asks =
+    (both m.password_is_right (is_some (user_in policy.users a.user))
+    (sym (ap (knows_user policy a.user) asks)
+    ∙ sym (may_log_in_is policy history a)
+    ∙ not-false (facts_now policy history a).may_log_in (sym (ap (forbids L1 (facts_now policy history a)) asks) ∙ login_is_no_bar policy history a r e granted))).1
+
+-- the names of a granted command are known
+pub command_is_known : (policy : PolicyData) (history : List RecordData) (a : Asked) (r : RecordData) (c : Command)
+    → next policy history (steps.Asked a) ≡ Some r → r.verdict ≡ verdicts.Granted → a.request ≡ requests.Command c → knows_names policy history c.action ≡ true
+command_is_known policy history a r c e granted asks =
+    sym (ap (of_command (knows_names policy history)) asks)
+    ∙ sym (names_are_known_is policy history a)
+    ∙ not-false (facts_now policy history a).names_are_known (sym (ap (forbids Q1 (facts_now policy history a)) asks) ∙ names_are_no_bar policy history a r e granted)
+
+-- a user who is not known is on no line
+abbrev OnNoLine : PolicyData → List RecordData → Type 0
+OnNoLine policy history = (user : UserName) → is_some (user_in policy.users user) ≡ false → line_of history user ≡ None
+
+off_line_next : (policy : PolicyData) (history : List RecordData) (r : RecordData) → OnNoLine policy history → Follows policy (history, r) → OnNoLine policy (history ++ r ∷ [])
+off_line_next policy history r before follows user unknown = line_of_next history r user ∙ by_grant (granted r) refl
+  where
+    was_off : line_of history user ≡ None
+    was_off = before user unknown
+
+    by_login : (a : Asked) → is_some (user_in policy.users a.user) ≡ true → (b : Bool) → same_user a.user user ≡ b → unwrap_or (where_true b (Some a.line)) (line_of history user) ≡ None
+    by_login a known true is =
+        let clash : true ≡ false = sym known ∙ ap (λ (name : UserName). is_some (user_in policy.users name)) (user_is a.user user is) ∙ unknown in
+        cc
+    by_login a known false is = was_off
+
+    by_logout : (b : Bool) → let off : Option ℕ = None in unwrap_or (where_true b off) (line_of history user) ≡ off
+    by_logout true = refl
+    by_logout false = was_off
+
+    by_request : (a : Asked) → next policy history (steps.Asked a) ≡ Some r → r.verdict ≡ verdicts.Granted → (q : Request) → a.request ≡ q
+        → unwrap_or (line_by user a q) (line_of history user) ≡ None
+    by_request a left v (requests.Login m) asks = by_login a (login_is_known policy history a r m left v asks) (same_user a.user user) refl
+    by_request a left v requests.Logout asks = by_logout (same_user a.user user)
+    by_request a left v (requests.Unreadable m) asks = was_off
+    by_request a left v (requests.Enter m) asks = was_off
+    by_request a left v (requests.Replace m) asks = was_off
+    by_request a left v (requests.Cancel m) asks = was_off
+    by_request a left v (requests.Command c) asks = was_off
+
+    by_grant : (found : Option Asked) → granted r ≡ found → unwrap_or (option_and_then (λ (a : Asked). line_by user a a.request) (granted r)) (line_of history user) ≡ None
+    by_grant None g = ap (λ (x : Option Asked). unwrap_or (option_and_then (λ (a : Asked). line_by user a a.request) x) (line_of history user)) g ∙ was_off
+    by_grant (Some a) g =
+        let was : (r.step ≡ steps.Asked a) × (r.verdict ≡ verdicts.Granted) = was_granted r.verdict r.step a g in
+        ap (λ (x : Option Asked). unwrap_or (option_and_then (λ (y : Asked). line_by user y y.request) x) (line_of history user)) g
+        ∙ by_request a (sym (ap (next policy history) was.0) ∙ follows.is_next) was.1 a.request refl
+
+unknown_on_no_line : (policy : PolicyData) (history : List RecordData) → IsLegal policy history → OnNoLine policy history
+unknown_on_no_line policy history legal = legal_keeps policy (OnNoLine policy) (λ user unknown. line_of_none user) (off_line_next policy) history legal
+
+-- an account that is not known is not killed
+abbrev Unkilled : PolicyData → List RecordData → Type 0
+Unkilled policy history = (account : AccountName) → is_some (account_named policy account) ≡ false → is_killed policy history account ≡ false
+
+unkilled_next : (policy : PolicyData) (history : List RecordData) (r : RecordData) → Unkilled policy history → Follows policy (history, r) → Unkilled policy (history ++ r ∷ [])
+unkilled_next policy history r before follows account unknown = is_killed_next policy history r account ∙ by_grant (granted r) refl
+  where
+    was_not : is_killed policy history account ≡ false
+    was_not = before account unknown
+
+    by_kill : (named : AccountName) → is_some (account_named policy named) ≡ true → (b : Bool) → same_account named account ≡ b → unwrap_or (where_true b true) (is_killed policy history account) ≡ false
+    by_kill named known true is =
+        let clash : true ≡ false = sym known ∙ ap (λ (name : AccountName). is_some (account_named policy name)) (account_is named account is) ∙ unknown in
+        cc
+    by_kill named known false is = was_not
+
+    by_lift : (b : Bool) → unwrap_or (where_true b false) (is_killed policy history account) ≡ false
+    by_lift true = refl
+    by_lift false = was_not
+
+    by_action : (officer : UserName) (action : Action) → knows_names policy history action ≡ true → unwrap_or (kill_or_lift_of account officer action) (is_killed policy history account) ≡ false
+    by_action officer (actions.Kill named) known = by_kill named known (same_account named account) refl
+    by_action officer (actions.Lift named) known = by_lift (same_account named account)
+    by_action officer (actions.SetLimit rule limit) known = was_not
+    by_action officer (actions.Restrict rule stock) known = was_not
+    by_action officer (actions.Unrestrict rule stock) known = was_not
+    by_action officer (actions.Grant reader other) known = was_not
+    by_action officer (actions.Revoke reader other) known = was_not
+    by_action officer actions.CloseDay known = was_not
+
+    by_request : (a : Asked) → next policy history (steps.Asked a) ≡ Some r → r.verdict ≡ verdicts.Granted → (q : Request) → a.request ≡ q
+        → unwrap_or (option_and_then (kill_or_lift_of account a.user) (action_of q)) (is_killed policy history account) ≡ false
+    by_request a left v (requests.Login m) asks = was_not
+    by_request a left v requests.Logout asks = was_not
+    by_request a left v (requests.Unreadable m) asks = was_not
+    by_request a left v (requests.Enter m) asks = was_not
+    by_request a left v (requests.Replace m) asks = was_not
+    by_request a left v (requests.Cancel m) asks = was_not
+    by_request a left v (requests.Command c) asks = by_action a.user c.action (command_is_known policy history a r c left v asks)
+
+    by_grant : (found : Option Asked) → granted r ≡ found
+        → unwrap_or (option_and_then (λ (a : Asked). option_and_then (kill_or_lift_of account a.user) (action_of a.request)) (granted r)) (is_killed policy history account) ≡ false
+    by_grant None g =
+        ap (λ (x : Option Asked). unwrap_or (option_and_then (λ (a : Asked). option_and_then (kill_or_lift_of account a.user) (action_of a.request)) x) (is_killed policy history account)) g ∙ was_not
+    by_grant (Some a) g =
+        let was : (r.step ≡ steps.Asked a) × (r.verdict ≡ verdicts.Granted) = was_granted r.verdict r.step a g in
+        ap (λ (x : Option Asked). unwrap_or (option_and_then (λ (y : Asked). option_and_then (kill_or_lift_of account y.user) (action_of y.request)) x) (is_killed policy history account)) g
+        ∙ by_request a (sym (ap (next policy history) was.0) ∙ follows.is_next) was.1 a.request refl
+
+unknown_is_unkilled : (policy : PolicyData) (history : List RecordData) → IsLegal policy history → Unkilled policy history
+unknown_is_unkilled policy history legal = legal_keeps policy (Unkilled policy) (λ account unknown. is_killed_none policy account) (unkilled_next policy) history legal
+
+-- what the list says of a user, the records say of him
+line_listed : (history : List RecordData) (user : UserName) (users : List User)
+    → option_and_then (λ (u : UserLine). u.line) (find (λ (u : UserLine). same_user u.user user) (map (line_now history) users))
+    ≡ cond (is_some (user_in users user)) (line_of history user) None
+line_listed history user [] = refl
+line_listed history user (u ∷ users) = by (same_user u.name user) refl (line_listed history user users)
+  where
+    by : (b : Bool) → same_user u.name user ≡ b → option_and_then (λ (v : UserLine). v.line) (find (λ (v : UserLine). same_user v.user user) (map (line_now history) users)) ≡ cond (is_some (user_in users user)) (line_of history user) None
+        → option_and_then (λ (v : UserLine). v.line) (cond b (Some (line_now history u)) (find (λ (v : UserLine). same_user v.user user) (map (line_now history) users)))
+        ≡ cond (is_some (cond b (Some u) (user_in users user))) (line_of history user) None
+    by true is deeper = ap (line_of history) (user_is u.name user is)
+    by false is deeper = deeper
+
+-- what the list says of an account, the records say of it
+kill_listed : (policy : PolicyData) (history : List RecordData) (account : AccountName) (accounts : List Account)
+    → option_map_or (λ (k : AccountKill). k.killed) (find (λ (k : AccountKill). same_account k.account account) (map (kill_now policy history) accounts)) false
+    ≡ cond (is_some (find (λ (a : Account). same_account a.name account) accounts)) (is_killed policy history account) false
+kill_listed policy history account [] = refl
+kill_listed policy history account (a ∷ accounts) = by (same_account a.name account) refl (kill_listed policy history account accounts)
+  where
+    by : (b : Bool) → same_account a.name account ≡ b
+        → option_map_or (λ (k : AccountKill). k.killed) (find (λ (k : AccountKill). same_account k.account account) (map (kill_now policy history) accounts)) false
+        ≡ cond (is_some (find (λ (x : Account). same_account x.name account) accounts)) (is_killed policy history account) false
+        → option_map_or (λ (k : AccountKill). k.killed) (cond b (Some (kill_now policy history a)) (find (λ (k : AccountKill). same_account k.account account) (map (kill_now policy history) accounts))) false
+        ≡ cond (is_some (cond b (Some a) (find (λ (x : Account). same_account x.name account) accounts))) (is_killed policy history account) false
+    by true is deeper = ap (is_killed policy history) (account_is a.name account is)
+    by false is deeper = deeper
+
+either_way : {X : Type 0} (b : Bool) (x y : X) → (b ≡ false → x ≡ y) → cond b x y ≡ x
+either_way true x y h = refl
+either_way false x y h = sym (h refl)
+
+pub lines_are_kept : (policy : PolicyData) (history : List RecordData) (user : UserName) → IsLegal policy history → line_in (day_in_force policy history) user ≡ line_of history user
+unfolding day_in_force
+lines_are_kept policy history user legal =
+    line_listed history user policy.users
+    ∙ either_way (is_some (user_in policy.users user)) (line_of history user) None (unknown_on_no_line policy history legal user)
+
+pub kills_are_kept : (policy : PolicyData) (history : List RecordData) (account : AccountName)
+    → IsLegal policy history → killed_in (day_in_force policy history) account ≡ is_killed policy history account
+unfolding day_in_force
+kills_are_kept policy history account legal =
+    kill_listed policy history account policy.accounts
+    ∙ either_way (is_some (account_named policy account)) (is_killed policy history account) false (unknown_is_unkilled policy history legal account)
+
+pub ends_are_kept : (policy : PolicyData) (history : List RecordData) → (day_in_force policy history).closed ≡ is_closed history
+unfolding day_in_force
+ends_are_kept policy history = refl
+
+pub moments_are_kept : (policy : PolicyData) (history : List RecordData) → (day_in_force policy history).moment ≡ last_moment history
+unfolding day_in_force
+moments_are_kept policy history = refl
+
+-- the same of a day that is the one in force
+pub line_answers : (policy : PolicyData) (history : List RecordData) (day : DayData) (user : UserName) → day ≡ day_in_force policy history → IsLegal policy history
+    → line_in day user ≡ line_of history user
+line_answers policy history day user is legal = ap (λ (d : DayData). line_in d user) is ∙ lines_are_kept policy history user legal
+
+pub kill_answers : (policy : PolicyData) (history : List RecordData) (day : DayData) (account : AccountName) → day ≡ day_in_force policy history → IsLegal policy history
+    → killed_in day account ≡ is_killed policy history account
+kill_answers policy history day account is legal = ap (λ (d : DayData). killed_in d account) is ∙ kills_are_kept policy history account legal
+
+pub end_answers : (policy : PolicyData) (history : List RecordData) (day : DayData) → day ≡ day_in_force policy history → day.closed ≡ is_closed history
+end_answers policy history day is = ap (λ (d : DayData). d.closed) is ∙ ends_are_kept policy history
+
+pub moment_answers : (policy : PolicyData) (history : List RecordData) (day : DayData) → day ≡ day_in_force policy history → day.moment ≡ last_moment history
+moment_answers policy history day is = ap (λ (d : DayData). d.moment) is ∙ moments_are_kept policy history

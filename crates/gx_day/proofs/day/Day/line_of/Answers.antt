@@ -1,0 +1,18 @@
+use Rattle.std.proofs.Common.{◌∙◌, ap, sym, ℕ}
+use Rattle.std.specs.Prelude.{Option, option_and_then}
+use Rattle.gx_day.specs.DayData.{line_in}
+use Rattle.gx_day.proofs.Table.{line_found}
+use Rattle.gx_day.proofs.day.Day.line_of.Goals as goal
+
+pub returns-in_err-get : goal.returns-in_err-get
+returns-in_err-get c =
+    c.from_residual.ensures
+    ∙ ap (option_and_then (λ (line : Option ℕ). line)) c.in_err-get.ensures.value
+    ∙ sym (line_found c.self.inside.lines.entries c.args.user)
+    ∙ ap (λ day. line_in day c.args.user) c.self.view_is
+
+pub returns : goal.returns
+returns c =
+    ap (option_and_then (λ (line : Option ℕ). line)) c.in_ok-get.ensures.value
+    ∙ sym (line_found c.self.inside.lines.entries c.args.user)
+    ∙ ap (λ day. line_in day c.args.user) c.self.view_is

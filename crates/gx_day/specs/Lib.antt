@@ -1,0 +1,4 @@
+pub mod DayData
+pub mod InForce
+pub mod View
+pub mod Laws

@@ -1,0 +1,12 @@
+pub mod Places
+pub mod Kept
+pub mod Answering
+pub mod Tying
+pub mod Calls
+pub mod Keeping
+pub mod Staying
+pub mod Tokens
+pub mod Granted
+pub mod Cutting
+pub mod Matching
+pub mod Telling

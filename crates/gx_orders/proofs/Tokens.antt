@@ -1,0 +1,118 @@
+-- A token that is granted or used up was not used before.
+use Rattle.std.proofs.Common.{◌≡◌, ◌+◌, Bool, true, false, cond, List, [], ◌∷◌, ◌++◌, map, length, refl, ◌∙◌, sym, ap, subst, if◌then◌else◌}
+use Rattle.std.specs.Prelude.{Option, Some, None, ◌&&◌, option_map, drop}
+use Rattle.std.specs.Option.{option_map_or}
+use Rattle.std.specs.List.{find, AllByRecursion}
+use Rattle.gx_units.specs.declared.names.Token.{Token}
+use Rattle.gx_history.specs.declared.facts.Facts.{Facts}
+use Rattle.gx_history.specs.declared.facts.RuleFigures.{RuleFigures}
+use Rattle.gx_history.specs.declared.policy.FileRule.{FileRule}
+use Rattle.gx_history.specs.declared.policy.PolicyData.{PolicyData}
+use Rattle.gx_history.specs.declared.record.Asked.{Asked}
+use Rattle.gx_history.specs.declared.record.RecordData.{RecordData}
+use Rattle.gx_history.specs.declared.record.Request.{Request}
+use Rattle.gx_history.specs.declared.record.Request.TheVariants as requests
+use Rattle.gx_history.specs.declared.record.RuleName.{RuleName}
+use Rattle.gx_history.specs.declared.record.RuleName.TheVariants.{L1, L2, L3, G1, G2, G3, I1}
+use Rattle.gx_history.specs.declared.record.Step.TheVariants as steps
+use Rattle.gx_history.specs.declared.record.Verdict.TheVariants as verdicts
+use Rattle.gx_history.specs.Asking.{facts}
+use Rattle.gx_history.specs.Orders.{is_token_used}
+use Rattle.gx_history.specs.Requests.{is_order, new_token}
+use Rattle.gx_history.specs.RuleNames.{is_answered_rule, rules_before, rules_behind}
+use Rattle.gx_history.specs.Rules.{Rule, BuiltIn, OfFile, applies, first_forbidding, forbids, name_of, written_order}
+use Rattle.gx_history.specs.Verdicts.{facts_now, moment_of, next, rules_now, verdict, verdict_by}
+use Rattle.gx_history_laws.proofs.Granting.{granted_passes_before, left_by_request, verdict_left}
+use Rattle.gx_history_laws.proofs.Order.{none_among, some_same}
+use Rattle.gx_orders.specs.LiveOrders.{is_used}
+use Rattle.gx_orders.specs.InForce.{orders_in_force}
+use Rattle.gx_orders.specs.Laws.{DeniedTokensAreNew}
+use Rattle.gx_orders.proofs.Keeping.{used_is}
+
+-- the record that the request leaves
+abbrev pub left_now : PolicyData → List RecordData → Asked → RecordData
+left_now policy history a =
+    record { number = length history + 1; moment = moment_of history (steps.Asked a); step = steps.Asked a; verdict = verdict policy history a }
+
+pub is_left : (policy : PolicyData) (history : List RecordData) (a : Asked) → next policy history (steps.Asked a) ≡ Some (left_now policy history a)
+is_left policy history a = left_by_request policy history a
+
+orders_have_tokens : (q : Request) (token : Token) → new_token q ≡ Some token → is_order q ≡ true
+orders_have_tokens (requests.Login m) token h = cc
+orders_have_tokens requests.Logout token h = cc
+orders_have_tokens (requests.Unreadable m) token h = cc
+orders_have_tokens (requests.Enter m) token h = refl
+orders_have_tokens (requests.Replace m) token h = refl
+orders_have_tokens (requests.Cancel m) token h = cc
+orders_have_tokens (requests.Command c) token h = cc
+
+-- what the rule on used tokens says
+token_fact : (policy : PolicyData) (history : List RecordData) (a : Asked) (token : Token) → new_token a.request ≡ Some token
+    → forbids I1 (facts_now policy history a) a.request ≡ is_token_used history a.user token
+unfolding facts
+token_fact policy history a token under =
+    ap (λ (b : Bool). b && option_map_or (is_token_used history a.user) (new_token a.request) false) (orders_have_tokens a.request token under)
+    ∙ ap (λ (t : Option Token). option_map_or (is_token_used history a.user) t false) under
+
+token_is_no_bar : (policy : PolicyData) (history : List RecordData) (a : Asked) (r : RecordData)
+    → next policy history (steps.Asked a) ≡ Some r → r.verdict ≡ verdicts.Granted → forbids I1 (facts_now policy history a) a.request ≡ false
+unfolding rules_before
+token_is_no_bar policy history a r e grants =
+    none_among (λ (name : RuleName). forbids name (facts_now policy history a) a.request) (L1 ∷ L2 ∷ L3 ∷ G1 ∷ G2 ∷ G3 ∷ []) I1 (drop 7 rules_before) (granted_passes_before policy history a r e grants)
+
+-- the token of a granted request
+pub granted_is_new : (policy : PolicyData) (history : List RecordData) (a : Asked) (token : Token) → verdict policy history a ≡ verdicts.Granted → new_token a.request ≡ Some token
+    → is_used (orders_in_force policy history).used a.user token ≡ false
+granted_is_new policy history a token grants under =
+    used_is policy history a.user token
+    ∙ sym (token_fact policy history a token under)
+    ∙ token_is_no_bar policy history a (left_now policy history a) (is_left policy history a) grants
+
+found_that : (found : Option RuleName) (name : RuleName) → verdict_by found ≡ verdicts.Denied name → found ≡ Some name
+found_that None name h = cc
+found_that (Some rule) name h = cc
+
+-- the first that passes is among the first ones, where one of them passes
+found_early : {X : Type 0} (Q : X → Type 0) (p : X → Bool) (early : List X) (x : X) (rest : List X) (y : X) → AllByRecursion Q early → Q x → p x ≡ true → find p (early ++ x ∷ rest) ≡ Some y → Q y
+found_early Q p [] x rest y early here passes found = subst Q (some_same (sym (ap (λ (b : Bool). cond b (Some x) (find p rest)) passes) ∙ found)) here
+found_early {X} Q p (z ∷ zs) x rest y early here passes found = at (p z) found (λ later. found_early Q p zs x rest y early.1 here passes later)
+  where
+    at : (b : Bool) → cond b (Some z) (find p (zs ++ x ∷ rest)) ≡ Some y → (find p (zs ++ x ∷ rest) ≡ Some y → Q y) → Q y
+    at true is later = subst Q (some_same is) early.0
+    at false is later = later is
+
+abbrev IsUnanswered : Rule → Type 0
+IsUnanswered rule = is_answered_rule (name_of rule) ≡ false
+
+-- a used token denies by a rule that is not answered
+used_is_unanswered : (rules : List (FileRule × RuleFigures)) (given : Facts) (q : Request) (name : RuleName) → forbids I1 given q ≡ true → first_forbidding rules given q ≡ Some name → is_answered_rule name ≡ false
+unfolding first_forbidding written_order rules_before
+used_is_unanswered rules given q name used found = at (find (applies given q) (written_order rules)) refl found
+  where
+    at : (first : Option Rule) → find (applies given q) (written_order rules) ≡ first → option_map name_of first ≡ Some name → is_answered_rule name ≡ false
+    at None e k = cc
+    at (Some rule) e k =
+        sym (ap is_answered_rule (some_same k))
+        ∙ found_early IsUnanswered (applies given q) (BuiltIn L1 ∷ BuiltIn L2 ∷ BuiltIn L3 ∷ BuiltIn G1 ∷ BuiltIn G2 ∷ BuiltIn G3 ∷ []) (BuiltIn I1)
+        (map BuiltIn (drop 7 rules_before) ++ map OfFile rules ++ map BuiltIn rules_behind) rule (refl, (refl, (refl, (refl, (refl, (refl, tt)))))) refl used e
+
+answered_is_new : (policy : PolicyData) (history : List RecordData) (a : Asked) (rule : RuleName) (token : Token) → verdict policy history a ≡ verdicts.Denied rule
+    → is_answered_rule rule ≡ true → new_token a.request ≡ Some token → is_token_used history a.user token ≡ false
+answered_is_new policy history a rule token denied answered under = at (is_token_used history a.user token) refl
+  where
+    at : (b : Bool) → is_token_used history a.user token ≡ b → b ≡ false
+    at false k = refl
+    at true k =
+        let un : is_answered_rule rule ≡ false =
+        used_is_unanswered (rules_now policy history a) (facts_now policy history a) a.request rule (token_fact policy history a token under ∙ k)
+        (found_that (first_forbidding (rules_now policy history a) (facts_now policy history a) a.request) rule
+        (verdict_left policy history a (left_now policy history a) (is_left policy history a) ∙ denied)) in
+        cc
+
+-- the token that a denial uses
+pub denied_is_new : DeniedTokensAreNew
+denied_is_new policy history a rule token denied uses = at (is_answered_rule rule) refl uses
+  where
+    at : (b : Bool) → is_answered_rule rule ≡ b → (if b then new_token a.request else None) ≡ Some token → is_used (orders_in_force policy history).used a.user token ≡ false
+    at true e under = used_is policy history a.user token ∙ answered_is_new policy history a rule token denied e under
+    at false e under = cc

@@ -1,0 +1,17 @@
+use Rattle.gx_orders.proofs.Cutting.{cuts_one, replaces_one}
+use Rattle.gx_orders.proofs.Granted.{closes_end, denials_keep, enters_more, kills_end, others_keep}
+use Rattle.gx_orders.proofs.Staying.{none_at_first}
+use Rattle.gx_orders.proofs.laws.orders_after_a_request.Goals as goal
+
+pub returns : goal.returns
+returns c =
+    record {
+      first = none_at_first;
+      denied = denials_keep;
+      kept = others_keep;
+      entered = enters_more;
+      cancelled = cuts_one;
+      replaced = replaces_one;
+      killed = kills_end;
+      closed = closes_end;
+    }

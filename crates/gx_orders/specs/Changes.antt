@@ -1,0 +1,100 @@
+-- What one more record does to the orders that are kept.
+use Rattle.std.specs.Prelude.{◌-◌, Bool, true, false, List, [], ◌∷◌, ◌++◌, Option, None, option_map, option_to_list, if◌then◌else◌}
+use Rattle.gx_units.specs.declared.names.AccountName.{AccountName}
+use Rattle.gx_units.specs.declared.names.Token.{Token}
+use Rattle.gx_units.specs.declared.names.UserName.{UserName}
+use Rattle.gx_ouch.specs.declared.inbound.EnterOrder.{EnterOrder}
+use Rattle.gx_ouch.specs.declared.inbound.ReplaceOrder.{ReplaceOrder}
+use Rattle.gx_ouch.specs.declared.letters.CancelReason.TheVariants as cancels
+use Rattle.gx_ouch.specs.declared.outbound.Outbound.TheVariants as outbounds
+use Rattle.gx_ouch.specs.declared.outbound.OrderTerms.{OrderTerms}
+use Rattle.gx_desk.specs.declared.Action.{Action}
+use Rattle.gx_desk.specs.declared.Action.TheVariants as actions
+use Rattle.gx_history.specs.declared.policy.PolicyData.{PolicyData}
+use Rattle.gx_history.specs.declared.record.RecordData.{RecordData}
+use Rattle.gx_history.specs.declared.record.Request.{Request}
+use Rattle.gx_history.specs.declared.record.Request.TheVariants as requests
+use Rattle.gx_history.specs.declared.record.RuleName.{RuleName}
+use Rattle.gx_history.specs.declared.report.Message.{Message}
+use Rattle.gx_history.specs.declared.report.Message.TheVariants as messages
+use Rattle.gx_history.specs.Orders.{entered}
+use Rattle.gx_history.specs.Requests.{new_token}
+use Rattle.gx_history.specs.RuleNames.{is_answered_rule}
+use Rattle.gx_orders.specs.declared.live_order.LiveOrder.{LiveOrder}
+use Rattle.gx_orders.specs.LiveOrders.{OrdersData, key, token_of}
+
+-- the orders with another list of live ones
+abbrev pub with_live : List LiveOrder → OrdersData → OrdersData
+with_live live d = record { live = live; used = d.used }
+
+-- the orders with one more live one, and its token used
+abbrev pub entering : LiveOrder → OrdersData → OrdersData
+entering o d = record { live = d.live ++ o ∷ []; used = d.used ++ token_of o ∷ [] }
+
+-- the orders with one more token of the user used, if there is one
+abbrev pub marking : UserName → Option Token → OrdersData → OrdersData
+marking user found d = record { live = d.live; used = d.used ++ option_to_list (option_map (key user) found) }
+
+-- the token that a denial by this rule uses
+abbrev pub denied_token : RuleName → Request → Option Token
+denied_token rule q = if is_answered_rule rule then new_token q else None
+
+-- a command that ends no order
+abbrev pub is_lasting : Action → Bool
+is_lasting (actions.Kill account) = false
+is_lasting actions.CloseDay = false
+is_lasting other = true
+
+-- a request whose grant changes no live order and uses no token
+abbrev pub keeps_orders : Request → Bool
+keeps_orders (requests.Login m) = true
+keeps_orders requests.Logout = true
+keeps_orders (requests.Unreadable m) = true
+keeps_orders (requests.Command c) = is_lasting c.action
+keeps_orders other = false
+
+-- the order of a granted Enter: all its shares are open, and it waits
+abbrev pub waiting_order : PolicyData → RecordData → UserName → AccountName → EnterOrder → LiveOrder
+waiting_order policy r user account m = record {
+  number = r.number;
+  user = user;
+  account = account;
+  token = m.token;
+  terms = (entered policy r user account m).terms;
+  total = m.shares;
+  done = 0;
+  waits = true;
+}
+
+-- the terms of an order that is replaced
+abbrev pub terms_then : ReplaceOrder → OrderTerms → OrderTerms
+terms_then m terms = record {
+  side = terms.side;
+  shares = m.shares;
+  stock = terms.stock;
+  price = m.price;
+  time_in_force = m.time_in_force;
+  firm = terms.firm;
+  display = m.display;
+  capacity = terms.capacity;
+  intermarket_sweep = m.intermarket_sweep;
+  minimum_quantity = m.minimum_quantity;
+  cross_type = terms.cross_type;
+}
+
+-- the order that replaces o: its chain has executed as much, and it waits
+abbrev pub replacement_order : RecordData → ReplaceOrder → LiveOrder → LiveOrder
+replacement_order r m o = record {
+  number = r.number;
+  user = o.user;
+  account = o.account;
+  token = m.replacement_token;
+  terms = terms_then m o.terms;
+  total = m.shares;
+  done = o.done;
+  waits = true;
+}
+
+-- the report of an order that an officer ended: Canceled, with what was open
+abbrev pub ended_message : LiveOrder → Message
+ended_message o = messages.Order (outbounds.Canceled (record { token = o.token; decrement = o.total - o.done; reason = cancels.Supervisory }))

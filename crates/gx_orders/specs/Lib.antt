@@ -1,0 +1,5 @@
+pub mod LiveOrders
+pub mod Tables
+pub mod InForce
+pub mod Changes
+pub mod Laws

@@ -1,0 +1,135 @@
+-- The live orders, and what becomes of them.
+use Rattle.std.specs.Prelude.{IsTrue, ℕ, ◌+◌, ◌<◌, ◌≤◌, Bool, false, ◌&&◌, ◌==◌, nat_lt, not, List, [], ◌∷◌, map, Option, if◌then◌else◌}
+use Rattle.std.specs.List.{filter, find, list_any, AllByRecursion}
+use Rattle.gx_units.specs.Names.{same_user, same_token, same_account}
+use Rattle.gx_units.specs.declared.names.AccountName.{AccountName}
+use Rattle.gx_units.specs.declared.names.Token.{Token}
+use Rattle.gx_units.specs.declared.names.UserName.{UserName}
+use Rattle.gx_history.specs.Lists.{are_distinct, last_such}
+use Rattle.gx_orders.specs.declared.live_order.LiveOrder.{LiveOrder}
+use Rattle.gx_orders.specs.declared.live_order.UserToken.{UserToken}
+
+-- the live orders by number, and the used tokens in the order of their first use
+pub record OrdersData : Type 0 where
+  pub live : List LiveOrder
+  pub used : List UserToken
+
+-- the user and the token that the order was asked for under
+abbrev pub token_of : LiveOrder → UserToken
+token_of o = record { user = o.user; token = o.token }
+
+-- some shares may still be executed
+abbrev pub is_open : LiveOrder → Bool
+is_open o = nat_lt o.done o.total
+
+-- the order has this number
+abbrev pub has_number : ℕ → LiveOrder → Bool
+has_number number o = o.number == number
+
+-- the order of this number
+abbrev pub order_numbered : List LiveOrder → ℕ → Option LiveOrder
+order_numbered live number = find (has_number number) live
+
+-- an order of the user under the token
+abbrev pub is_under : UserName → Token → LiveOrder → Bool
+is_under user token o = same_user o.user user && same_token o.token token
+
+-- the order of a user under a token
+abbrev pub order_under : List LiveOrder → UserName → Token → Option LiveOrder
+order_under live user token = last_such (is_under user token) live
+
+-- an order of the user
+abbrev pub is_of_user : UserName → LiveOrder → Bool
+is_of_user user o = same_user o.user user
+
+-- the orders that wait to be matched
+abbrev pub waiting : List LiveOrder → List LiveOrder
+waiting live = filter (λ (o : LiveOrder). o.waits) live
+
+-- the first that waits to be matched
+abbrev pub first_waiting : List LiveOrder → Option LiveOrder
+first_waiting live = find (λ (o : LiveOrder). o.waits) live
+
+-- the same user, and the same token
+abbrev pub same_user_token : UserToken → UserToken → Bool
+same_user_token a b = same_user a.user b.user && same_token a.token b.token
+
+-- a token of the user
+abbrev pub key : UserName → Token → UserToken
+key user token = record { user = user; token = token }
+
+-- the token is one of those that are used
+abbrev pub is_used : List UserToken → UserName → Token → Bool
+is_used used user token = list_any (same_user_token (key user token)) used
+
+-- the order of this number changed, and all others as they were, each in its place
+abbrev pub changed : (LiveOrder → LiveOrder) → ℕ → List LiveOrder → List LiveOrder
+changed change number live = map (λ (o : LiveOrder). if has_number number o then change o else o) live
+
+-- those that have shares open, in their places
+abbrev pub open_ones : List LiveOrder → List LiveOrder
+open_ones live = filter is_open live
+
+-- all but the order of this number, in their places
+abbrev pub without : ℕ → List LiveOrder → List LiveOrder
+without number live = filter (λ (o : LiveOrder). not (has_number number o)) live
+
+-- the orders of other accounts, in their places
+abbrev pub of_others : AccountName → List LiveOrder → List LiveOrder
+of_others account live = filter (λ (o : LiveOrder). not (same_account account o.account)) live
+
+-- the order stands in the book
+abbrev pub at_rest : LiveOrder → LiveOrder
+at_rest o = record o { waits = false }
+
+-- the order with more shares executed
+abbrev pub filled : ℕ → LiveOrder → LiveOrder
+filled shares o = record o { done = o.done + shares }
+
+-- the order with another size
+abbrev pub sized : ℕ → LiveOrder → LiveOrder
+sized total o = record o { total = total }
+
+-- so many shares more of the order of this number executed; it is gone where none is open then
+abbrev pub filled_at : (number shares : ℕ) → List LiveOrder → List LiveOrder
+filled_at number shares live = open_ones (changed (filled shares) number live)
+
+-- another size of the order of this number; it is gone where none is open then
+abbrev pub cut_at : (number total : ℕ) → List LiveOrder → List LiveOrder
+cut_at number total live = open_ones (changed (sized total) number live)
+
+-- so many more shares of the order may be executed
+abbrev pub HasOpen : ℕ → LiveOrder → Type 0
+HasOpen shares o = o.done + shares ≤ o.total
+
+-- the order with another size, and other shares executed
+abbrev pub resized : (total done : ℕ) → LiveOrder → LiveOrder
+resized total done o = record o { total = total; done = done }
+
+-- another size of the order of this number, and other shares executed; it is gone where none is open then
+abbrev pub resized_at : (number total done : ℕ) → List LiveOrder → List LiveOrder
+resized_at number total done live = open_ones (changed (resized total done) number live)
+
+-- the numbers of the orders are below this one
+abbrev pub AreBelow : ℕ → List LiveOrder → Type 0
+AreBelow number live = AllByRecursion (λ (o : LiveOrder). o.number < number) live
+
+-- each number is above all before it
+abbrev pub NumbersRise : List LiveOrder → Type 0
+NumbersRise [] = Unit {0}
+NumbersRise (o ∷ os) = AllByRecursion (λ (p : LiveOrder). o.number < p.number) os × NumbersRise os
+
+-- some shares of the order are open
+abbrev pub IsOpen : LiveOrder → Type 0
+IsOpen o = o.done < o.total
+
+-- two orders of one user under one token
+abbrev pub is_same_token : LiveOrder → LiveOrder → Bool
+is_same_token a b = same_user_token (token_of a) (token_of b)
+
+-- what is always so: the numbers rise, each order has shares open, and its token is used and no other order's
+pub record AreSound (d : OrdersData) : Type 0 where
+  pub rise : NumbersRise d.live
+  pub all_open : AllByRecursion IsOpen d.live
+  pub all_used : AllByRecursion (λ (o : LiveOrder). IsTrue (is_used d.used o.user o.token)) d.live
+  pub tokens_differ : IsTrue (are_distinct is_same_token d.live)

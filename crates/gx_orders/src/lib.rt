@@ -1,0 +1,6 @@
+//! The live orders while a day runs: found by number, by token, and the first that waits to be matched.
+#![tactic(auto)]
+
+pub mod laws;
+pub mod live_order;
+pub mod orders;

@@ -1,0 +1,58 @@
+//! What is kept of one live order.
+
+ghost use Rattle.std.specs.Prelude.{◌≡◌, ◌-◌};
+ghost use Rattle.gx_orders.specs.LiveOrders.{is_under, token_of};
+
+use gx_ouch::OrderTerms;
+use gx_units::{AccountName, Token, UserName};
+
+/// A user, and one of his tokens.
+#[derive(Clone, Copy, PartialEq, Eq, Hash)]
+pub struct UserToken {
+    pub user: UserName,
+    pub token: Token,
+}
+
+/// An order that has shares open. Shares are counted singly.
+#[derive(Clone, Copy)]
+pub struct LiveOrder {
+    /// The number of the record that granted it.
+    pub number: u64,
+    pub user: UserName,
+    pub account: AccountName,
+    pub token: Token,
+    /// As asked for; side, stock, capacity and cross type are those of its chain.
+    pub terms: OrderTerms,
+    /// The size asked for, or the one that its last Cancel set.
+    pub total: u32,
+    /// The shares that its chain has executed.
+    pub done: u32,
+    /// It waits to be matched: it has not come to rest.
+    pub waits: bool,
+}
+
+impl LiveOrder {
+    /// The shares that may still be executed.
+    pub fn open(&self) -> u32
+        ensures { result ≡ self.now.total - self.now.done }
+    {
+        self.total.saturating_sub(self.done)
+    }
+
+    /// It is one of the user, and was asked for under the token.
+    pub fn is_under(&self, user: UserName, token: Token) -> bool
+        ensures { result ≡ is_under user token self.now }
+    {
+        self.user == user && self.token == token
+    }
+
+    /// The user and the token that it was asked for under.
+    pub fn user_token(&self) -> UserToken
+        ensures { result ≡ token_of self.now }
+    {
+        UserToken {
+            user: self.user,
+            token: self.token,
+        }
+    }
+}

@@ -1,0 +1,244 @@
+//! The live orders, and the tokens that are used.
+
+ghost use Rattle.std.specs.Prelude.{◌≡◌, ◌<◌, length, [], ◌∷◌, ◌++◌, Some, OnOk, OnErr, IfSome, IsTrue, IsFalse};
+ghost use Rattle.std.specs.List.{filter};
+ghost use Rattle.gx_orders.specs.Tables.{written};
+ghost use Rattle.gx_orders.specs.LiveOrders.{AreBelow, AreSound, HasOpen, at_rest, changed, cut_at, filled_at, first_waiting, is_of_user, is_used, key, of_others, order_numbered, order_under, resized_at, token_of, without};
+
+use crate::live_order::{LiveOrder, UserToken};
+use gx_units::{AccountName, OutOfMemory, Token, UserName};
+use indexmap::IndexMap;
+use std::alloc::Global;
+use std::collections::btree_map::Values;
+use std::collections::{BTreeMap, BTreeSet};
+use std::marker::Model;
+
+/// The live orders by number, and the tokens that are used. Contracts see the list of the orders and the list of the
+/// tokens. Only `enter` and `mark_used` take memory.
+#[derive(Drop)]
+pub struct Orders {
+    by_number: BTreeMap<u64, LiveOrder>,
+    /// The numbers of the orders that wait to be matched.
+    waiting: BTreeSet<u64>,
+    /// Each used token, with the number of the order that was entered under it, if one was.
+    tokens: IndexMap<UserToken, Option<u64>>,
+}
+
+impl Model for Orders {
+    ghost use Rattle.gx_orders.specs.LiveOrders.{OrdersData};
+    ghost use Rattle.gx_orders.specs.Tables.{AreTied, shown};
+
+    ghost Value = { OrdersData };
+
+    ghost view = { λ o. shown o.by_number.entries o.tokens.entries };
+
+    ghost invariant = { λ o. AreTied o.by_number.entries o.waiting.keys o.tokens.entries };
+}
+
+/// Puts the order in the place of the one of its number, if there is one.
+#[tactic(auto, using(crate::proofs::Places::nothing_written))]
+fn write(by_number: &mut BTreeMap<u64, LiveOrder>, order: LiveOrder)
+    ensures { by_number.new.entries ≡ written order by_number.old.entries }
+{
+    if let Some(place) = by_number.get_mut(&order.number) {
+        *place = order;
+    }
+}
+
+impl Orders {
+    /// No order, and no used token. It takes no memory.
+    pub fn new(alloc: Global) -> Orders
+        ensures live { result.live ≡ [] }
+        ensures used { result.used ≡ [] }
+    {
+        Orders {
+            by_number: BTreeMap::new(alloc),
+            waiting: BTreeSet::new(alloc),
+            tokens: IndexMap::new(alloc),
+        }
+    }
+
+    /// The live orders, by number: the lowest, which is the oldest, comes first.
+    pub fn live(&self) -> Values<'_, u64, LiveOrder>
+        ensures live { result ≡ self.now.live }
+        ensures sound { AreSound self.now }
+    {
+        self.by_number.values()
+    }
+
+    /// Whether the user has used the token, so that he can enter no more orders under it.
+    #[tactic(auto, using(crate::proofs::Answering::used_found))]
+    pub fn is_used(&self, user: UserName, token: Token) -> bool
+        ensures { result ≡ is_used self.now.used user token }
+    {
+        self.tokens.contains_key(&UserToken { user, token })
+    }
+
+    /// The live order of this number.
+    pub fn numbered(&self, number: u64) -> Option<LiveOrder>
+        ensures found { result ≡ order_numbered self.now.live number }
+        ensures sound { AreSound self.now }
+    {
+        self.by_number.get(&number).copied()
+    }
+
+    /// The user's live order under the token.
+    pub fn under(&self, user: UserName, token: Token) -> Option<LiveOrder>
+        ensures { result ≡ order_under self.now.live user token }
+    {
+        let number = self
+            .tokens
+            .get(&UserToken { user, token })
+            .copied()
+            .flatten()?;
+        let order = self.numbered(number)?;
+        if order.is_under(user, token) {
+            Some(order)
+        } else {
+            None
+        }
+    }
+
+    /// The first that waits to be matched: the oldest of those that have not come to rest.
+    pub fn first_waiting(&self) -> Option<LiveOrder>
+        ensures { result ≡ first_waiting self.now.live }
+    {
+        let number = self.waiting.first()?;
+        self.by_number.get(number).copied()
+    }
+
+    /// How many live orders the user has. It looks at each live order in turn.
+    pub fn count_of(&self, user: UserName) -> usize
+        ensures { result ≡ length (filter (is_of_user user) self.now.live) }
+    {
+        self.by_number
+            .values()
+            .filter(|order| order.user == user)
+            .count()
+    }
+
+    /// Takes in an order, which waits to be matched behind all others and uses its token. It takes memory for one more.
+    ///
+    /// # Errors
+    ///
+    /// `OutOfMemory` where there is no memory for one more; then nothing has changed.
+    pub fn enter(&mut self, order: LiveOrder) -> Result<(), OutOfMemory>
+        requires has_shares { order.done < order.total }
+        requires waits { IsTrue order.waits }
+        requires last { AreBelow order.number self.old.live }
+        requires new { IsFalse (is_used self.old.used order.user order.token) }
+        ensures live { OnOk result (self.new.live ≡ self.old.live ++ order ∷ []) }
+        ensures used { OnOk result (self.new.used ≡ self.old.used ++ token_of order ∷ []) }
+        ensures unchanged { OnErr result (self.new ≡ self.old) }
+    {
+        self.tokens.reserve(1)?;
+        self.waiting.insert(order.number)?;
+        if let Err(refused) = self.by_number.insert(order.number, order) {
+            self.waiting.remove(&order.number);
+            return Err(OutOfMemory::from(refused));
+        }
+        self.tokens.insert(order.user_token(), Some(order.number))?;
+        Ok(())
+    }
+
+    /// Marks the token as used by the user, with no order under it. It takes memory for one more.
+    ///
+    /// # Errors
+    ///
+    /// `OutOfMemory` where there is no memory for one more; then nothing has changed.
+    pub fn mark_used(&mut self, user: UserName, token: Token) -> Result<(), OutOfMemory>
+        requires new { IsFalse (is_used self.old.used user token) }
+        ensures live { OnOk result (self.new.live ≡ self.old.live) }
+        ensures used { OnOk result (self.new.used ≡ self.old.used ++ key user token ∷ []) }
+        ensures unchanged { OnErr result (self.new ≡ self.old) }
+    {
+        self.tokens.insert(UserToken { user, token }, None)?;
+        Ok(())
+    }
+
+    /// The order of this number has come to rest: it waits no more. Nothing changes where none has the number.
+    pub fn rest(&mut self, number: u64)
+        ensures live { self.new.live ≡ changed at_rest number self.old.live }
+        ensures used { self.new.used ≡ self.old.used }
+    {
+        if let Some(order) = self.numbered(number) {
+            write(
+                &mut self.by_number,
+                LiveOrder {
+                    waits: false,
+                    ..order
+                },
+            );
+            self.waiting.remove(&number);
+        }
+    }
+
+    fn resize(&mut self, order: LiveOrder, total: u32, done: u32)
+        requires there { order_numbered self.old.live order.number ≡ Some order }
+        requires sound { AreSound self.old }
+        ensures live { self.new.live ≡ resized_at order.number total done self.old.live }
+        ensures used { self.new.used ≡ self.old.used }
+    {
+        if done < total {
+            write(
+                &mut self.by_number,
+                LiveOrder {
+                    total,
+                    done,
+                    ..order
+                },
+            );
+        } else {
+            self.end(order.number);
+        }
+    }
+
+    /// So many shares of the order of this number are executed; it is gone where none is open then. It takes no memory.
+    pub fn fill(&mut self, number: u64, shares: u32)
+        requires { IfSome (order_numbered self.old.live number) (HasOpen shares) }
+        ensures live { self.new.live ≡ filled_at number shares self.old.live }
+        ensures used { self.new.used ≡ self.old.used }
+    {
+        if let Some(order) = self.numbered(number) {
+            self.resize(order, order.total, order.done + shares);
+        }
+    }
+
+    /// Sets the size of the order of this number, in shares; it is gone where none is open then. It takes no memory.
+    pub fn cut(&mut self, number: u64, total: u32)
+        ensures live { self.new.live ≡ cut_at number total self.old.live }
+        ensures used { self.new.used ≡ self.old.used }
+    {
+        if let Some(order) = self.numbered(number) {
+            self.resize(order, total, order.done);
+        }
+    }
+
+    /// The order of this number has ended. Nothing changes where none has the number. It takes no memory.
+    pub fn end(&mut self, number: u64)
+        ensures live { self.new.live ≡ without number self.old.live }
+        ensures used { self.new.used ≡ self.old.used }
+    {
+        self.by_number.remove(&number);
+        self.waiting.remove(&number);
+    }
+
+    /// All orders of the account have ended. It looks at each live order in turn, and takes no memory.
+    pub fn end_account(&mut self, account: AccountName)
+        ensures live { self.new.live ≡ of_others account self.old.live }
+        ensures used { self.new.used ≡ self.old.used }
+    {
+        self.by_number.retain(|_, order| account != order.account);
+        let by_number = &self.by_number;
+        self.waiting.retain(|number| by_number.contains_key(number));
+    }
+
+    /// All orders have ended. It takes no memory.
+    pub fn end_all(&mut self)
+        ensures live { self.new.live ≡ [] }
+        ensures used { self.new.used ≡ self.old.used }
+    {
+        self.by_number.clear();
+        self.waiting.clear();
+    }
+}

@@ -1,4 +1,0 @@
-pub mod Owed
-pub mod Slicing
-pub mod Staging
-pub mod Standing

@@ -1,0 +1,326 @@
+-- A legal history tells nothing to a user whom the policy does not know.
+use Rattle.std.proofs.Common.{◌≡◌, ℕ, Bool, true, false, cond, List, [], ◌∷◌, ◌++◌, map, drop, not, refl, ◌∙◌, ap, sym, subst, inl, inr, ◌⊎◌}
+use Rattle.std.specs.Prelude.{Option, Some, None, filter, flat_map, find, option_and_then, option_map, option_to_list, ◌&&◌, ◌==◌}
+use Rattle.std.specs.Option.{option_map_or}
+use Rattle.std.specs.List.{AllByRecursion}
+use Rattle.gx_units.specs.Names.{same_user}
+use Rattle.gx_units.specs.declared.names.UserName.{UserName}
+use Rattle.gx_ouch.specs.declared.letters.CancelReason.TheVariants as cancels
+use Rattle.gx_ouch.specs.declared.letters.EventCode.TheVariants as events
+use Rattle.gx_ouch.specs.declared.outbound.Outbound.TheVariants as outbounds
+use Rattle.gx_units.specs.declared.names.AccountName.{AccountName}
+use Rattle.gx_ouch.specs.declared.letters.Liquidity.{Liquidity}
+use Rattle.gx_ouch.specs.declared.letters.Liquidity.TheVariants as liquidities
+use Rattle.gx_desk.specs.declared.Action.{Action}
+use Rattle.gx_desk.specs.declared.Action.TheVariants as actions
+use Rattle.gx_history.specs.declared.facts.Facts.{Facts}
+use Rattle.gx_history.specs.declared.facts.RuleFigures.{RuleFigures}
+use Rattle.gx_history.specs.declared.policy.FileRule.{FileRule}
+use Rattle.gx_history.specs.declared.policy.PolicyData.{PolicyData}
+use Rattle.gx_history.specs.declared.policy.Role.{Role}
+use Rattle.gx_history.specs.declared.policy.User.{User}
+use Rattle.gx_history.specs.declared.record.Asked.{Asked}
+use Rattle.gx_history.specs.declared.record.Fill.{Fill}
+use Rattle.gx_history.specs.declared.record.RecordData.{RecordData}
+use Rattle.gx_history.specs.declared.record.Request.{Request}
+use Rattle.gx_history.specs.declared.record.Request.TheVariants as requests
+use Rattle.gx_history.specs.declared.record.RuleName.{RuleName}
+use Rattle.gx_history.specs.declared.record.RuleName.TheVariants as names
+use Rattle.gx_history.specs.declared.record.Step.{Step}
+use Rattle.gx_history.specs.declared.record.Step.TheVariants as steps
+use Rattle.gx_history.specs.declared.record.Verdict.{Verdict}
+use Rattle.gx_history.specs.declared.record.Verdict.TheVariants as verdicts
+use Rattle.gx_history.specs.declared.report.Message.{Message}
+use Rattle.gx_history.specs.declared.report.Message.TheVariants as messages
+use Rattle.gx_history.specs.declared.report.Report.{Report}
+use Rattle.gx_history.specs.Asking.{facts, fits_role}
+use Rattle.gx_history.specs.Brought.{copies_are_sent}
+use Rattle.gx_history.specs.Executions.{Execution, Standing, executions, live_orders, is_live, side_of, sides, standing, standing_numbered, standings}
+use Rattle.gx_history.specs.InForce.{grant_or_revoke_of, in_role, is_entitled, last_mark}
+use Rattle.gx_history.specs.Orders.{Order, ends_account, order_numbered, orders}
+use Rattle.gx_history.specs.People.{account_of, account_of_role, is_reader, is_trader, role_in, user_in}
+use Rattle.gx_history.specs.Requests.{is_login}
+use Rattle.gx_history.specs.RuleNames.{rules_before, rules_behind}
+use Rattle.gx_history.specs.Rules.{BuiltIn, OfFile, applies, first_forbidding, name_of, written_order}
+use Rattle.gx_history.specs.Streams.{answer, canceled, copies_of, day_end, drop_copy, ended, executed_message, granted_code, reported, reports_of, reports_of_denial, reports_of_execution, reports_of_expiry, reports_of_grant, reports_of_verdict, stream, to_user}
+use Rattle.gx_history.specs.Verdicts.{Follows, IsLegal, facts_now, next, rules_now, verdict_by}
+use Rattle.gx_history_laws.proofs.Adding.{user_is}
+use Rattle.gx_history_laws.proofs.Granting.{legal_keeps, verdict_left}
+use Rattle.gx_history_laws.proofs.NextReports.{stream_next, stream_none}
+use Rattle.gx_history_laws.proofs.Numbers.{all_weaker}
+use Rattle.gx_history_laws.proofs.Owners.{IsHisAccounts, all_both, filtered, orders_are_their_users}
+
+-- the policy does not know the user
+abbrev IsUnknown : PolicyData → UserName → Type 0
+IsUnknown policy user = user_in policy.users user ≡ None
+
+no_role : (policy : PolicyData) (user : UserName) → IsUnknown policy user → role_in policy.users user ≡ None
+no_role policy user h = ap (option_map (λ (u : User). u.role)) h
+
+-- only users with an account have orders
+abbrev IsApart : UserName → Order → Type 0
+IsApart user o = same_user o.user user ≡ false
+
+apart : (policy : PolicyData) (user : UserName) → IsUnknown policy user → (o : Order) → IsHisAccounts policy o → IsApart user o
+apart policy user h o his = by (same_user o.user user) refl
+  where
+    by : (b : Bool) → same_user o.user user ≡ b → b ≡ false
+    by true is =
+        let none : account_of policy user ≡ None = ap (option_and_then account_of_role) (no_role policy user h) in
+        let some : account_of policy user ≡ Some o.account = ap (account_of policy) (sym (user_is o.user user is)) ∙ his in
+        let no : Some o.account ≡ None = sym some ∙ none in
+        cc
+    by false is = refl
+
+all_apart : (policy : PolicyData) (history : List RecordData) (user : UserName) → IsUnknown policy user → AllByRecursion (IsApart user) (orders policy history)
+all_apart policy history user h =
+    all_weaker (IsHisAccounts policy) (IsApart user) (apart policy user h) (orders policy history) (orders_are_their_users policy history)
+
+-- lists of which nothing is left
+all_mapped : {X Y : Type 0} (P : Y → Type 0) (f : X → Y) (xs : List X) → AllByRecursion (λ (x : X). P (f x)) xs → AllByRecursion P (map f xs)
+all_mapped P f [] h = tt
+all_mapped P f (x ∷ xs) h = (h.0, all_mapped P f xs h.1)
+
+all_found : {X : Type 0} (P : X → Type 0) (p : X → Bool) (xs : List X) → AllByRecursion P xs → AllByRecursion P (option_to_list (find p xs))
+all_found P p [] h = tt
+all_found {X} P p (x ∷ xs) h = by (p x) (all_found P p xs h.1)
+  where
+    by : (b : Bool) → AllByRecursion P (option_to_list (find p xs)) → AllByRecursion P (option_to_list (cond b (Some x) (find p xs)))
+    by true later = (h.0, tt)
+    by false later = later
+
+none_mapped : {X Y : Type 0} (f : X → List Y) (xs : List X) → AllByRecursion (λ (x : X). f x ≡ []) xs → flat_map f xs ≡ []
+none_mapped f [] h = refl
+none_mapped {X} {Y} f (x ∷ xs) h = ap (λ (ys : List Y). ys ++ flat_map f xs) h.0 ∙ none_mapped f xs h.1
+
+none_left : {X : Type 0} (p : X → Bool) (xs : List X) → AllByRecursion (λ (x : X). p x ≡ false) xs → filter p xs ≡ []
+none_left p [] h = refl
+none_left p (x ∷ xs) h = ap (λ b. cond b (x ∷ filter p xs) (filter p xs)) h.0 ∙ none_left p xs h.1
+
+not_to : (receiver user : UserName) (ms : List Message) → same_user receiver user ≡ false → to_user receiver user ms ≡ []
+not_to receiver user ms h = ap (λ b. cond b ms []) h
+
+-- the orders of standings
+abbrev IsNotHis : UserName → Standing → Type 0
+IsNotHis user s = IsApart user s.order
+
+standings_apart : (policy : PolicyData) (history : List RecordData) (user : UserName) → IsUnknown policy user → AllByRecursion (IsNotHis user) (standings policy history)
+unfolding standings
+standings_apart policy history user h = all_mapped (IsNotHis user) (standing (executions policy history) history) (orders policy history) (all_apart policy history user h)
+
+live_apart : (policy : PolicyData) (history : List RecordData) (user : UserName) → IsUnknown policy user → AllByRecursion (IsNotHis user) (live_orders policy history)
+unfolding live_orders
+live_apart policy history user h = filtered (IsNotHis user) is_live (standings policy history) (standings_apart policy history user h)
+
+-- no order of his ends by a command
+none_ended : (policy : PolicyData) (history : List RecordData) (action : Action) (user : UserName) → IsUnknown policy user → ended policy history action user ≡ []
+none_ended policy history action user h =
+    ap (λ (xs : List Standing). flat_map (λ (s : Standing). canceled cancels.Supervisory s.open_shares s.order) xs)
+    (none_left (λ (s : Standing). same_user s.order.user user && ends_account s.order.account action) (live_orders policy history)
+    (all_weaker (IsNotHis user) (λ (s : Standing). (same_user s.order.user user && ends_account s.order.account action) ≡ false)
+    (λ s is. ap (λ b. b && ends_account s.order.account action) is) (live_orders policy history) (live_apart policy history user h)))
+
+-- the day's end is told to traders alone
+no_day_end : (policy : PolicyData) (action : Action) (user : UserName) → IsUnknown policy user → day_end policy action user ≡ []
+no_day_end policy (actions.Kill account) user h = refl
+no_day_end policy (actions.Lift account) user h = refl
+no_day_end policy (actions.SetLimit rule limit) user h = refl
+no_day_end policy (actions.Restrict rule stock) user h = refl
+no_day_end policy (actions.Unrestrict rule stock) user h = refl
+no_day_end policy (actions.Grant reader account) user h = refl
+no_day_end policy (actions.Revoke reader account) user h = refl
+no_day_end policy actions.CloseDay user h =
+    ap (λ (role : Option Role). cond (is_trader role) (messages.Order (outbounds.SystemEvent events.EndOfDay) ∷ []) []) (no_role policy user h)
+
+-- where the role does not fit, a rule that is not answered comes first
+abbrev first_named : List (FileRule × RuleFigures) → Facts → Request → Bool → Bool → Bool → Option RuleName
+first_named rules given q login on fits =
+    option_map name_of
+    (cond (login && not given.may_log_in) (Some (BuiltIn names.L1))
+    (cond (login && given.is_logged_in) (Some (BuiltIn names.L2))
+    (cond (login && not given.session_is_available) (Some (BuiltIn names.L3))
+    (cond (not login && not on) (Some (BuiltIn names.G1))
+    (cond (not fits) (Some (BuiltIn names.G2)) (find (applies given q) ((map BuiltIn (drop 5 rules_before) ++ map OfFile rules) ++ map BuiltIn rules_behind)))))))
+
+first_is : (rules : List (FileRule × RuleFigures)) (given : Facts) (q : Request) → first_forbidding rules given q ≡ first_named rules given q (is_login q) given.is_on_this_line given.role_fits
+unfolding first_forbidding written_order rules_before
+first_is rules given q = refl
+
+turned_away : (rules : List (FileRule × RuleFigures)) (given : Facts) (q : Request) (on : Bool) → given.is_on_this_line ≡ on → is_login q ≡ false → given.role_fits ≡ false
+    → (first_forbidding rules given q ≡ Some names.G1) ⊎ (first_forbidding rules given q ≡ Some names.G2)
+turned_away rules given q on is login fits = by on
+    (first_is rules given q
+    ∙ ap (λ b. first_named rules given q b given.is_on_this_line given.role_fits) login
+    ∙ ap (λ b. first_named rules given q false b given.role_fits) is
+    ∙ ap (first_named rules given q false on) fits)
+  where
+    by : (b : Bool) → first_forbidding rules given q ≡ first_named rules given q false b false
+        → (first_forbidding rules given q ≡ Some names.G1) ⊎ (first_forbidding rules given q ≡ Some names.G2)
+    by true e = inr e
+    by false e = inl e
+
+-- the verdict is a denial that is not answered
+abbrev IsTurnedAway : RecordData → Type 0
+IsTurnedAway r = (r.verdict ≡ verdicts.Denied names.G1) ⊎ (r.verdict ≡ verdicts.Denied names.G2)
+
+role_fits_is : (policy : PolicyData) (history : List RecordData) (a : Asked) → (facts_now policy history a).role_fits ≡ fits_role (role_in policy.users a.user) a.request
+unfolding facts
+role_fits_is policy history a = refl
+
+unknown_denied : (policy : PolicyData) (history : List RecordData) (a : Asked) (r : RecordData) → next policy history (steps.Asked a) ≡ Some r → IsUnknown policy a.user
+    → is_login a.request ≡ false → fits_role None a.request ≡ false → IsTurnedAway r
+unknown_denied policy history a r left h login fits =
+    by (turned_away (rules_now policy history a) (facts_now policy history a) a.request (facts_now policy history a).is_on_this_line refl login
+    (role_fits_is policy history a ∙ ap (λ (role : Option Role). fits_role role a.request) (no_role policy a.user h) ∙ fits))
+  where
+    first : Option RuleName
+    first = first_forbidding (rules_now policy history a) (facts_now policy history a) a.request
+
+    by : (first ≡ Some names.G1) ⊎ (first ≡ Some names.G2) → IsTurnedAway r
+    by (inl e) = inl (sym (verdict_left policy history a r left) ∙ ap verdict_by e)
+    by (inr e) = inr (sym (verdict_left policy history a r left) ∙ ap verdict_by e)
+
+-- a user whom the policy does not know, and a record that follows the history
+record Case (policy : PolicyData) (history : List RecordData) (r : RecordData) (user : UserName) : Type 0 where
+  pub is_unknown : IsUnknown policy user
+  pub follows : Follows policy (history, r)
+
+left_by : (policy : PolicyData) (history : List RecordData) (r : RecordData) (user : UserName) → Case policy history r user → (a : Asked) → r.step ≡ steps.Asked a
+    → next policy history (steps.Asked a) ≡ Some r
+left_by policy history r user c a asks = ap (next policy history) (sym asks) ∙ c.follows.is_next
+
+-- who was turned away, if he asked
+his_denial : (policy : PolicyData) (history : List RecordData) (r : RecordData) (user : UserName) → Case policy history r user → (a : Asked) (q : Request) → r.step ≡ steps.Asked a → a.request ≡ q
+    → same_user a.user user ≡ true → is_login q ≡ false → fits_role None q ≡ false → IsTurnedAway r
+his_denial policy history r user c a q asks e is login fits =
+    let named : user ≡ a.user = sym (user_is a.user user is) in
+    unknown_denied policy history a r (left_by policy history r user c a asks) (subst (λ (u : UserName). IsUnknown policy u) named c.is_unknown) (ap is_login e ∙ login) (ap (fits_role None) e ∙ fits)
+
+-- a granted request of a trader or an officer is another's
+not_his : (policy : PolicyData) (history : List RecordData) (r : RecordData) (user : UserName) → Case policy history r user → (a : Asked) (q : Request) → r.step ≡ steps.Asked a → a.request ≡ q
+    → r.verdict ≡ verdicts.Granted → is_login q ≡ false → fits_role None q ≡ false → same_user a.user user ≡ false
+not_his policy history r user c a q asks e granted login fits = by (same_user a.user user) refl
+  where
+    never : IsTurnedAway r → ⊥
+    never (inl denied) = let no : verdicts.Granted ≡ verdicts.Denied names.G1 = sym granted ∙ denied in cc
+    never (inr denied) = let no : verdicts.Granted ≡ verdicts.Denied names.G2 = sym granted ∙ denied in cc
+
+    by : (b : Bool) → same_user a.user user ≡ b → b ≡ false
+    by true is = absurd (never (his_denial policy history r user c a q asks e is login fits))
+    by false is = refl
+
+grant_owes : (policy : PolicyData) (history : List RecordData) (r : RecordData) (user : UserName) → Case policy history r user → (a : Asked) (q : Request) → r.step ≡ steps.Asked a → a.request ≡ q
+    → r.verdict ≡ verdicts.Granted → reports_of_grant policy history r a.user q user ≡ []
+grant_owes policy history r user c a (requests.Login m) asks e granted = refl
+grant_owes policy history r user c a requests.Logout asks e granted = refl
+grant_owes policy history r user c a (requests.Unreadable m) asks e granted = refl
+grant_owes policy history r user c a (requests.Enter m) asks e granted = not_to a.user user _ (not_his policy history r user c a (requests.Enter m) asks e granted refl refl)
+grant_owes policy history r user c a (requests.Replace m) asks e granted = not_to a.user user _ (not_his policy history r user c a (requests.Replace m) asks e granted refl refl)
+grant_owes policy history r user c a (requests.Cancel m) asks e granted = not_to a.user user _ (not_his policy history r user c a (requests.Cancel m) asks e granted refl refl)
+grant_owes policy history r user c a (requests.Command m) asks e granted =
+    let told : List Message = answer r m (granted_code policy (history ++ r ∷ []) m) in
+    ap (λ (ms : List Message). (ms ++ day_end policy m.action user) ++ to_user a.user user told) (none_ended policy history m.action user c.is_unknown)
+    ∙ ap (λ (ms : List Message). ms ++ to_user a.user user told) (no_day_end policy m.action user c.is_unknown)
+    ∙ not_to a.user user told (not_his policy history r user c a (requests.Command m) asks e granted refl refl)
+
+nothing_to : (b : Bool) → cond {A = List Message} b [] [] ≡ []
+nothing_to true = refl
+nothing_to false = refl
+
+rule_is : (rule name : RuleName) → verdicts.Denied rule ≡ verdicts.Denied name → rule ≡ name
+rule_is rule name e = cc
+
+denied_told : (policy : PolicyData) (history : List RecordData) (r : RecordData) (user : UserName) → Case policy history r user → (a : Asked) (q : Request) (rule : RuleName) → r.step ≡ steps.Asked a → a.request ≡ q
+    → r.verdict ≡ verdicts.Denied rule → is_login q ≡ false → fits_role None q ≡ false
+    → reports_of_denial policy r names.G1 q ≡ [] → reports_of_denial policy r names.G2 q ≡ [] → to_user a.user user (reports_of_denial policy r rule q) ≡ []
+denied_told policy history r user c a q rule asks e denied login fits first second = by (same_user a.user user) refl
+  where
+    silent : IsTurnedAway r → reports_of_denial policy r rule q ≡ []
+    silent (inl is) = ap (λ (n : RuleName). reports_of_denial policy r n q) (rule_is rule names.G1 (sym denied ∙ is)) ∙ first
+    silent (inr is) = ap (λ (n : RuleName). reports_of_denial policy r n q) (rule_is rule names.G2 (sym denied ∙ is)) ∙ second
+
+    by : (b : Bool) → same_user a.user user ≡ b → to_user a.user user (reports_of_denial policy r rule q) ≡ []
+    by true is = ap (to_user a.user user) (silent (his_denial policy history r user c a q asks e is login fits)) ∙ nothing_to (same_user a.user user)
+    by false is = not_to a.user user (reports_of_denial policy r rule q) is
+
+denial_owes : (policy : PolicyData) (history : List RecordData) (r : RecordData) (user : UserName) → Case policy history r user → (a : Asked) (q : Request) (rule : RuleName) → r.step ≡ steps.Asked a → a.request ≡ q
+    → r.verdict ≡ verdicts.Denied rule → to_user a.user user (reports_of_denial policy r rule q) ≡ []
+denial_owes policy history r user c a (requests.Login m) rule asks e denied = nothing_to (same_user a.user user)
+denial_owes policy history r user c a requests.Logout rule asks e denied = nothing_to (same_user a.user user)
+denial_owes policy history r user c a (requests.Unreadable m) rule asks e denied = nothing_to (same_user a.user user)
+denial_owes policy history r user c a (requests.Enter m) rule asks e denied = denied_told policy history r user c a (requests.Enter m) rule asks e denied refl refl refl refl
+denial_owes policy history r user c a (requests.Replace m) rule asks e denied = denied_told policy history r user c a (requests.Replace m) rule asks e denied refl refl refl refl
+denial_owes policy history r user c a (requests.Cancel m) rule asks e denied = denied_told policy history r user c a (requests.Cancel m) rule asks e denied refl refl refl refl
+denial_owes policy history r user c a (requests.Command m) rule asks e denied = denied_told policy history r user c a (requests.Command m) rule asks e denied refl refl refl refl
+
+-- the orders of a fill are others'
+abbrev IsNoSideOf : UserName → Execution → Type 0
+IsNoSideOf user e = IsApart user e.order
+
+side_apart : (known : List Order) (f : Fill) (liquidity : Liquidity) (number : ℕ) (user : UserName) → AllByRecursion (IsApart user) known → AllByRecursion (IsNoSideOf user) (side_of known f liquidity number)
+side_apart known f liquidity number user h =
+    all_mapped (IsNoSideOf user) (λ (o : Order). let e : Execution = record { fill = f; liquidity = liquidity; order = o } in e) (option_to_list (order_numbered known number))
+    (all_found (IsApart user) (λ (o : Order). o.number == number) known h)
+
+fill_owes : (policy : PolicyData) (history : List RecordData) (r : RecordData) (user : UserName) (f : Fill) → IsUnknown policy user
+    → flat_map (reports_of_execution r user) (sides policy history (verdicts.Filled f)) ≡ []
+fill_owes policy history r user f h =
+    let known : List Order = orders policy history in
+    let others : AllByRecursion (IsApart user) known = all_apart policy history user h in
+    none_mapped (reports_of_execution r user) (sides policy history (verdicts.Filled f))
+    (all_weaker (IsNoSideOf user) (λ (e : Execution). reports_of_execution r user e ≡ [])
+    (λ e is. not_to e.order.user user (messages.Order (outbounds.Executed (executed_message r e)) ∷ []) is) (sides policy history (verdicts.Filled f))
+    (all_both (IsNoSideOf user) (side_of known f liquidities.Removed f.taker) (side_of known f liquidities.Added f.maker)
+    (side_apart known f liquidities.Removed f.taker user others) (side_apart known f liquidities.Added f.maker user others)))
+
+expiry_owes : (policy : PolicyData) (history : List RecordData) (user : UserName) (number : ℕ) → IsUnknown policy user
+    → flat_map (reports_of_expiry user) (option_to_list (standing_numbered (standings policy history) number)) ≡ []
+expiry_owes policy history user number h =
+    let found : List Standing = option_to_list (standing_numbered (standings policy history) number) in
+    none_mapped (reports_of_expiry user) found
+    (all_weaker (IsNotHis user) (λ (s : Standing). reports_of_expiry user s ≡ [])
+    (λ s is. not_to s.order.user user (canceled cancels.ImmediateOrCancel s.open_shares s.order) is) found
+    (all_found (IsNotHis user) (λ (s : Standing). s.order.number == number) (standings policy history) (standings_apart policy history user h)))
+
+verdict_owes : (policy : PolicyData) (history : List RecordData) (r : RecordData) (user : UserName) → Case policy history r user → (v : Verdict) (step : Step) → r.verdict ≡ v → r.step ≡ step
+    → reports_of_verdict policy history r v step user ≡ []
+verdict_owes policy history r user c verdicts.Granted (steps.Asked a) is asks = grant_owes policy history r user c a a.request asks refl is
+verdict_owes policy history r user c verdicts.Granted (steps.Matching handed) is asks = refl
+verdict_owes policy history r user c (verdicts.Denied rule) (steps.Asked a) is asks = denial_owes policy history r user c a a.request rule asks refl is
+verdict_owes policy history r user c (verdicts.Denied rule) (steps.Matching handed) is asks = refl
+verdict_owes policy history r user c (verdicts.Filled f) step is asks = fill_owes policy history r user f c.is_unknown
+verdict_owes policy history r user c (verdicts.Rested number) step is asks = refl
+verdict_owes policy history r user c (verdicts.Expired number) step is asks = expiry_owes policy history user number c.is_unknown
+
+-- nor is he entitled to any account
+not_entitled : (policy : PolicyData) (history : List RecordData) (user : UserName) (account : AccountName) → IsUnknown policy user → is_entitled policy history user account ≡ false
+unfolding is_entitled
+not_entitled policy history user account h =
+    ap (λ (role : Option Role). is_reader role && last_mark (grant_or_revoke_of user account) history (option_map_or (λ x. in_role x account) role false)) (no_role policy user h)
+
+unsent : (sent b : Bool) (ms : List Message) → b ≡ false → cond (sent && b) ms [] ≡ []
+unsent sent b ms h = ap (λ x. cond (sent && x) ms []) h ∙ elim sent as (λ s. cond (s && false) ms [] ≡ []) [ true ↦ refl | false ↦ refl ]
+
+no_copy : (policy : PolicyData) (history : List RecordData) (r : RecordData) (user : UserName) → IsUnknown policy user → (e : Execution) → drop_copy policy history r user e ≡ []
+no_copy policy history r user h e =
+    unsent copies_are_sent (is_entitled policy history user e.order.account)
+    (messages.DropCopy (record { executed = executed_message r e; account = e.order.account; side = e.order.terms.side }) ∷ [])
+    (not_entitled policy history user e.order.account h)
+
+none_of_each : {X Y : Type 0} (f : X → List Y) → ((x : X) → f x ≡ []) → (xs : List X) → flat_map f xs ≡ []
+none_of_each f h [] = refl
+none_of_each {X} {Y} f h (x ∷ xs) = ap (λ (ys : List Y). ys ++ flat_map f xs) (h x) ∙ none_of_each f h xs
+
+owes_nothing : (policy : PolicyData) (history : List RecordData) (r : RecordData) (user : UserName) → Case policy history r user → reports_of policy user (history, r) ≡ []
+owes_nothing policy history r user c =
+    ap (λ (ms : List Message). map (reported r) ms ++ copies_of policy user (history, r)) (verdict_owes policy history r user c r.verdict r.step refl refl)
+    ∙ ap (map (reported r)) (none_of_each (drop_copy policy history r user) (no_copy policy history r user c.is_unknown) (sides policy history r.verdict))
+
+pub only_known : (policy : PolicyData) (history : List RecordData) (user : UserName) → IsLegal policy history → user_in policy.users user ≡ None → stream policy history user ≡ []
+only_known policy history user legal h =
+    legal_keeps policy (λ (records : List RecordData). stream policy records user ≡ []) (stream_none policy user)
+    (λ earlier r kept follows.
+    stream_next policy earlier r user
+    ∙ ap (λ (rs : List Report). rs ++ reports_of policy user (earlier, r)) kept
+    ∙ owes_nothing policy earlier r user (record { is_unknown = h; follows = follows }))
+    history legal

@@ -1,0 +1,147 @@
+-- What a command owes for the orders that it ends, user by user.
+use Rattle.std.proofs.Common.{◌≡◌, suc, length, Bool, true, false, cond, List, [], ◌∷◌, ◌++◌, map, refl, ◌∙◌, ap, sym}
+use Rattle.std.specs.Prelude.{filter, ◌&&◌}
+use Rattle.std.specs.List.{flat_map}
+use Rattle.std.proofs.lemmas.List.{append-nil}
+use Rattle.gx_units.specs.Names.{same_user}
+use Rattle.gx_units.specs.declared.names.UserName.{UserName}
+use Rattle.gx_ouch.specs.declared.letters.CancelReason.TheVariants as cancels
+use Rattle.gx_desk.specs.declared.Action.{Action}
+use Rattle.gx_history.specs.declared.policy.PolicyData.{PolicyData}
+use Rattle.gx_history.specs.declared.record.RecordData.{RecordData}
+use Rattle.gx_history.specs.declared.report.Message.{Message}
+use Rattle.gx_history.specs.declared.report.Report.{Report}
+use Rattle.gx_history.specs.Executions.{Standing, live_orders}
+use Rattle.gx_history.specs.Orders.{ends_account}
+use Rattle.gx_history.specs.Streams.{canceled, ended, reported, stream, to_user}
+use Rattle.gx_streams.specs.Laws.{TellsAll, TellsNobody, TellsOne}
+use Rattle.gx_streams.specs.Telling.{owed_for, owed_for_ended, owed_message, owed_to}
+
+abbrev is_his : UserName → UserName × Report → Bool
+is_his user o = same_user o.0 user
+
+abbrev canceled_now : Standing → List Message
+canceled_now s = canceled cancels.Supervisory s.open_shares s.order
+
+ended_of : (r : RecordData) (user : UserName) (ends : Standing → Bool) (live : List Standing)
+    → map (reported r) (flat_map canceled_now (filter (λ (s : Standing). same_user s.order.user user && ends s) live))
+    ≡ owed_to (map (owed_message r) (map owed_for (filter ends live))) user
+ended_of r user ends [] = refl
+ended_of r user ends (s ∷ live) = by (same_user s.order.user user) refl (ends s) (ended_of r user ends live)
+  where
+    his : List Standing
+    his = filter (λ (x : Standing). same_user x.order.user user && ends x) live
+
+    all : List (UserName × Report)
+    all = map (owed_message r) (map owed_for (filter ends live))
+
+    first : UserName × Report
+    first = owed_message r (owed_for s)
+
+    kept : Bool → List (UserName × Report)
+    kept a = cond a (first ∷ filter (is_his user) all) (filter (is_his user) all)
+
+    by : (a : Bool) → same_user s.order.user user ≡ a → (b : Bool) → map (reported r) (flat_map canceled_now his) ≡ owed_to all user
+        → map (reported r) (flat_map canceled_now (cond (same_user s.order.user user && b) (s ∷ his) his)) ≡ owed_to (map (owed_message r) (map owed_for (cond b (s ∷ filter ends live) (filter ends live)))) user
+    by true is true later =
+        ap (λ a. map (reported r) (flat_map canceled_now (cond (a && true) (s ∷ his) his))) is
+        ∙ ap (λ (rest : List Report). first.1 ∷ rest) later
+        ∙ sym (ap (λ a. map (λ (o : UserName × Report). o.1) (kept a)) is)
+    by true is false later = ap (λ a. map (reported r) (flat_map canceled_now (cond (a && false) (s ∷ his) his))) is ∙ later
+    by false is true later =
+        ap (λ a. map (reported r) (flat_map canceled_now (cond (a && true) (s ∷ his) his))) is
+        ∙ later
+        ∙ sym (ap (λ a. map (λ (o : UserName × Report). o.1) (kept a)) is)
+    by false is false later = ap (λ a. map (reported r) (flat_map canceled_now (cond (a && false) (s ∷ his) his))) is ∙ later
+
+pub ended_are_owed : (policy : PolicyData) (history : List RecordData) (r : RecordData) (action : Action) (user : UserName)
+    → map (reported r) (ended policy history action user) ≡ owed_to (map (owed_message r) (owed_for_ended policy history action)) user
+ended_are_owed policy history r action user = ended_of r user (λ (s : Standing). ends_account s.order.account action) (live_orders policy history)
+
+one_each : (r : RecordData) (xs : List Standing) → length (map (reported r) (flat_map canceled_now xs)) ≡ length xs
+one_each r [] = refl
+one_each r (s ∷ xs) = ap suc (one_each r xs)
+
+pub ended_are_counted : (policy : PolicyData) (history : List RecordData) (r : RecordData) (action : Action) (user : UserName)
+    → length (owed_to (map (owed_message r) (owed_for_ended policy history action)) user)
+    ≡ length (filter (λ (s : Standing). same_user s.order.user user && ends_account s.order.account action) (live_orders policy history))
+ended_are_counted policy history r action user =
+    ap length (sym (ended_are_owed policy history r action user))
+    ∙ one_each r (filter (λ (s : Standing). same_user s.order.user user && ends_account s.order.account action) (live_orders policy history))
+
+map_both : {X Y : Type 0} (f : X → Y) (xs ys : List X) → map f (xs ++ ys) ≡ map f xs ++ map f ys
+map_both f [] ys = refl
+map_both f (x ∷ xs) ys = ap (λ rest. f x ∷ rest) (map_both f xs ys)
+
+filter_both : {X : Type 0} (p : X → Bool) (xs ys : List X) → filter p (xs ++ ys) ≡ filter p xs ++ filter p ys
+filter_both p [] ys = refl
+filter_both {X} p (x ∷ xs) ys = by (p x) (filter_both p xs ys)
+  where
+    by : (b : Bool) → filter p (xs ++ ys) ≡ filter p xs ++ filter p ys → cond b (x ∷ filter p (xs ++ ys)) (filter p (xs ++ ys)) ≡ cond b (x ∷ filter p xs) (filter p xs) ++ filter p ys
+    by true later = ap (λ rest. x ∷ rest) later
+    by false later = later
+
+owed_both : (user : UserName) (xs ys : List (UserName × Report)) → owed_to (xs ++ ys) user ≡ owed_to xs user ++ owed_to ys user
+owed_both user xs ys =
+    ap (map (λ (o : UserName × Report). o.1)) (filter_both (is_his user) xs ys) ∙ map_both (λ (o : UserName × Report). o.1) (filter (is_his user) xs) (filter (is_his user) ys)
+
+abbrev addressed : UserName → Message → UserName × Message
+addressed officer m = (officer, m)
+
+answers_owed : (r : RecordData) (officer user : UserName) (b : Bool) → same_user officer user ≡ b → (answers : List Message)
+    → owed_to (map (owed_message r) (map (addressed officer) answers)) user ≡ cond b (map (reported r) answers) []
+answers_owed r officer user true is [] = refl
+answers_owed r officer user false is [] = refl
+answers_owed r officer user true is (m ∷ answers) =
+    ap (λ b. map (λ (o : UserName × Report). o.1) (cond b ((officer, reported r m) ∷ filter (is_his user) (map (owed_message r) (map (addressed officer) answers))) (filter (is_his user) (map (owed_message r) (map (addressed officer) answers))))) is
+    ∙ ap (λ (rest : List Report). reported r m ∷ rest) (answers_owed r officer user true is answers)
+answers_owed r officer user false is (m ∷ answers) =
+    ap (λ b. map (λ (o : UserName × Report). o.1) (cond b ((officer, reported r m) ∷ filter (is_his user) (map (owed_message r) (map (addressed officer) answers))) (filter (is_his user) (map (owed_message r) (map (addressed officer) answers))))) is
+    ∙ answers_owed r officer user false is answers
+
+to_him : (r : RecordData) (officer user : UserName) (answers : List Message)
+    → map (reported r) (to_user officer user answers) ≡ owed_to (map (owed_message r) (map (addressed officer) answers)) user
+to_him r officer user answers = by (same_user officer user) refl
+  where
+    by : (b : Bool) → same_user officer user ≡ b → map (reported r) (to_user officer user answers) ≡ owed_to (map (owed_message r) (map (addressed officer) answers)) user
+    by true is = ap (λ b. map (reported r) (cond b answers [])) is ∙ sym (answers_owed r officer user true is answers)
+    by false is = ap (λ b. map (reported r) (cond b answers [])) is ∙ sym (answers_owed r officer user false is answers)
+
+pub answered_are_told : (policy : PolicyData) (before after : List RecordData) (r : RecordData) (action : Action) (officer : UserName) (answers : List Message)
+    → ((user : UserName) → stream policy after user ≡ stream policy before user ++ map (reported r) (ended policy before action user ++ to_user officer user answers))
+    → TellsAll policy before after r (owed_for_ended policy before action ++ map (λ (m : Message). (officer, m)) answers)
+answered_are_told policy before after r action officer answers told user =
+    told user
+    ∙ ap (λ (rs : List Report). stream policy before user ++ rs)
+    (map_both (reported r) (ended policy before action user) (to_user officer user answers)
+    ∙ ap (λ (rs : List Report). rs ++ map (reported r) (to_user officer user answers)) (ended_are_owed policy before r action user)
+    ∙ ap (λ (rs : List Report). owed_to (map (owed_message r) (owed_for_ended policy before action)) user ++ rs) (to_him r officer user answers)
+    ∙ sym (owed_both user (map (owed_message r) (owed_for_ended policy before action)) (map (owed_message r) (map (addressed officer) answers)))
+    ∙ ap (λ (os : List (UserName × Report)). owed_to os user) (sym (map_both (owed_message r) (owed_for_ended policy before action) (map (addressed officer) answers))))
+
+pub ended_are_told : (policy : PolicyData) (before after : List RecordData) (r : RecordData) (action : Action) (officer : UserName)
+    → ((user : UserName) → stream policy after user ≡ stream policy before user ++ map (reported r) (ended policy before action user ++ to_user officer user []))
+    → TellsAll policy before after r (owed_for_ended policy before action)
+ended_are_told policy before after r action officer told user =
+    answered_are_told policy before after r action officer [] told user
+    ∙ ap (λ (os : List (UserName × Message)). stream policy before user ++ owed_to (map (owed_message r) os) user) (append-nil (owed_for_ended policy before action))
+
+pub one_among_all : (policy : PolicyData) (before after : List RecordData) (r : RecordData) (receiver : UserName) (told : List Message)
+    → TellsOne policy before after r receiver told → TellsAll policy before after r (map (λ (m : Message). (receiver, m)) told)
+one_among_all policy before after r receiver told h user = h user ∙ ap (λ (rs : List Report). stream policy before user ++ rs) (to_him r receiver user told)
+
+pub none_for_one : (policy : PolicyData) (before after : List RecordData) (r : RecordData) (receiver : UserName)
+    → TellsOne policy before after r receiver [] → TellsNobody policy before after
+none_for_one policy before after r receiver h user = one_among_all policy before after r receiver [] h user ∙ append-nil (stream policy before user)
+
+pub two_among_all : (policy : PolicyData) (before after : List RecordData) (r : RecordData) (first second : UserName) (one other : Message)
+    → ((user : UserName)
+    → stream policy after user ≡ stream policy before user ++ map (reported r) (to_user first user (one ∷ []) ++ to_user second user (other ∷ [])))
+    → TellsAll policy before after r ((first, one) ∷ (second, other) ∷ [])
+two_among_all policy before after r first second one other told user =
+    told user
+    ∙ ap (λ (rs : List Report). stream policy before user ++ rs)
+    (map_both (reported r) (to_user first user (one ∷ [])) (to_user second user (other ∷ []))
+    ∙ ap (λ (rs : List Report). rs ++ map (reported r) (to_user second user (other ∷ []))) (to_him r first user (one ∷ []))
+    ∙ ap (λ (rs : List Report). owed_to ((first, reported r one) ∷ []) user ++ rs) (to_him r second user (other ∷ []))
+    ∙ sym (owed_both user ((first, reported r one) ∷ []) ((second, reported r other) ∷ [])))

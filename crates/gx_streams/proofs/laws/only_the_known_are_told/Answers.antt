@@ -1,0 +1,5 @@
+use Rattle.gx_streams.proofs.OnlyKnown.{only_known}
+use Rattle.gx_streams.proofs.laws.only_the_known_are_told.Goals as goal
+
+pub returns : goal.returns
+returns c = only_known

@@ -1,0 +1,5 @@
+use Rattle.gx_streams.proofs.Telling.{stays_by_all, stays_by_none, stays_by_one}
+use Rattle.gx_streams.proofs.laws.streams_stay_told.Goals as goal
+
+pub returns : goal.returns
+returns c = record { one = stays_by_one; all = stays_by_all; none = stays_by_none }

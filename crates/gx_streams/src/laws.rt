@@ -1,0 +1,64 @@
+//! Laws of the definitions, each as what a function without a body ensures.
+
+ghost use Rattle.gx_streams.specs.Laws.{AllAreTold, AllOwedAreShown, AllOwedAreTold, EachHasAPlace, EndedAndAnswerAreTold, EndedAreCounted, EndedAreOwed, EndedAreTold, FirstNothingIsTold, KeptLastIsShown, KnownAreThePolicys, LastIsShown, NoPlaceIsTaken, NoneForOneIsNone, NobodyIsTold, NothingOwedIsTold, OneOwedIsTold, OnePlaceIsTaken, OneIsAmongAll, OneIsTold, OnlyKnownAreTold, OthersKeepPlaces, OwedGoOn, OwedTakePlaces, PlacesAreKept, PlacesAreNotShown, ReportsAreStreams, StaysToldByAll, StaysToldByNone, StaysToldByOne, TellingGoesOn, TwoAreAmongAll, UsersStay};
+
+/// What a day's records tell each user goes on record by record: each adds what it owes to the end.
+pub fn streams_go_on()
+    ensures none { FirstNothingIsTold }
+    ensures next { TellingGoesOn }
+    ensures one { OneIsTold }
+    ensures all { AllAreTold }
+    ensures nobody { NobodyIsTold }
+    ensures ended { EndedAreOwed }
+    ensures counted { EndedAreCounted }
+{}
+
+/// A report that is put last is shown last of its user, and places are not shown.
+pub fn changes_are_shown()
+    ensures last { LastIsShown }
+    ensures kept { KeptLastIsShown }
+    ensures places { PlacesAreNotShown }
+    ensures owed { AllOwedAreShown }
+    ensures next { OwedGoOn }
+{}
+
+/// Streams that show what was told go on doing so, once what the next record owes is put last.
+pub fn streams_stay_told()
+    ensures one { StaysToldByOne }
+    ensures all { StaysToldByAll }
+    ensures none { StaysToldByNone }
+{}
+
+/// What a record owes is what it adds to the streams.
+pub fn owed_is_told()
+    ensures one { OneOwedIsTold }
+    ensures all { AllOwedAreTold }
+    ensures none { NothingOwedIsTold }
+    ensures empty { NoneForOneIsNone }
+    ensures single { OneIsAmongAll }
+    ensures both { TwoAreAmongAll }
+    ensures ended { EndedAreTold }
+    ensures answered { EndedAndAnswerAreTold }
+{}
+
+/// What a change of one user's list does to the places that are kept.
+pub fn places_are_taken()
+    ensures users { UsersStay }
+    ensures others { OthersKeepPlaces }
+    ensures last { NoPlaceIsTaken }
+    ensures one { OnePlaceIsTaken }
+    ensures kept { PlacesAreKept }
+    ensures owed { OwedTakePlaces }
+    ensures each { EachHasAPlace }
+{}
+
+/// In a legal history nobody is told anything whom the policy does not know.
+pub fn only_the_known_are_told()
+    ensures { OnlyKnownAreTold }
+{}
+
+/// Where the streams show what was told, they give each user's stream, and know the policy's users.
+pub fn reports_are_streams()
+    ensures reports { ReportsAreStreams }
+    ensures known { KnownAreThePolicys }
+{}
