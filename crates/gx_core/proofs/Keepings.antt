@@ -27,7 +27,8 @@ use Rattle.gx_history.specs.Verdicts.{IsLegal, next}
 use Rattle.gx_history_laws.proofs.Judging.{both}
 use Rattle.gx_history_laws.proofs.NextReports.{legal_next, stream_next}
 use Rattle.gx_history_laws.proofs.Runs.{step_left}
-use Rattle.gx_day.proofs.Table.{account_is, user_is}
+use Rattle.gx_history_laws.proofs.Adding.{user_is}
+use Rattle.gx_history_laws.proofs.Names.{account_is}
 use Rattle.gx_orders.specs.declared.live_order.LiveOrder.{LiveOrder}
 use Rattle.gx_orders.specs.Changes.{ended_message}
 use Rattle.gx_orders.specs.InForce.{orders_in_force}

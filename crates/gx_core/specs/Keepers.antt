@@ -42,8 +42,8 @@ pub record AreInForce (policy : PolicyData) (history : List RecordData) (k : Kee
   pub streams : shown k.streams ≡ told_after policy history
 
 -- and after one more record
-abbrev pub AreInForceAfter : PolicyData → List RecordData → RecordData → Keepers → Type 0
-AreInForceAfter policy history r k = AreInForce policy (history ++ r ∷ []) k
+abbrev pub AreCarriedOn : PolicyData → List RecordData → RecordData → Keepers → Type 0
+AreCarriedOn policy history r k = AreInForce policy (history ++ r ∷ []) k
 
 -- they do, once the day has its moment
 pub record AreInForceBut (policy : PolicyData) (history : List RecordData) (r : RecordData) (k : Keepers) : Type 0 where
@@ -106,8 +106,8 @@ abbrev pub HavePlaces : PolicyData → List RecordData → RecordData → AllStr
 HavePlaces policy history r streams = (user : UserName) → length (reports_of policy user (history, r)) ≤ places_in streams.told user
 
 -- the record has its places
-abbrev pub HasItsPlaces : PolicyData → List RecordData → RecordData → Keepers → Type 0
-HasItsPlaces policy history r k = HavePlaces policy history r k.streams
+abbrev pub IsPlaced : PolicyData → List RecordData → RecordData → Keepers → Type 0
+IsPlaced policy history r k = HavePlaces policy history r k.streams
 
 -- after a legal day, with what is in force, the request leaves the record
 pub record Takes (policy : PolicyData) (history : List RecordData) (a : Asked) (r : RecordData) (k : Keepers) : Type 0 where

@@ -19,8 +19,8 @@ pub record IsKept (policy : PolicyData) (records : List RecordData) (k : Keepers
   pub in_force : AreInForce policy records k
 
 -- the reports of the user
-abbrev pub reports_kept : Keepers → UserName → List Report
-reports_kept k user = reports_in k.streams user
+abbrev pub told_kept : Keepers → UserName → List Report
+told_kept k user = reports_in k.streams user
 
 -- the day is closed, and no report of the user has this number
 abbrev pub is_past_the_end : Keepers → UserName → ℕ → Bool

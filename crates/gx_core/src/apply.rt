@@ -3,16 +3,13 @@
 //! Each function begins with the one call that can be refused, if it makes one; nothing has changed then. What follows
 //! takes no memory: the places for reports were kept before.
 
-ghost use Rattle.std.specs.Prelude.{◌≡◌, ◌<◌, ◌++◌, ◌∷◌, [], length, Some, IfSome, OnOk, OnErr, IsTrue, IsFalse};
+ghost use Rattle.std.specs.Prelude.{◌≡◌, ◌<◌, IfSome, OnOk, OnErr, IsTrue};
 ghost use Rattle.gx_desk.specs.declared.Action.TheVariants as actions;
-ghost use Rattle.gx_history.specs.declared.record.RecordData.{RecordData};
 ghost use Rattle.gx_history.specs.declared.record.Request.TheVariants as requests;
 ghost use Rattle.gx_history.specs.declared.record.Verdict.TheVariants as verdicts;
-ghost use Rattle.gx_orders.specs.Changes.{denied_token, ended_message, marking, waiting_order};
-ghost use Rattle.gx_orders.specs.LiveOrders.{is_used};
+ghost use Rattle.gx_orders.specs.Changes.{waiting_order};
 ghost use Rattle.gx_streams.specs.Kept.{places_in};
-ghost use Rattle.gx_streams.specs.Telling.{owed_to, with_all_owed};
-ghost use Rattle.gx_core.specs.Keepers.{marked_by, with_told, AreInForce, AreInForceAfter, AreInForceBut, HavePlaces, IsUnused, Takes};
+ghost use Rattle.gx_core.specs.Keepers.{marked_by, with_told, AreInForce, AreCarriedOn, AreInForceBut, HavePlaces, IsUnused, Takes};
 ghost use Rattle.gx_core.specs.Ends.{owed_by_ends, told_of_ends, HaveOwedPlaces};
 ghost use Rattle.gx_core.specs.Settings.{is_carried, is_carried_command};
 
@@ -281,7 +278,7 @@ pub fn apply(
     requires takes { Takes policy.now history.now.records a.now entry.now keepers.old }
     requires places { HavePlaces policy.now history.now.records entry.now keepers.old.streams }
     requires carried { IsTrue (is_carried a.now.request) }
-    ensures ok { OnOk result (AreInForceAfter policy.now history.now.records entry.now keepers.new) }
+    ensures ok { OnOk result (AreCarriedOn policy.now history.now.records entry.now keepers.new) }
     ensures err { OnErr result (AreInForce policy.now history.now.records keepers.new) }
 {
     apply_verdict(keepers, policy, history, a, entry)?;

@@ -1,7 +1,6 @@
 //! Rules that ask for figures: sums and counts over orders and fills.
 
-ghost use Rattle.std.specs.Prelude.{◌≡◌, not, find, option_copied, option_map, IfNone, IsTrue};
-ghost use Rattle.gx_history.specs.declared.policy.FileRule.{FileRule};
+ghost use Rattle.std.specs.Prelude.{◌≡◌, option_copied, option_map, IfNone, IsTrue};
 ghost use Rattle.gx_core.specs.Gates.{first_figured, name_of_rule};
 ghost use Rattle.gx_history.specs.Plain.{needs_no_figures, rules_need_no_figures};
 

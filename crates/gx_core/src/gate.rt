@@ -1,18 +1,15 @@
 //! The gate.
 
-ghost use Rattle.std.specs.Prelude.{◌≡◌, ◌+◌, ◌&&◌, max, nat_lt, ◌≤◌, ◌<◌, ◌++◌, [], ◌∷◌, length, IsTrue, IsFalse, IfOk, IfErr, OnErr, Some, is_some};
-ghost use Rattle.gx_units.specs.declared.names.AccountName.{AccountName};
-ghost use Rattle.gx_units.specs.Spelling.{folded_user, folded_password, folded_session};
+ghost use Rattle.std.specs.Prelude.{◌≡◌, ◌+◌, max, [], length, IsTrue, IfOk, IfErr, OnErr, Some, is_some};
 ghost use Rattle.gx_history.specs.Brought.{is_brought};
 ghost use Rattle.gx_history.specs.Effects.{HasNoOrders};
 ghost use Rattle.gx_history.specs.InForce.{line_of, is_closed, is_killed};
 ghost use Rattle.gx_history.specs.Lists.{slice};
-ghost use Rattle.gx_history.specs.Logins.{login_asked};
 ghost use Rattle.gx_history.specs.People.{user_in};
 ghost use Rattle.gx_history.specs.Plain.{rules_need_no_figures};
 ghost use Rattle.gx_history.specs.Showing.{is_askable};
 ghost use Rattle.gx_history.specs.Streams.{stream};
-ghost use Rattle.gx_history.specs.Verdicts.{last_moment, verdict, day_limit, IsLegal};
+ghost use Rattle.gx_history.specs.Verdicts.{last_moment, verdict, IsLegal};
 ghost use Rattle.gx_core.specs.declared.outcome.StepFault.TheVariants as faults;
 ghost use Rattle.gx_core.specs.Gates.{left_by};
 ghost use Rattle.gx_core.specs.Logins.{login_answered};

@@ -1,17 +1,13 @@
 //! A request judged on what the gate keeps of its records.
 
-ghost use Rattle.std.specs.Prelude.{◌≡◌, ◌≤◌, ◌<◌, false, is_some, length, option_map, IsTrue, Some};
-ghost use Rattle.std.specs.Option.{option_map_or};
+ghost use Rattle.std.specs.Prelude.{◌≡◌, ◌≤◌, ◌<◌, is_some, length, IsTrue, Some};
 ghost use Rattle.gx_history.specs.declared.record.Step.TheVariants as steps;
-ghost use Rattle.gx_history.specs.Asking.{are_his, changes, facts, fits_role, has_power, is_on_line, knows_names, knows_user, live_named, named_order, of_command, takes_nothing};
+ghost use Rattle.gx_history.specs.Asking.{changes, facts, fits_role, has_power, is_on_line, knows_user};
 ghost use Rattle.gx_history.specs.Brought.{is_brought};
-ghost use Rattle.gx_history.specs.Executions.{executions};
-ghost use Rattle.gx_history.specs.Orders.{is_token_used};
 ghost use Rattle.gx_history.specs.People.{account_named, account_of, role_in};
-ghost use Rattle.gx_history.specs.Requests.{new_token};
 ghost use Rattle.gx_history.specs.Showing.{answers, is_askable, is_showable};
 ghost use Rattle.gx_history.specs.Verdicts.{day_limit, moment_of, next, verdict, verdict_by};
-ghost use Rattle.gx_orders.specs.InForce.{cuts_nothing, named, order_named, orders_in_force};
+ghost use Rattle.gx_orders.specs.InForce.{cuts_nothing, named};
 ghost use Rattle.gx_people.specs.Entitled.{holds_in_role};
 ghost use Rattle.gx_core.specs.Gates.{left_by};
 ghost use Rattle.gx_core.specs.Known.{accounts_held, change_asked, cuts_none, has_used, is_available_after, named_asked, names_known, order_asked, power_held, role_asking};

@@ -1,6 +1,6 @@
 //! What the policy says of accounts and stocks.
 
-ghost use Rattle.std.specs.Prelude.{◌≡◌, find, is_some};
+ghost use Rattle.std.specs.Prelude.{◌≡◌, find};
 ghost use Rattle.gx_units.specs.Names.{same_account, same_stock};
 ghost use Rattle.gx_history.specs.Asking.{fits_firm, lists_its_stock};
 ghost use Rattle.gx_history.specs.Orders.{firm_of};

@@ -1,7 +1,6 @@
 //! The request that a login makes, and what it is told.
 
 ghost use Rattle.std.specs.Prelude.{◌≡◌};
-ghost use Rattle.gx_units.specs.Spelling.{folded_user, folded_password, folded_session};
 ghost use Rattle.gx_history.specs.Logins.{session_is, first_wanted};
 ghost use Rattle.gx_core.specs.Logins.{login_answer_after, login_asked_of};
 

@@ -1,10 +1,8 @@
 //! Every place that a record can want, made before anything changes.
 
-ghost use Rattle.std.specs.Prelude.{◌≡◌, ◌≤◌, OnOk, IsTrue};
-ghost use Rattle.gx_units.specs.declared.names.UserName.{UserName};
-ghost use Rattle.gx_streams.specs.Kept.{is_known, places_in};
+ghost use Rattle.std.specs.Prelude.{◌≡◌, OnOk, IsTrue};
 ghost use Rattle.gx_streams.specs.Telling.{shown};
-ghost use Rattle.gx_core.specs.Keepers.{killed_account, AreInForce, HasEndPlaces, HasItsPlaces, HasPlaces, HaveEndPlaces, HaveNoFewer, KnowTheSame, KnowsUsers, Takes};
+ghost use Rattle.gx_core.specs.Keepers.{killed_account, AreInForce, HasEndPlaces, IsPlaced, HasPlaces, HaveEndPlaces, HaveNoFewer, KnowTheSame, KnowsUsers, Takes};
 ghost use Rattle.gx_core.specs.Settings.{is_carried};
 
 use crate::keepers::Keepers;
@@ -95,7 +93,7 @@ pub fn keep_places(
     requires takes { Takes policy.now history.now.records a.now entry.now keepers.old }
     requires carried { IsTrue (is_carried a.now.request) }
     ensures kept { AreInForce policy.now history.now.records keepers.new }
-    ensures places { OnOk result (HasItsPlaces policy.now history.now.records entry.now keepers.new) }
+    ensures places { OnOk result (IsPlaced policy.now history.now.records entry.now keepers.new) }
 {
     match killed_account(&a.request, entry.verdict) {
         Some(account) => keep_for_ends(&mut keepers.streams, &keepers.orders, policy, account),

@@ -2,7 +2,7 @@
 
 ghost use Rattle.std.specs.Prelude.{◌≡◌, ◌+◌, length, max, IfOk};
 ghost use Rattle.gx_history.specs.Lists.{slice};
-ghost use Rattle.gx_core.specs.Kept.{is_past_the_end, reports_kept};
+ghost use Rattle.gx_core.specs.Kept.{is_past_the_end, told_kept};
 
 use crate::keepers::Keepers;
 use gx_history::report::Report;
@@ -44,7 +44,7 @@ pub struct Pulled {
 
 /// The user's reports from this number on, 0 counting as 1, and at most so many.
 pub fn pull(keepers: &Keepers, user: UserName, from: u64, most: u64) -> Result<Pulled, OutOfMemory>
-    ensures reports { IfOk result (λ p. p.reports ≡ slice (reports_kept keepers.now user) from most) }
+    ensures reports { IfOk result (λ p. p.reports ≡ slice (told_kept keepers.now user) from most) }
     ensures next { IfOk result (λ p. p.next ≡ max 1 from + length p.reports) }
     ensures ended { IfOk result (λ p. p.ended ≡ is_past_the_end keepers.now user p.next) }
 {

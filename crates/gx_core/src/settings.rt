@@ -1,6 +1,6 @@
 //! Limits, lists of stocks and entitlements, as officers change them.
 
-ghost use Rattle.std.specs.Prelude.{◌≡◌, ◌++◌, ◌∷◌, [], OnOk, OnErr, IsTrue};
+ghost use Rattle.std.specs.Prelude.{◌≡◌, OnOk, OnErr, IsTrue};
 ghost use Rattle.gx_desk.specs.declared.Action.TheVariants as actions;
 ghost use Rattle.gx_history.specs.declared.record.Request.TheVariants as requests;
 ghost use Rattle.gx_history.specs.declared.record.Verdict.TheVariants as verdicts;

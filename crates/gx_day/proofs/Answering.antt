@@ -36,7 +36,9 @@ use Rattle.gx_history_laws.proofs.NextInForce.{is_killed_next, is_killed_none, l
 use Rattle.gx_history_laws.proofs.Order.{none_among, some_same}
 use Rattle.gx_day.specs.DayData.{AccountKill, DayData, UserLine, killed_in, line_in}
 use Rattle.gx_day.specs.InForce.{day_in_force, kill_now, line_now}
-use Rattle.gx_day.proofs.Table.{account_is, both, user_is}
+use Rattle.gx_history_laws.proofs.Adding.{user_is}
+use Rattle.gx_history_laws.proofs.Judging.{both}
+use Rattle.gx_history_laws.proofs.Names.{account_is}
 
 -- a granted record was asked for
 was_granted : (v : Verdict) (s : Step) (a : Asked) → cond (is_granted v) (asked s) None ≡ Some a → (s ≡ steps.Asked a) × (v ≡ verdicts.Granted)

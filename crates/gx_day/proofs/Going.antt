@@ -26,7 +26,7 @@ use Rattle.gx_history_laws.proofs.Keeping.{map_same}
 use Rattle.gx_history_laws.proofs.NextInForce.{is_closed_next, is_closed_none, is_killed_next, is_killed_none, last_moment_next, line_of_next, line_of_none}
 use Rattle.gx_day.specs.DayData.{AccountKill, DayData, UserLine, at_moment, marked, put_on}
 use Rattle.gx_day.specs.InForce.{day_asked, day_commanded, day_in_force, day_with, fresh_day, kill_now, line_now, off_line, unkilled}
-use Rattle.gx_day.proofs.Table.{same_account_flip, same_user_flip}
+use Rattle.gx_history_laws.proofs.Names.{same_account_flip, same_user_flip}
 
 -- two days are the same where their parts are
 same_day : {lines lines' : List UserLine} {kills kills' : List AccountKill} {closed closed' : Bool} {moment moment' : ℕ} → lines ≡ lines' → kills ≡ kills' → closed ≡ closed' → moment ≡ moment'

@@ -4,7 +4,6 @@ use Rattle.std.specs.Prelude.{Option, Some, None, ◌||◌, ◌&&◌, option_and
 use Rattle.std.specs.Option.{option_map_or}
 use Rattle.std.specs.List.{flat_map}
 use Rattle.std.proofs.lemmas.List.{append-nil}
-use Rattle.std.proofs.lemmas.Slice.Eq.{bytes_eq-Decides}
 use Rattle.gx_units.specs.Names.{same_account}
 use Rattle.gx_units.specs.declared.names.AccountName.{AccountName}
 use Rattle.gx_units.specs.declared.names.UserName.{UserName}
@@ -38,12 +37,6 @@ use Rattle.gx_history_laws.proofs.NextInForce.{is_killed_next, is_closed_next, r
 use Rattle.gx_history_laws.proofs.NextOrders.{or_not}
 use Rattle.gx_history_laws.proofs.NextReports.{stream_next}
 use Rattle.gx_history_laws.proofs.Runs.{step_left}
-
-pub account_is : (a b : AccountName) → same_account a b ≡ true → a ≡ b
-account_is a b h = let name : List ℕ → AccountName = λ (bytes : List ℕ). record { bytes = bytes } in ap name ((bytes_eq-Decides a.bytes b.bytes).0 h)
-
-pub account_is_itself : (a : AccountName) → same_account a a ≡ true
-account_is_itself a = (bytes_eq-Decides a.bytes a.bytes).1 refl
 
 -- the record grants the user's command, which asks for the action
 pub record GrantsCommand (r : RecordData) (a : Asked) (action : Action) : Type 0 where

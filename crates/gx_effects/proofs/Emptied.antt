@@ -19,7 +19,7 @@ use Rattle.gx_history_laws.proofs.Judging.{both}
 use Rattle.gx_history_laws.proofs.NextOrders.{rests}
 use Rattle.gx_history_laws.proofs.Numbers.{all_weaker}
 use Rattle.gx_history_laws.proofs.Owners.{all_both, filtered}
-use Rattle.gx_effects.proofs.Commanding.{account_is}
+use Rattle.gx_history_laws.proofs.Names.{account_is}
 use Rattle.gx_effects.proofs.Entered.{all_mapped}
 use Rattle.gx_effects.proofs.NewOrders.{found_is}
 use Rattle.gx_effects.proofs.NotLive.{all_and, killed_are_not_live}

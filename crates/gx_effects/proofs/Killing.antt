@@ -28,8 +28,9 @@ use Rattle.gx_history_laws.proofs.Keeping.{AddsNothing, orders_kept, executions_
 use Rattle.gx_history_laws.proofs.NextInForce.{is_killed_next}
 use Rattle.gx_history_laws.proofs.NextOrders.{standing_after, rests}
 use Rattle.gx_history_laws.proofs.Numbers.{number_left, numbers_are_within}
+use Rattle.gx_history_laws.proofs.Names.{account_is_itself}
 use Rattle.gx_effects.specs.OneMore.{not_ended}
-use Rattle.gx_effects.proofs.Commanding.{GrantsCommand, grants_the_command, account_is_itself, mark_granted, action_granted, command_adds_nothing, ends_by_command, IsKillOrLift, only_kill_changes, told_by_command}
+use Rattle.gx_effects.proofs.Commanding.{GrantsCommand, grants_the_command, mark_granted, action_granted, command_adds_nothing, ends_by_command, IsKillOrLift, only_kill_changes, told_by_command}
 use Rattle.gx_effects.proofs.Lessening.{all_found_changed, rest_on_side}
 use Rattle.gx_effects.proofs.Placing.{filter_swap}
 use Rattle.gx_effects.proofs.Priority.{by_price_filter}

@@ -41,7 +41,8 @@ use Rattle.gx_history_laws.proofs.Granting.{granted_passes, none_behind}
 use Rattle.gx_history_laws.proofs.Keeping.{AddsNothing, EndsNone, positions_kept, live_kept, incoming_kept, resting_kept}
 use Rattle.gx_history_laws.proofs.NextInForce.{is_killed_next}
 use Rattle.gx_history_laws.proofs.Order.{none_among}
-use Rattle.gx_effects.proofs.Commanding.{GrantsCommand, grants_command, grants_the_command, asks_action, account_is, account_is_itself, mark_granted, command_adds_nothing, ends_by_command, IsKillOrLift, only_kill_changes, told_by_command}
+use Rattle.gx_history_laws.proofs.Names.{account_is, account_is_itself}
+use Rattle.gx_effects.proofs.Commanding.{GrantsCommand, grants_command, grants_the_command, asks_action, mark_granted, command_adds_nothing, ends_by_command, IsKillOrLift, only_kill_changes, told_by_command}
 use Rattle.gx_effects.proofs.NotLive.{granted_parts}
 
 -- what a Lift leaves in force

@@ -1,9 +1,8 @@
 -- A granted Login or Logout changes on which line its user is, and nothing else.
-use Rattle.std.proofs.Common.{◌≡◌, ℕ, Bool, true, false, List, [], ◌∷◌, ◌++◌, refl, ◌∙◌, ap, map}
+use Rattle.std.proofs.Common.{◌≡◌, ℕ, Bool, false, List, [], ◌∷◌, ◌++◌, refl, ◌∙◌, ap, map}
 use Rattle.std.specs.Prelude.{Option, Some, None, option_and_then, unwrap_or}
 use Rattle.std.specs.Option.{option_map_or}
 use Rattle.std.proofs.lemmas.List.{append-nil}
-use Rattle.std.proofs.lemmas.Slice.Eq.{bytes_eq-Decides}
 use Rattle.gx_units.specs.Names.{same_user}
 use Rattle.gx_units.specs.declared.names.AccountName.{AccountName}
 use Rattle.gx_units.specs.declared.names.Symbol.{Symbol}
@@ -24,14 +23,11 @@ use Rattle.gx_history.specs.Lists.{where_true}
 use Rattle.gx_history.specs.Requests.{granted_action, action_of}
 use Rattle.gx_history.specs.Streams.{stream, reported, reports_of_grant}
 use Rattle.gx_history.specs.Verdicts.{next}
-use Rattle.gx_history_laws.proofs.Adding.{granted_is}
+use Rattle.gx_history_laws.proofs.Adding.{granted_is, user_is_itself}
 use Rattle.gx_history_laws.proofs.Keeping.{AddsNothing, EndsNone, positions_kept, live_kept, incoming_kept, resting_kept, entitled_kept}
 use Rattle.gx_history_laws.proofs.NextInForce.{is_killed_next, is_closed_next, rules_in_force_next, rules_with, line_of_next}
 use Rattle.gx_history_laws.proofs.NextOrders.{or_not}
 use Rattle.gx_effects.proofs.OrderRequests.{Grants, it_grants, told_by, action_none, mark_none, IsQuiet, quiet_adds_nothing, quiet_ends_none}
-
-user_is_itself : (u : UserName) → same_user u u ≡ true
-user_is_itself u = (bytes_eq-Decides u.bytes u.bytes).1 refl
 
 -- a request that puts its user on this line, and does nothing else
 record PutsOnLine (a : Asked) (q : Request) (on : Option ℕ) : Type 0 where

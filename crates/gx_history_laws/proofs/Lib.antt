@@ -19,3 +19,5 @@ pub mod Adding
 pub mod Tokens
 pub mod Listed
 pub mod PlainRules
+pub mod Names
+pub mod Tables

@@ -3,7 +3,6 @@ use Rattle.std.proofs.Common.{◌≡◌, ℕ, ◌-◌, ◌<◌, Bool, true, fals
 use Rattle.std.specs.Prelude.{Option, Some, None, ◌&&◌, ◌||◌, nat_lt, option_map, option_and_then, option_to_list, slice_get}
 use Rattle.std.specs.Option.{option_map_or}
 use Rattle.std.specs.List.{filter, find, filter_map, cons_option, list_any, last_or, AllByRecursion}
-use Rattle.std.specs.Cmp.Lexicographic.{nat_list_eq_equiv}
 use Rattle.std.proofs.lemmas.Bool.{ltb-true}
 use Rattle.std.proofs.lemmas.List.Elements.{filter_map-append}
 use Rattle.gx_units.specs.Names.{same_user, same_token}
@@ -23,6 +22,7 @@ use Rattle.gx_history_laws.proofs.Adding.{all_pass}
 use Rattle.gx_effects.proofs.NotLive.{all_and}
 use Rattle.gx_history_laws.proofs.Numbers.{all_weaker}
 use Rattle.gx_history_laws.proofs.Owners.{filtered}
+use Rattle.gx_history_laws.proofs.Names.{same_token_flip, same_user_flip}
 use Rattle.gx_orders.specs.declared.live_order.LiveOrder.{LiveOrder}
 use Rattle.gx_orders.specs.declared.live_order.UserToken.{UserToken}
 use Rattle.gx_orders.specs.LiveOrders.{first_waiting, is_under, is_used, key, order_under, same_user_token, waiting}
@@ -144,12 +144,6 @@ open_is policy history =
     (all_pass is_live (map (standing (executions policy history) history) (orders policy history))))
 
 -- the token is used where some record uses it
-flip_user : (a b : UserName) → same_user a b ≡ same_user b a
-flip_user a b = nat_list_eq_equiv.symm a.bytes b.bytes
-
-flip_token : (a b : Token) → same_token a b ≡ same_token b a
-flip_token a b = nat_list_eq_equiv.symm a.bytes b.bytes
-
 or_false : (b : Bool) → (b || false) ≡ b
 or_false true = refl
 or_false false = refl
@@ -168,7 +162,7 @@ asks_so user token (Some a) = at (new_token a.request)
     at None = and_false (same_user a.user user)
     at (Some t) =
         or_false (same_user user a.user && same_token token t)
-        ∙ ap (λ (b : Bool). b && same_token token t) (flip_user user a.user) ∙ ap (λ (b : Bool). same_user a.user user && b) (flip_token token t)
+        ∙ ap (λ (b : Bool). b && same_token token t) (same_user_flip user a.user) ∙ ap (λ (b : Bool). same_user a.user user && b) (same_token_flip token t)
 
 uses_so : (user : UserName) (token : Token) (r : RecordData)
     → list_any (same_user_token (key user token)) (option_to_list (token_used_by r)) ≡ record_uses user token r

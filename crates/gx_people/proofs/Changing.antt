@@ -17,7 +17,7 @@ use Rattle.gx_history.specs.declared.record.RecordData.{RecordData}
 use Rattle.gx_history.specs.People.{is_reader, role_in, user_in, reader_in}
 use Rattle.gx_history.specs.Requests.{granted_actions}
 use Rattle.gx_people.specs.Entitled.{change_role, with_account, without_account, granted_to, revoked_from, given, people_in_force}
-use Rattle.gx_people.proofs.Table.{some_is}
+use Rattle.gx_history_laws.proofs.Order.{some_same}
 
 -- the user of a name, after a role changed
 pub user_changed : (n : UserName) (f : Role → Role) (users : List User) (name : UserName)
@@ -83,7 +83,7 @@ word_of : {Y : Type 0} (k : Option Role → Y) (o p : Option User) → option_ma
 word_of k None None e = refl
 word_of k None (Some v) e = absurd (true≢false (some_not_none (sym e)))
 word_of k (Some u) None e = absurd (true≢false (some_not_none e))
-word_of k (Some u) (Some v) e = some_is e
+word_of k (Some u) (Some v) e = some_same e
 
 -- a word on the role of a user, after one more command
 pub given_word : {Y : Type 0} (k : Option Role → Y) → RoleStays (λ r. k (Some r)) → (users : List User) (action : Action) (name : UserName)

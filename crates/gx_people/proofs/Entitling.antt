@@ -1,11 +1,10 @@
 -- Grants and revocations one by one leave what the last of them says.
-use Rattle.std.proofs.Common.{◌≡◌, ℕ, Bool, true, false, ◌&&◌, ◌||◌, not, cond, List, [], ◌∷◌, ◌++◌, map, fold, refl, ap, sym, ◌∙◌, true≢false, subst, if◌then◌else◌}
+use Rattle.std.proofs.Common.{◌≡◌, Bool, true, false, ◌&&◌, ◌||◌, not, cond, List, [], ◌∷◌, ◌++◌, map, fold, refl, ap, sym, ◌∙◌, true≢false, subst, if◌then◌else◌}
 use Rattle.std.specs.Prelude.{Option, Some, None, option_map, option_and_then, is_some, find, unwrap_or, filter, filter_map}
 use Rattle.std.specs.Option.{option_map_or}
 use Rattle.std.specs.List.{last_or, cons_option}
 use Rattle.std.proofs.lemmas.List.Folds.{list_any-append}
 use Rattle.std.proofs.lemmas.Map.Views.{any-filter_same}
-use Rattle.std.specs.Cmp.Lexicographic.{nat_list_eq_equiv}
 use Rattle.std.proofs.lemmas.Slice.Eq.{bytes_eq-Decides}
 use Rattle.gx_units.specs.Names.{same_user, same_account, has_no_lower_case}
 use Rattle.gx_units.specs.declared.names.AccountName.{AccountName}
@@ -25,16 +24,12 @@ use Rattle.gx_history.specs.Lists.{last_value, where_true}
 use Rattle.gx_history.specs.People.{is_reader, role_in, names_account, user_in, reader_in}
 use Rattle.gx_history.specs.Requests.{granted, granted_actions, granted_mark, action_of}
 use Rattle.gx_history.specs.Soundness.{is_sound}
+use Rattle.gx_history_laws.proofs.Adding.{user_is}
+use Rattle.gx_history_laws.proofs.Names.{account_is, same_account_flip}
+use Rattle.gx_history_laws.proofs.Order.{some_same}
 use Rattle.gx_people.specs.Entitled.{change_role, with_account, without_account, granted_to, revoked_from, given, people_in_force, sees}
-use Rattle.gx_people.proofs.Table.{some_is, user_is}
 use Rattle.gx_people.proofs.Spelling.{AreUpper, same_written, sound_upper}
 use Rattle.gx_people.proofs.Changing.{user_changed, role_word, reader_stays, given_word}
-
-account_is : (a b : AccountName) → same_account a b ≡ true → a ≡ b
-account_is a b h = let name : List ℕ → AccountName = λ (bytes : List ℕ). record { bytes = bytes } in ap name ((bytes_eq-Decides a.bytes b.bytes).0 h)
-
-same_account_flip : (a b : AccountName) → same_account a b ≡ same_account b a
-same_account_flip a b = nat_list_eq_equiv.symm a.bytes b.bytes
 
 or_false : (b : Bool) → (b || false) ≡ b
 or_false true = refl
@@ -88,7 +83,7 @@ found_name [] name u e = absurd (true≢false (sym (ap is_some e)))
 found_name (v ∷ us) name u e = by (same_user v.name name) refl e (λ later. found_name us name u later)
   where
     by : (b : Bool) → same_user v.name name ≡ b → cond b (Some v) (user_in us name) ≡ Some u → (user_in us name ≡ Some u → u.name ≡ name) → u.name ≡ name
-    by true is e later = ap (λ (w : User). w.name) (sym (some_is e)) ∙ user_is v.name name is
+    by true is e later = ap (λ (w : User). w.name) (sym (some_same e)) ∙ user_is v.name name is
     by false is e later = later e
 
 sees_found : (users : List User) (r : UserName) (x : AccountName) (found : Option User) → user_in users r ≡ found
@@ -175,7 +170,7 @@ found_upper test (v ∷ us) u upper e = by (test v) refl e (λ later. found_uppe
   where
     by : (b : Bool) → test v ≡ b → cond b (Some v) (find test us) ≡ Some u → (find test us ≡ Some u → (has_no_lower_case u.name.bytes ≡ true) × (test u ≡ true))
         → (has_no_lower_case u.name.bytes ≡ true) × (test u ≡ true)
-    by true is e later = subst (λ (w : User). (has_no_lower_case w.name.bytes ≡ true) × (test w ≡ true)) (some_is e) (upper.0, is)
+    by true is e later = subst (λ (w : User). (has_no_lower_case w.name.bytes ≡ true) × (test w ≡ true)) (some_same e) (upper.0, is)
     by false is e later = later e
 
 -- where the first test finds nothing, what the second finds fails the first
@@ -186,7 +181,7 @@ found_fails test other (v ∷ us) u none e = by (test v) (other v) refl none e (
     by : (b c : Bool) → test v ≡ b → cond b (Some v) (find test us) ≡ None → cond c (Some v) (find other us) ≡ Some u
         → (find test us ≡ None → find other us ≡ Some u → test u ≡ false) → test u ≡ false
     by true c is none e later = absurd (true≢false (ap is_some none))
-    by false true is none e later = ap test (sym (some_is e)) ∙ is
+    by false true is none e later = ap test (sym (some_same e)) ∙ is
     by false false is none e later = later none e
 
 left_of : (a b : Bool) → (a && b) ≡ true → a ≡ true

@@ -21,7 +21,8 @@ use Rattle.gx_history.specs.Requests.{granted_action}
 use Rattle.gx_history.specs.Soundness.{is_sound}
 use Rattle.gx_people.specs.Entitled.{given, granted_to, has, has_in_role, holds, holds_in_role, people_in_force, power_of, revoked_from, sees}
 use Rattle.gx_history_laws.proofs.NextInForce.{granted_next}
-use Rattle.gx_people.proofs.Table.{is_some_map, map_or, some_is}
+use Rattle.gx_history_laws.proofs.Order.{some_same}
+use Rattle.gx_people.proofs.Table.{is_some_map, map_or}
 use Rattle.gx_people.proofs.Changing.{RoleStays, reader_in_force, role_word, stays_in_force}
 use Rattle.gx_people.proofs.Entitling.{kept}
 
@@ -128,7 +129,7 @@ grants_go users written account reader = by (reader_in users written)
   where
     by : (found : Option User) → option_map (λ (u : User). u.name) found ≡ Some reader → option_map_or (λ (u : User). granted_to u.name account users) found users ≡ granted_to reader account users
     by None e = absurd (true≢false (sym (ap is_some e)))
-    by (Some u) e = ap (λ (name : UserName). granted_to name account users) (some_is e)
+    by (Some u) e = ap (λ (name : UserName). granted_to name account users) (some_same e)
 
 pub revocations_go : (users : List User) (written : WrittenName) (account : AccountName) (reader : UserName)
     → option_map (λ (u : User). u.name) (reader_in users written) ≡ Some reader → given users (actions.Revoke written account) ≡ revoked_from reader account users
@@ -136,4 +137,4 @@ revocations_go users written account reader = by (reader_in users written)
   where
     by : (found : Option User) → option_map (λ (u : User). u.name) found ≡ Some reader → option_map_or (λ (u : User). revoked_from u.name account users) found users ≡ revoked_from reader account users
     by None e = absurd (true≢false (sym (ap is_some e)))
-    by (Some u) e = ap (λ (name : UserName). revoked_from name account users) (some_is e)
+    by (Some u) e = ap (λ (name : UserName). revoked_from name account users) (some_same e)

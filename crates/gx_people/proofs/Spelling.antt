@@ -13,7 +13,7 @@ use Rattle.gx_desk.specs.declared.WrittenName.{WrittenName}
 use Rattle.gx_history.specs.declared.policy.PolicyData.{PolicyData}
 use Rattle.gx_history.specs.declared.policy.User.{User}
 use Rattle.gx_history.specs.Soundness.{is_sound, is_user_sound, is_padded, is_folded, is_visible}
-use Rattle.gx_people.proofs.Table.{both}
+use Rattle.gx_history_laws.proofs.Judging.{both}
 
 back_by : (low high : Bool) (c : ℕ) → nat_lt c 65 ≡ low → nat_lt c 91 ≡ high → not (is_lower_case c) ≡ true → to_ascii_uppercase (cond low c (cond high (c + 32) c)) ≡ c
 back_by true high c l h upper = grind (arith, nat_tests)

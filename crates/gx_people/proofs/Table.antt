@@ -1,13 +1,13 @@
 -- What the table of persons says of the users that it stands for.
-use Rattle.std.proofs.Common.{◌≡◌, Bool, true, false, cond, not, ◌&&◌, List, [], ◌∷◌, ◌++◌, map, refl, ◌∙◌, sym, ap, subst, true≢false, if◌then◌else◌, ℕ, ◌+◌, ◌<◌, length, take, drop, get_or, append_assoc}
+use Rattle.std.proofs.Common.{◌≡◌, Bool, true, false, cond, ◌&&◌, List, [], ◌∷◌, ◌++◌, map, refl, ◌∙◌, sym, ap, subst, true≢false, if◌then◌else◌, ℕ, ◌+◌, ◌<◌, length, take, get_or}
 use Rattle.std.specs.Option.{option_map_or}
-use Rattle.std.specs.Prelude.{Option, Some, None, option_map, is_some, ◌||◌}
-use Rattle.std.specs.List.{list_any, AllByRecursion, IsDistinct}
+use Rattle.std.specs.Prelude.{Option, Some, None, option_map, is_some}
+use Rattle.std.specs.List.{AllByRecursion, IsDistinct}
 use Rattle.std.specs.Map.{keys_of, lookup, set_value}
-use Rattle.std.specs.Cmp.Lexicographic.{nat_list_eq_equiv}
-use Rattle.std.proofs.lemmas.Slice.Eq.{bytes_eq-Decides}
-use Rattle.std.proofs.lemmas.List.{take_more, take-append-drop}
+use Rattle.std.proofs.lemmas.List.{map-append, take_more}
+use Rattle.std.proofs.lemmas.Simd.{map-map}
 use Rattle.indexmap.specs.IndexMap.{insert_entry}
+use Rattle.indexmap.proofs.MapLemmas.{insert_entry-absent}
 use Rattle.gx_units.specs.Names.{same_user}
 use Rattle.gx_units.specs.declared.names.AccountName.{AccountName}
 use Rattle.gx_units.specs.declared.names.Password.{Password}
@@ -16,21 +16,18 @@ use Rattle.gx_desk.specs.Names.{is_written}
 use Rattle.gx_desk.specs.declared.WrittenName.{WrittenName}
 use Rattle.gx_history.specs.declared.policy.Role.{Role}
 use Rattle.gx_history.specs.declared.policy.User.{User}
-use Rattle.gx_history.specs.declared.policy.PolicyData.{PolicyData}
 use Rattle.gx_history.specs.Lists.{are_distinct}
 use Rattle.gx_history.specs.InForce.{in_role}
 use Rattle.gx_history.specs.Logins.{password_is, same_password}
 use Rattle.gx_history.specs.People.{is_reader, user_in, role_in, reader_in}
-use Rattle.gx_history.specs.Soundness.{is_sound, names_differ}
+use Rattle.gx_history_laws.proofs.Adding.{user_is, user_is_itself}
+use Rattle.gx_history_laws.proofs.Judging.{both}
+use Rattle.gx_history_laws.proofs.Names.{same_user_flip}
+use Rattle.gx_history_laws.proofs.Order.{some_same}
+use Rattle.gx_history_laws.proofs.Tables.{changed_in_place, new_next}
 use Rattle.gx_people.specs.Entitled.{change_role, sees}
 use Rattle.gx_people.specs.View.{role_of_standing, user_of, users_of}
 use Rattle.gx_people.specs.declared.person.Person.{Person}
-
-pub same_user_flip : (a b : UserName) → same_user a b ≡ same_user b a
-same_user_flip a b = nat_list_eq_equiv.symm a.bytes b.bytes
-
-pub user_is : (a b : UserName) → same_user a b ≡ true → a ≡ b
-user_is a b h = let name : List ℕ → UserName = λ (bytes : List ℕ). record { bytes = bytes } in ap name ((bytes_eq-Decides a.bytes b.bytes).0 h)
 
 -- what the person found by a name says, the user of that name says
 found_as : {Y : Type 0} (of_user : User → Y) (of_person : Person → Y) → ((e : UserName × Person) → of_user (user_of e) ≡ of_person e.1)
@@ -71,47 +68,23 @@ user_found entries name =
     ∙ ap is_some (password_found entries name)
     ∙ is_some_map (λ (p : Person). p.password) (lookup (same_user name) entries)
 
--- where no entry has the name, no user changes
-none_changed : (f : Role → Role) (name : UserName) (entries : List (UserName × Person)) → AllByRecursion (λ other. same_user name other ≡ false) (keys_of entries)
-    → map (change_role name f) (users_of entries) ≡ users_of entries
-none_changed f name [] apart = refl
-none_changed f name (e ∷ es) apart =
-    let role : Role = role_of_standing e.1.standing in
-    let stays : change_role name f (user_of e) ≡ user_of e =
-    ap (λ b. record { name = e.0; password = e.1.password; role = if b then f role else role }) (same_user_flip e.0 name ∙ apart.0)
-    in
-    ap (λ u. u ∷ map (change_role name f) (users_of es)) stays ∙ ap (λ us. user_of e ∷ us) (none_changed f name es apart.1)
-
-pub some_is : {X : Type 0} {x y : X} → Some x ≡ Some y → x ≡ y
-some_is {X} {x} {y} h = ap (λ (o : Option X). elim o [ None ↦ x | Some z ↦ z ]) h
+-- the user of an entry with another role, if it is the one
+abbrev in_role_if : (Role → Role) → UserName × Person → Bool → User
+in_role_if f e b = record { name = e.0; password = e.1.password; role = if b then f (role_of_standing e.1.standing) else role_of_standing e.1.standing }
 
 -- the person of this name, with another role
-pub changed_in_place : (f : Role → Role) (name : UserName) (entries : List (UserName × Person)) (before after : Person)
+pub role_written : (f : Role → Role) (name : UserName) (entries : List (UserName × Person)) (before after : Person)
     → IsDistinct same_user (keys_of entries) → lookup (same_user name) entries ≡ Some before
     → after.password ≡ before.password → role_of_standing after.standing ≡ f (role_of_standing before.standing)
     → users_of (set_value (same_user name) entries after) ≡ map (change_role name f) (users_of entries)
-unfolding IsDistinct
-changed_in_place f name [] before after distinct found password role = refl
-changed_in_place f name (e ∷ es) before after distinct found password role =
-    by (same_user name e.0) refl (λ found_later. changed_in_place f name es before after distinct.1 found_later password role)
+role_written f name entries before after distinct found password role =
+    changed_in_place same_user user_is user_of (change_role name f) name after (λ e apart. ap (in_role_if f e) (same_user_flip e.0 name ∙ apart)) entries distinct
+    (λ e at is. ap (in_role_if f e) (same_user_flip e.0 name ∙ is) ∙ ap (λ (p : Person). in_role_if f (e.0, p) true) (some_same (sym at ∙ found)) ∙ as_now e.0)
   where
-    by : (b : Bool) → same_user name e.0 ≡ b
-        → (lookup (same_user name) es ≡ Some before → users_of (set_value (same_user name) es after) ≡ map (change_role name f) (users_of es))
-        → users_of (set_value (same_user name) (e ∷ es) after) ≡ map (change_role name f) (users_of (e ∷ es))
-    by true is later =
-        let is_it : e.1 ≡ before = some_is (sym (ap (λ b. cond b (Some e.1) (lookup (same_user name) es)) is) ∙ found) in
-        let named : name ≡ e.0 = user_is name e.0 is in
-        let user : Password → Role → User = λ (p : Password) (r : Role). record { name = e.0; password = p; role = r } in
-        ap (λ b. users_of (cond b ((e.0, after) ∷ es) (e ∷ set_value (same_user name) es after))) is
-        ∙ ap (λ p. user p (role_of_standing after.standing) ∷ users_of es) (password ∙ ap (λ (q : Person). q.password) (sym is_it))
-        ∙ ap (λ r. user e.1.password r ∷ users_of es) (role ∙ ap (λ (q : Person). f (role_of_standing q.standing)) (sym is_it))
-        ∙ ap (λ b. user e.1.password (if b then f (role_of_standing e.1.standing) else role_of_standing e.1.standing) ∷ users_of es) (sym (same_user_flip e.0 name ∙ is))
-        ∙ ap (λ us. change_role name f (user_of e) ∷ us) (sym (none_changed f name es (subst (λ (n : UserName). AllByRecursion (λ other. same_user n other ≡ false) (keys_of es)) (sym named) distinct.0)))
-    by false is later =
-        let role_now : Role = role_of_standing e.1.standing in
-        ap (λ b. users_of (cond b ((e.0, after) ∷ es) (e ∷ set_value (same_user name) es after))) is
-        ∙ ap (λ us. user_of e ∷ us) (later (sym (ap (λ b. cond b (Some e.1) (lookup (same_user name) es)) is) ∙ found))
-        ∙ ap (λ b. (record { name = e.0; password = e.1.password; role = if b then f role_now else role_now }) ∷ map (change_role name f) (users_of es)) (sym (same_user_flip e.0 name ∙ is))
+    as_now : (n : UserName) → in_role_if f (n, before) true ≡ user_of (n, after)
+    as_now n =
+        let user : Password → Role → User = λ (p : Password) (r : Role). record { name = n; password = p; role = r } in
+        ap (λ p. user p (f (role_of_standing before.standing))) (sym password) ∙ ap (user after.password) (sym role)
 
 nothing_changed : (name : UserName) (entries : List (UserName × Person)) → map (change_role name (λ r. r)) (users_of entries) ≡ users_of entries
 nothing_changed name [] = refl
@@ -126,68 +99,27 @@ pub same_in_place : (name : UserName) (entries : List (UserName × Person)) (bef
     → after.password ≡ before.password → role_of_standing after.standing ≡ role_of_standing before.standing
     → users_of (set_value (same_user name) entries after) ≡ users_of entries
 same_in_place name entries before after distinct found password role =
-    changed_in_place (λ r. r) name entries before after distinct found password role ∙ nothing_changed name entries
-
-pub both : (a b : Bool) → (a && b) ≡ true → (a ≡ true) × (b ≡ true)
-both true true h = (refl, refl)
-both true false h = absurd (true≢false (sym h))
-both false b h = absurd (true≢false (sym h))
-
-is_false : (b : Bool) → not b ≡ true → b ≡ false
-is_false true h = absurd (true≢false (sym h))
-is_false false h = refl
-
--- no two users of a sound policy have one name
-pub users_differ : (policy : PolicyData) → is_sound policy ≡ true → are_distinct (λ (a b : User). same_user a.name b.name) policy.users ≡ true
-unfolding is_sound
-users_differ policy h =
-    let names : names_differ policy ≡ true = (both _ _ (both _ _ (both _ _ (both _ _ (both _ _ (both _ _ h).0).0).0).0).0).1 in
-    (both _ _ (both _ _ names).0).1
-
-left_false : (a b : Bool) → (a || b) ≡ false → a ≡ false
-left_false true b h = h
-left_false false b h = refl
-
-right_false : (a b : Bool) → (a || b) ≡ false → b ≡ false
-right_false true b h = absurd (true≢false h)
-right_false false b h = h
-
-apart_inside : (test : User → Bool) (before : List User) (u : User) (rest : List User) → list_any test (before ++ u ∷ rest) ≡ false → test u ≡ false
-apart_inside test [] u rest h = left_false (test u) (list_any test rest) h
-apart_inside test (v ∷ before) u rest h = apart_inside test before u rest (right_false (test v) (list_any test (before ++ u ∷ rest)) h)
-
--- a user of a new name goes last
-added : (entries : List (UserName × Person)) (name : UserName) (person : Person) (rest : List User)
-    → are_distinct (λ (a b : User). same_user a.name b.name) (users_of entries ++ user_of (name, person) ∷ rest) ≡ true
-    → users_of (insert_entry same_user entries name person) ≡ users_of entries ++ user_of (name, person) ∷ []
-added [] name person rest differ = refl
-added (e ∷ es) name person rest differ =
-    let parts = both (not (list_any (λ (b : User). same_user e.0 b.name) (users_of es ++ user_of (name, person) ∷ rest))) _ differ in
-    let apart : same_user name e.0 ≡ false =
-    same_user_flip name e.0 ∙ apart_inside (λ (b : User). same_user e.0 b.name) (users_of es) (user_of (name, person)) rest (is_false _ parts.0)
-    in
-    ap (λ b. users_of (if b then (e.0, person) ∷ es else e ∷ insert_entry same_user es name person)) apart
-    ∙ ap (λ us. user_of e ∷ us) (added es name person rest parts.1)
+    role_written (λ r. r) name entries before after distinct found password role ∙ nothing_changed name entries
 
 -- one more of the policy's users
 pub added_next : (entries : List (UserName × Person)) (name : UserName) (person : Person) (users : List User) (i : ℕ) (u : User)
     → are_distinct (λ (a b : User). same_user a.name b.name) users ≡ true → users_of entries ≡ take i users → i < length users → u ≡ get_or users i u → user_of (name, person) ≡ u
     → users_of (insert_entry same_user entries name person) ≡ take (i + 1) users
 added_next entries name person users i u differ are within at is =
-    let front : users_of entries ++ user_of (name, person) ∷ [] ≡ take (i + 1) users =
-    ap (λ us. us ++ user_of (name, person) ∷ []) are ∙ ap (λ v. take i users ++ v ∷ []) (is ∙ at) ∙ sym (take_more users i u within)
+    let named : User → UserName = λ (v : User). v.name in
+    let names : map named (take i users) ≡ keys_of entries = ap (map named) (sym are) ∙ map-map named user_of entries in
+    let new : AllByRecursion (λ k. same_user u.name k ≡ false) (keys_of entries) =
+    subst (AllByRecursion (λ k. same_user u.name k ≡ false)) names (new_next same_user same_user_flip named users i u u differ within at)
     in
-    let whole : users_of entries ++ user_of (name, person) ∷ drop (i + 1) users ≡ users =
-    sym (append_assoc (users_of entries) (user_of (name, person) ∷ []) (drop (i + 1) users)) ∙ ap (λ us. us ++ drop (i + 1) users) front ∙ take-append-drop (i + 1) users
-    in
-    added entries name person (drop (i + 1) users) (ap (are_distinct (λ (a b : User). same_user a.name b.name)) whole ∙ differ) ∙ front
+    ap users_of (insert_entry-absent same_user name person entries (subst (λ (n : UserName). AllByRecursion (λ k. same_user n k ≡ false) (keys_of entries)) (sym (ap named is)) new))
+    ∙ map-append user_of entries ((name, person) ∷ [])
+    ∙ ap (λ us. us ++ user_of (name, person) ∷ []) are
+    ∙ ap (λ v. take i users ++ v ∷ []) (is ∙ at)
+    ∙ sym (take_more users i u within)
 
 -- where no entry has the name, its role is not known
 pub nobody_reads : (entries : List (UserName × Person)) (name : UserName) → lookup (same_user name) entries ≡ None → is_reader (role_in (users_of entries) name) ≡ false
 nobody_reads entries name none = ap is_reader (role_found entries name ∙ ap (option_map (λ (p : Person). role_of_standing p.standing)) none)
-
-user_is_itself : (a : UserName) → same_user a a ≡ true
-user_is_itself a = (bytes_eq-Decides a.bytes a.bytes).1 refl
 
 -- a reader among entries that do not have the name does not have it
 apart_from : (name : UserName) (entries : List (UserName × Person)) (written : WrittenName) (u : User) → AllByRecursion (λ other. same_user name other ≡ false) (keys_of entries)
@@ -197,7 +129,7 @@ apart_from name (e ∷ es) written u apart found =
     by (is_written written e.0 && is_reader (Some (role_of_standing e.1.standing))) found (λ later. apart_from name es written u apart.1 later)
   where
     by : (b : Bool) → cond b (Some (user_of e)) (reader_in (users_of es) written) ≡ Some u → (reader_in (users_of es) written ≡ Some u → same_user name u.name ≡ false) → same_user name u.name ≡ false
-    by true is later = ap (λ (w : User). same_user name w.name) (sym (some_is is)) ∙ apart.0
+    by true is later = ap (λ (w : User). same_user name w.name) (sym (some_same is)) ∙ apart.0
     by false is later = later is
 
 -- the user found as a reader is one by his name too
@@ -214,7 +146,7 @@ found_reads (e ∷ es) written u distinct found =
     by : (b : Bool) → (is_written written e.0 && is_reader (Some (role_of_standing e.1.standing))) ≡ b → cond b (Some (user_of e)) (reader_in (users_of es) written) ≡ Some u
         → (reader_in (users_of es) written ≡ Some u → is_reader (role_in (users_of es) u.name) ≡ true) → is_reader (role_in (users_of (e ∷ es)) u.name) ≡ true
     by true test is later =
-        ap (λ (w : User). is_reader (role_in (users_of (e ∷ es)) w.name)) (sym (some_is is))
+        ap (λ (w : User). is_reader (role_in (users_of (e ∷ es)) w.name)) (sym (some_same is))
         ∙ ap (λ b. is_reader (role_at b e.0)) (user_is_itself e.0)
         ∙ (both (is_written written e.0) (is_reader (Some (role_of_standing e.1.standing))) test).1
     by false test is later =
@@ -226,7 +158,7 @@ named_reads entries written name distinct = by (reader_in (users_of entries) wri
   where
     by : (found : Option User) → reader_in (users_of entries) written ≡ found → Some name ≡ option_map (λ (u : User). u.name) found → is_reader (role_in (users_of entries) name) ≡ true
     by None is e = absurd (true≢false (ap is_some e))
-    by (Some u) is e = ap (λ (n : UserName). is_reader (role_in (users_of entries) n)) (some_is e) ∙ found_reads entries written u distinct is
+    by (Some u) is e = ap (λ (n : UserName). is_reader (role_in (users_of entries) n)) (some_same e) ∙ found_reads entries written u distinct is
 
 -- what the person found sees
 pub seen_found : (entries : List (UserName × Person)) (name : UserName) (account : AccountName) (p : Person) → Some p ≡ lookup (same_user name) entries

@@ -2,7 +2,6 @@
 use Rattle.std.proofs.Common.{◌≡◌, Bool, true, false, cond, List, [], ◌∷◌, map, refl, ◌∙◌, ap, sym}
 use Rattle.std.specs.Prelude.{Option, Some, None, find, is_some}
 use Rattle.std.specs.Option.{option_map_or}
-use Rattle.std.specs.Cmp.Lexicographic.{nat_list_eq_equiv}
 use Rattle.gx_units.specs.Names.{same_user}
 use Rattle.gx_units.specs.declared.names.UserName.{UserName}
 use Rattle.gx_history.specs.declared.policy.PolicyData.{PolicyData}
@@ -13,6 +12,7 @@ use Rattle.gx_history.specs.People.{user_in}
 use Rattle.gx_history.specs.Streams.{stream}
 use Rattle.gx_history.specs.Verdicts.{IsLegal}
 use Rattle.gx_history_laws.proofs.Adding.{user_is}
+use Rattle.gx_history_laws.proofs.Names.{same_user_flip}
 use Rattle.gx_streams.specs.Kept.{UserList, is_known, items_in, list_of}
 use Rattle.gx_streams.specs.Streams.{AllStreams, reports_in}
 use Rattle.gx_streams.specs.Telling.{UserReports, shown, shown_list, told_after, told_of}
@@ -36,9 +36,6 @@ known_in_shown user (l ∷ ls) =
     elim (same_user user l.user) as (λ b. is_some (cond b (Some l) (list_of ls user)) ≡ is_some (cond b (Some (shown_list l)) (found_for user (map shown_list ls))))
     [ true ↦ refl | false ↦ known_in_shown user ls ]
 
-either_way : (user : UserName) (u : User) → same_user u.name user ≡ same_user user u.name
-either_way user u = nat_list_eq_equiv.symm u.name.bytes user.bytes
-
 in_told : (policy : PolicyData) (history : List RecordData) (user : UserName) (users : List User)
     → reports_for user (map (told_of policy history) users) ≡ option_map_or (λ (u : User). stream policy history user) (user_in users user) []
 in_told policy history user [] = refl
@@ -51,8 +48,8 @@ in_told policy history user (u ∷ us) = by (same_user user u.name) refl (in_tol
     his b = option_map_or (λ (x : User). stream policy history user) (cond b (Some u) (user_in us user)) []
 
     by : (b : Bool) → same_user user u.name ≡ b → told false ≡ his false → told (same_user user u.name) ≡ his (same_user u.name user)
-    by true is later = ap told is ∙ ap (stream policy history) (sym (user_is user u.name is)) ∙ sym (ap his (either_way user u ∙ is))
-    by false is later = ap told is ∙ later ∙ sym (ap his (either_way user u ∙ is))
+    by true is later = ap told is ∙ ap (stream policy history) (sym (user_is user u.name is)) ∙ sym (ap his (same_user_flip u.name user ∙ is))
+    by false is later = ap told is ∙ later ∙ sym (ap his (same_user_flip u.name user ∙ is))
 
 known_in_told : (policy : PolicyData) (history : List RecordData) (user : UserName) (users : List User)
     → is_some (found_for user (map (told_of policy history) users)) ≡ is_some (user_in users user)
@@ -60,7 +57,7 @@ known_in_told policy history user [] = refl
 known_in_told policy history user (u ∷ us) =
     elim (same_user user u.name) as (λ b. is_some (cond b (Some (told_of policy history u)) (found_for user (map (told_of policy history) us))) ≡ is_some (cond b (Some u) (user_in us user)))
     [ true ↦ refl | false ↦ known_in_told policy history user us ]
-    ∙ sym (ap (λ b. is_some (cond b (Some u) (user_in us user))) (either_way user u))
+    ∙ sym (ap (λ b. is_some (cond b (Some u) (user_in us user))) (same_user_flip u.name user))
 
 shown_is : (policy : PolicyData) (history : List RecordData) (streams : AllStreams) → shown streams ≡ told_after policy history
     → map shown_list streams.told ≡ map (told_of policy history) policy.users

@@ -5,7 +5,8 @@ use Rattle.gx_history.specs.Lists.{are_distinct}
 use Rattle.gx_history.specs.declared.policy.Account.{Account}
 use Rattle.gx_day.specs.InForce.{unkilled}
 use Rattle.gx_day.specs.View.{kills_of}
-use Rattle.gx_day.proofs.Table.{accounts_differ, added_next, kills_begin, same_account_flip}
+use Rattle.gx_history_laws.proofs.Names.{accounts_differ, same_account_flip}
+use Rattle.gx_day.proofs.Table.{added_next, kills_begin}
 use Rattle.gx_day.proofs.day.no_kills.Goals as goal
 
 -- one more account

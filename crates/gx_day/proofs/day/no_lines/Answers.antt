@@ -6,7 +6,8 @@ use Rattle.gx_history.specs.Lists.{are_distinct}
 use Rattle.gx_history.specs.declared.policy.User.{User}
 use Rattle.gx_day.specs.InForce.{off_line}
 use Rattle.gx_day.specs.View.{lines_of}
-use Rattle.gx_day.proofs.Table.{added_next, lines_begin, same_user_flip, users_differ}
+use Rattle.gx_history_laws.proofs.Names.{same_user_flip, users_differ}
+use Rattle.gx_day.proofs.Table.{added_next, lines_begin}
 use Rattle.gx_day.proofs.day.no_lines.Goals as goal
 
 -- one more user

@@ -5,7 +5,7 @@ use Rattle.gx_people.specs.Entitled.{granted_to, sees, with_account}
 use Rattle.gx_people.specs.View.{role_of_standing, users_of}
 use Rattle.gx_people.specs.declared.person.Person.{Person}
 use Rattle.gx_people.proofs.Entitling.{granted_pair}
-use Rattle.gx_people.proofs.Table.{changed_in_place, same_in_place, nobody_reads, seen_found}
+use Rattle.gx_people.proofs.Table.{role_written, same_in_place, nobody_reads, seen_found}
 use Rattle.gx_people.proofs.people.People.grant.Goals as goal
 
 -- the reader is known
@@ -23,7 +23,7 @@ returns c =
     let new_is =
     λ (done : role_of_standing after.standing ≡ with_account c.args.account (role_of_standing before.standing)).
     written
-    ∙ changed_in_place (with_account c.args.account) c.args.reader entries before after c.in-Some.ensures.unique (sym c.in-Some.ensures.value) refl done
+    ∙ role_written (with_account c.args.account) c.args.reader entries before after c.in-Some.ensures.unique (sym c.in-Some.ensures.value) refl done
     ∙ ap (granted_to c.args.reader c.args.account) c.self.view_is
     in
     record {

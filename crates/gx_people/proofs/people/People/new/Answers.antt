@@ -4,7 +4,8 @@ use Rattle.gx_history.specs.Lists.{are_distinct}
 use Rattle.gx_history.specs.declared.policy.Role.{Role}
 use Rattle.gx_history.specs.declared.policy.User.{User}
 use Rattle.gx_people.specs.View.{users_of}
-use Rattle.gx_people.proofs.Table.{added_next, users_differ}
+use Rattle.gx_history_laws.proofs.Names.{users_differ}
+use Rattle.gx_people.proofs.Table.{added_next}
 use Rattle.gx_people.proofs.people.People.new.Goals as goal
 
 -- one more user

@@ -4,7 +4,7 @@ use Rattle.gx_people.specs.Entitled.{revoked_from, sees, without_account}
 use Rattle.gx_people.specs.View.{users_of}
 use Rattle.gx_people.specs.declared.person.Person.{Person}
 use Rattle.gx_people.proofs.Entitling.{revoked_pair}
-use Rattle.gx_people.proofs.Table.{changed_in_place, nobody_reads}
+use Rattle.gx_people.proofs.Table.{role_written, nobody_reads}
 use Rattle.gx_people.proofs.people.People.revoke.Goals as goal
 
 -- the reader is known
@@ -17,7 +17,7 @@ returns c =
     let after : Person = record { password = c.in-Some.person.now.password; standing = c.revoke.new.self } in
     let new_is =
     ap users_of (c.get_mut.follows.holds after).0
-    ∙ changed_in_place (without_account c.args.account) c.args.reader c.self.inside.by_name.entries c.in-Some.person.now after c.in-Some.ensures.unique (sym c.in-Some.ensures.value) refl c.revoke.ensures
+    ∙ role_written (without_account c.args.account) c.args.reader c.self.inside.by_name.entries c.in-Some.person.now after c.in-Some.ensures.unique (sym c.in-Some.ensures.value) refl c.revoke.ensures
     ∙ ap (revoked_from c.args.reader c.args.account) c.self.view_is
     in
     record {
