@@ -3,14 +3,10 @@
 
 use clap::error::ErrorKind;
 use clap::{Arg, ArgMatches, Command, Error};
-use gx_core::{Gate, first_that_needs_figures};
-use gx_history::policy::Policy;
-use gx_policyfile::{FaultKind, PolicyFault, read_policy};
-use gx_server::{
-    Counted, Explained, PipeFault, ScriptFault, policy_line, run_pipe, run_script_explained,
-    sample_without_figures,
-};
-use gx_units::{OutOfMemory, RuleId, unpadded};
+use gx_core::Gate;
+use gx_server::{Explained, ProgramFault, open_gate, run_script_explained, told_of_policy};
+use gx_session::{Counted, PipeFault, run_pipe};
+use gx_units::OutOfMemory;
 use std::alloc::Global;
 use std::io::Write;
 use std::process::ExitCode;
@@ -18,12 +14,6 @@ use std::{fs, io};
 
 /// The moment of a connection's first packet.
 const FIRST_MOMENT: u64 = 1;
-
-/// The status of a policy file with a fault.
-const POLICY_FAULT: u8 = 3;
-
-/// The status of a script with a bad line.
-const BAD_LINE: u8 = 4;
 
 /// What `gate script --help` says of the lines of a script.
 const SCRIPT_LINES: &str = "Lines:
@@ -40,35 +30,37 @@ Words are separated by one space. Empty lines and lines that begin with # are sk
 Each step prints `N granted`, `N denied RULE` or `refused DayFull`, N being the number of its record;
 `stream` prints `USER K HEX` for each report. A bad line ends the script with status 4.";
 
-/// Why the program gave up.
-enum Fault<'a> {
-    Pipe(PipeFault),
-    Script(Explained),
-    /// The file of this name can't be read.
-    Unread(&'a str, io::Error),
-    Policy(PolicyFault),
-    /// The policy has a rule whose kind asks for figures that are not there yet.
-    NotJudged(RuleId),
+/// Why the program gave up, and which file can't be read, in the system's words.
+#[derive(Drop)]
+struct Ended<'a> {
+    fault: ProgramFault,
+    unread: Option<(&'a str, io::Error)>,
 }
 
-impl<'a> From<PipeFault> for Fault<'a> {
-    fn from(fault: PipeFault) -> Fault<'a> {
-        Fault::Pipe(fault)
-    }
-}
-
-impl<'a> From<OutOfMemory> for Fault<'a> {
-    fn from(refused: OutOfMemory) -> Fault<'a> {
-        Fault::Pipe(refused.into())
-    }
-}
-
-impl<'a> From<PolicyFault> for Fault<'a> {
-    fn from(fault: PolicyFault) -> Fault<'a> {
-        match fault.kind {
-            FaultKind::OutOfMemory => Fault::Pipe(PipeFault::OutOfMemory),
-            _ => Fault::Policy(fault),
+impl<'a> From<ProgramFault> for Ended<'a> {
+    fn from(fault: ProgramFault) -> Ended<'a> {
+        Ended {
+            fault,
+            unread: None,
         }
+    }
+}
+
+impl<'a> From<PipeFault> for Ended<'a> {
+    fn from(fault: PipeFault) -> Ended<'a> {
+        ProgramFault::from(fault).into()
+    }
+}
+
+impl<'a> From<Explained> for Ended<'a> {
+    fn from(explained: Explained) -> Ended<'a> {
+        ProgramFault::from(explained).into()
+    }
+}
+
+impl<'a> From<OutOfMemory> for Ended<'a> {
+    fn from(refused: OutOfMemory) -> Ended<'a> {
+        ProgramFault::from(refused).into()
     }
 }
 
@@ -130,37 +122,26 @@ fn words_of(rt: &HostRuntime) -> Result<Vec<String>, OutOfMemory> {
     }
 }
 
-/// The policy that a file means.
-fn policy_of<'a>(rt: &HostRuntime, path: &'a str) -> Result<Policy, Fault<'a>> {
+/// The bytes of a file.
+fn bytes_of<'a>(rt: &HostRuntime, path: &'a str) -> Result<Vec<u8>, Ended<'a>> {
     match fs::read(rt, path) {
-        Ok(bytes) => Ok(read_policy(rt.alloc(), bytes.as_slice())?),
-        Err(error) => match error.kind() {
-            io::ErrorKind::OutOfMemory => Err(PipeFault::OutOfMemory.into()),
-            _ => Err(Fault::Unread(path, error)),
-        },
+        Ok(bytes) => Ok(bytes),
+        Err(error) => Err(Ended {
+            fault: ProgramFault::unread(error.kind()),
+            unread: Some((path, error)),
+        }),
     }
 }
 
-/// The policy of the file that was asked for, or else the sample policy.
-fn asked_policy<'a>(rt: &HostRuntime, file: Option<&'a str>) -> Result<Policy, Fault<'a>> {
+/// The gate of a run: under the policy of the file that was asked for, if one was.
+fn gate_of<'a>(rt: &HostRuntime, file: Option<&'a str>) -> Result<Gate, Ended<'a>> {
     match file {
-        Some(path) => policy_of(rt, path),
-        None => Ok(sample_without_figures(rt.alloc())?),
+        Some(path) => {
+            let bytes = bytes_of(rt, path)?;
+            Ok(open_gate(rt.alloc(), Some(bytes.as_slice()))?)
+        }
+        None => Ok(open_gate(rt.alloc(), None)?),
     }
-}
-
-/// A gate under a policy.
-fn open_under<'a>(rt: &HostRuntime, policy: &Policy) -> Result<Gate, Fault<'a>> {
-    match first_that_needs_figures(policy) {
-        Some(rule) => Err(Fault::NotJudged(rule)),
-        None => Ok(Gate::open(rt.alloc(), policy)?),
-    }
-}
-
-/// A gate under the policy of the file that was asked for, or else under the sample policy.
-fn open_gate<'a>(rt: &HostRuntime, file: Option<&'a str>) -> Result<Gate, Fault<'a>> {
-    let policy = asked_policy(rt, file)?;
-    open_under(rt, &policy)
 }
 
 /// Serves one connection on a gate.
@@ -171,12 +152,9 @@ fn serve(rt: &HostRuntime, gate: &mut Gate) -> Result<(), PipeFault> {
 }
 
 /// Serves one connection.
-fn pipe<'a>(rt: &HostRuntime, file: Option<&'a str>) -> Result<(), Fault<'a>> {
-    let mut gate = open_gate(rt, file)?;
-    match serve(rt, &mut gate) {
-        Ok(()) => Ok(()),
-        Err(fault) => Err(Fault::Pipe(fault)),
-    }
+fn pipe<'a>(rt: &HostRuntime, file: Option<&'a str>) -> Result<(), Ended<'a>> {
+    let mut gate = gate_of(rt, file)?;
+    Ok(serve(rt, &mut gate)?)
 }
 
 /// Runs a script on a gate.
@@ -187,115 +165,94 @@ fn follow(rt: &HostRuntime, gate: &mut Gate) -> Result<(), Explained> {
 }
 
 /// Runs a script.
-fn script<'a>(rt: &HostRuntime, file: Option<&'a str>) -> Result<(), Fault<'a>> {
-    let mut gate = open_gate(rt, file)?;
-    match follow(rt, &mut gate) {
-        Ok(()) => Ok(()),
-        Err(fault) => Err(Fault::Script(fault)),
-    }
-}
-
-/// The line that says how much a policy file holds.
-fn line_of<'a>(rt: &HostRuntime, path: &'a str) -> Result<Vec<u8>, Fault<'a>> {
-    let policy = policy_of(rt, path)?;
-    match policy_line(rt.alloc(), &policy) {
-        Ok(line) => Ok(line),
-        Err(OutOfMemory) => Err(PipeFault::OutOfMemory.into()),
-    }
+fn script<'a>(rt: &HostRuntime, file: Option<&'a str>) -> Result<(), Ended<'a>> {
+    let mut gate = gate_of(rt, file)?;
+    Ok(follow(rt, &mut gate)?)
 }
 
 /// Tells how much a policy file holds.
-fn policy<'a>(rt: &HostRuntime, path: &'a str) -> Result<(), Fault<'a>> {
-    let line = line_of(rt, path)?;
+fn policy<'a>(rt: &HostRuntime, path: &'a str) -> Result<(), Ended<'a>> {
+    let bytes = bytes_of(rt, path)?;
+    let line = told_of_policy(rt.alloc(), bytes.as_slice())?;
     match io::writer(rt).write_all(line.as_slice()) {
         Ok(()) => Ok(()),
         Err(_) => Err(PipeFault::WriteFailed.into()),
     }
 }
 
-/// Does what was asked: status 0 where all was done.
-fn run<'a>(rt: &HostRuntime, asked: &ArgMatches<'a>) -> Result<ExitCode, Fault<'a>> {
+/// Does what was asked.
+fn run<'a>(rt: &HostRuntime, asked: &ArgMatches<'a>) -> Result<(), Ended<'a>> {
     match asked.subcommand() {
-        Some(("pipe", given)) => pipe(rt, given.get_str("policy"))?,
-        Some(("script", given)) => script(rt, given.get_str("policy"))?,
-        Some(("policy", given)) => {
-            if let Some(path) = given.get_str("file") {
-                policy(rt, path)?;
+        Some(("pipe", given)) => pipe(rt, given.get_str("policy")),
+        Some(("script", given)) => script(rt, given.get_str("policy")),
+        Some(("policy", given)) => match given.get_str("file") {
+            Some(path) => policy(rt, path),
+            None => Ok(()),
+        },
+        _ => Ok(()),
+    }
+}
+
+/// Puts a line more on standard error, where there is more to tell of the fault.
+fn tell_more(rt: &HostRuntime, ended: &Ended) {
+    match &ended.fault {
+        ProgramFault::Policy(fault) => {
+            let place = fault.place();
+            let _ = eprintln!(rt; "{place}");
+        }
+        ProgramFault::Script(explained) => {
+            if let Some(wrong) = explained.wrong {
+                let _ = eprintln!(rt; "{wrong}");
             }
         }
-        _ => {}
+        ProgramFault::Unread => {
+            if let Some((path, error)) = &ended.unread {
+                let _ = eprintln!(rt; "{path}: {error}");
+            }
+        }
+        ProgramFault::Pipe(_) | ProgramFault::NotJudged(_) => {}
     }
-    Ok(ExitCode::SUCCESS)
-}
-
-/// Tells what is wrong with the arguments, or gives the help or the version that was asked for.
-fn tell_usage<'a>(rt: &HostRuntime, error: &Error) -> Result<ExitCode, Fault<'a>> {
-    if error.kind() == ErrorKind::OutOfMemory {
-        return Err(PipeFault::OutOfMemory.into());
-    }
-    match error.print(rt) {
-        Ok(()) => Ok(ExitCode::from(error.exit_code() as u8)),
-        Err(_) => Err(PipeFault::WriteFailed.into()),
-    }
-}
-
-/// Tells why a script ended early, and what is wrong with a bad line.
-fn tell_script(rt: &HostRuntime, explained: Explained) -> ExitCode {
-    let fault = explained.fault;
-    let _ = eprintln!(rt; "gate: {fault}");
-    if let Some(wrong) = explained.wrong {
-        let _ = eprintln!(rt; "{wrong}");
-    }
-    match fault {
-        ScriptFault::BadLine(_) => ExitCode::from(BAD_LINE),
-        _ => ExitCode::FAILURE,
-    }
-}
-
-/// Tells which rule of a policy can't be judged yet.
-fn tell_rule(rt: &HostRuntime, rule: RuleId) -> ExitCode {
-    let name = str::from_utf8(unpadded(&rule.bytes)).unwrap_or("");
-    let _ = eprintln!(rt; "gate: rule {name} is of a kind not judged yet");
-    ExitCode::FAILURE
 }
 
 /// Tells why the program gave up: the status that says so.
-fn tell(rt: &HostRuntime, fault: Fault) -> ExitCode {
-    match fault {
-        Fault::Pipe(fault) => {
-            let _ = eprintln!(rt; "gate: {fault}");
-            ExitCode::FAILURE
-        }
-        Fault::Script(explained) => tell_script(rt, explained),
-        Fault::Unread(path, error) => {
-            let _ = eprintln!(rt; "gate: read failed");
-            let _ = eprintln!(rt; "{path}: {error}");
-            ExitCode::FAILURE
-        }
-        Fault::Policy(fault) => {
-            let _ = eprintln!(rt; "gate: {fault}");
-            ExitCode::from(POLICY_FAULT)
-        }
-        Fault::NotJudged(rule) => tell_rule(rt, rule),
+fn tell(rt: &HostRuntime, ended: Ended) -> ExitCode {
+    let line = ended.fault.line();
+    let _ = rt.stderr().write_all(line.as_slice());
+    tell_more(rt, &ended);
+    ExitCode::from(ended.fault.status())
+}
+
+/// Does what was asked, or tells why not: the status of either.
+fn done(rt: &HostRuntime, asked: &ArgMatches) -> ExitCode {
+    match run(rt, asked) {
+        Ok(()) => ExitCode::SUCCESS,
+        Err(ended) => tell(rt, ended),
+    }
+}
+
+/// Tells what is wrong with the arguments, or gives the help or the version that was asked for.
+fn tell_usage(rt: &HostRuntime, error: &Error) -> ExitCode {
+    if error.kind() == ErrorKind::OutOfMemory {
+        return tell(rt, OutOfMemory.into());
+    }
+    match error.print(rt) {
+        Ok(()) => ExitCode::from(error.exit_code() as u8),
+        Err(_) => tell(rt, PipeFault::WriteFailed.into()),
     }
 }
 
 /// Reads the arguments and does what they ask.
 fn act(rt: &HostRuntime) -> Result<ExitCode, OutOfMemory> {
     let words = words_of(rt)?;
-    let done = match command_line(rt.alloc())?.try_get_matches_from(words.as_slice()) {
-        Ok(asked) => run(rt, &asked),
-        Err(error) => tell_usage(rt, &error),
-    };
-    match done {
-        Ok(status) => Ok(status),
-        Err(fault) => Ok(tell(rt, fault)),
+    match command_line(rt.alloc())?.try_get_matches_from(words.as_slice()) {
+        Ok(asked) => Ok(done(rt, &asked)),
+        Err(error) => Ok(tell_usage(rt, &error)),
     }
 }
 
 fn main(rt: HostRuntime) -> ExitCode {
     match act(&rt) {
         Ok(status) => status,
-        Err(OutOfMemory) => tell(&rt, PipeFault::OutOfMemory.into()),
+        Err(refused) => tell(&rt, refused.into()),
     }
 }

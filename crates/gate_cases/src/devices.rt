@@ -7,10 +7,14 @@ use std::io::{Read, Write};
 /// How far the devices of a run go.
 #[derive(Clone, Copy)]
 pub(crate) struct Limits {
-    /// The most bytes that a call gives or takes.
+    /// The most bytes that a read gives.
     pub(crate) piece: usize,
+    /// The most bytes that a write takes.
+    pub(crate) sip: usize,
     /// How many reads there are before the reader fails.
     pub(crate) reads: usize,
+    /// How many writes there are before the writer fails.
+    pub(crate) writes: usize,
     /// How many bytes the writer takes before it takes none.
     pub(crate) room: usize,
 }
@@ -42,7 +46,7 @@ impl Read for Drips<'_> {
     }
 }
 
-/// A writer that takes a piece at a time, and none once it is full.
+/// A writer that takes a sip at a time, none once it is full, and fails after so many.
 #[derive(Drop)]
 pub(crate) struct Sips {
     pub(crate) taken: Vec<u8>,
@@ -60,8 +64,12 @@ impl Sips {
 
 impl Write for Sips {
     fn write(&mut self, buf: &[u8]) -> io::Result<usize> {
+        if self.limits.writes == 0 {
+            return Err(io::Error::from(io::ErrorKind::BrokenPipe));
+        }
+        self.limits.writes -= 1;
         let left = self.limits.room.saturating_sub(self.taken.len());
-        let count = self.limits.piece.min(left).min(buf.len());
+        let count = self.limits.sip.min(left).min(buf.len());
         match self.taken.extend_from_slice(&buf[..count]) {
             Ok(()) => Ok(count),
             Err(_) => Ok(0),

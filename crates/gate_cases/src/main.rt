@@ -11,6 +11,16 @@
 //! - `-- script`: a script; `-- script-in-hex`: its bytes in hex. What it prints is told.
 //! - `-- again`: the lines of a script, each a run of its own, and run again where its step was refused, as for want of
 //!   memory. The verdicts of their records are told: they are the same, whichever step was refused.
+//! - `-- pipe-reads PIECE SIP`: the bytes of a connection, in hex, which is run again and again, each time on a gate of
+//!   its own: the reader fails at once, after one read, after two, until nothing fails. Reads give at most PIECE bytes,
+//!   writes take at most SIP. `-- pipe-writes PIECE SIP`: so too, with a writer that fails. `-- pipe-lengths PIECE SIP`:
+//!   so too with the first 0 bytes, the first one, until all of them. The answer to the whole is told in hex, then how
+//!   each run ended: how many bytes of that answer were written, and the verdicts of its records. Runs one after the
+//!   other that end alike are told once: `writes 4 to 6: 10 bytes`, or, where each wrote a byte more than the one before
+//!   it, `writes 4 to 6: 10 to 12 bytes`.
+//! - `-- session MOMENT`: the events of a session that begins at this moment, a line each: its moment and what happens
+//!   (`login`, `data HEX`, `heartbeat`, `debug`, `logout`, `accepted`, `rejected`, `pulled COUNT`, `pulled-last COUNT`,
+//!   `refused`, `tick`, `fault`, `end`). It is told what the session sends and what follows.
 //!
 //! The parts of a case run on one gate, one after the other; in the end it is told who is logged in and which accounts
 //! are killed. Each case is run twice: with devices that give and take large pieces, and with devices that give and
@@ -22,54 +32,67 @@
 mod devices;
 mod policies;
 mod runs;
+mod sessions;
 mod texts;
+mod trials;
 
 use devices::Limits;
-use gx_core::{Gate, first_that_needs_figures};
 use gx_history::policy::Policy;
 use gx_policyfile::{SAMPLE, read_policy};
-use gx_server::sample_without_figures;
+use gx_server::{open_gate, sample_without_figures, told_of_policy};
 use gx_units::OutOfMemory;
-use policies::put_policy;
+use policies::{put_fault, put_rules};
 use runs::tell_parts;
 use std::alloc::Global;
 use std::fmt::Write as _;
 use std::io;
 use std::io::Read as _;
-use texts::{bytes_of, put};
+use texts::{bytes_of, put, put_bytes};
 
 /// Large pieces: all that a call has room for.
 const LARGE: Limits = Limits {
     piece: usize::MAX,
+    sip: usize::MAX,
     reads: usize::MAX,
+    writes: usize::MAX,
     room: usize::MAX,
 };
 
-const BYTE_BY_BYTE: Limits = Limits { piece: 1, ..LARGE };
+const BYTE_BY_BYTE: Limits = Limits {
+    piece: 1,
+    sip: 1,
+    ..LARGE
+};
 
-/// Runs the parts on a new gate under a policy without rules that ask for figures.
+/// Runs the parts on a new gate: under the policy of the file, if there is one. `policy` is what the gate opens on.
 fn run_once(
     alloc: Global,
+    file: Option<&[u8]>,
     policy: &Policy,
     parts: &str,
     usual: Limits,
 ) -> Result<String, OutOfMemory> {
     let mut out = String::new(alloc);
-    if first_that_needs_figures(policy).is_some() {
-        return Ok(out);
+    match open_gate(alloc, file) {
+        Ok(gate) => {
+            let mut gate = gate;
+            tell_parts(alloc, &mut out, &mut gate, policy, parts, usual)?;
+        }
+        Err(fault) => put_fault(&mut out, &fault)?,
     }
-    let mut gate = Gate::open(alloc, policy)?;
-    tell_parts(alloc, &mut out, &mut gate, policy, parts, usual)?;
     Ok(out)
 }
 
 /// Runs the parts over devices of both kinds.
-fn run(alloc: Global, out: &mut String, policy: &Policy, parts: &str) -> Result<(), OutOfMemory> {
-    if parts.is_empty() {
-        return Ok(());
-    }
-    let large = run_once(alloc, policy, parts, LARGE)?;
-    let byte_by_byte = run_once(alloc, policy, parts, BYTE_BY_BYTE)?;
+fn run(
+    alloc: Global,
+    out: &mut String,
+    file: Option<&[u8]>,
+    policy: &Policy,
+    parts: &str,
+) -> Result<(), OutOfMemory> {
+    let large = run_once(alloc, file, policy, parts, LARGE)?;
+    let byte_by_byte = run_once(alloc, file, policy, parts, BYTE_BY_BYTE)?;
     put(out, large.as_str())?;
     if byte_by_byte.as_str() == large.as_str() {
         return Ok(());
@@ -78,17 +101,25 @@ fn run(alloc: Global, out: &mut String, policy: &Policy, parts: &str) -> Result<
     put(out, byte_by_byte.as_str())
 }
 
-/// Tells of a policy file, and runs the parts under it.
+/// Tells the rules of a policy file, and runs the parts under it.
 fn run_under(alloc: Global, out: &mut String, file: &[u8], parts: &str) -> Result<(), OutOfMemory> {
     match read_policy(alloc, file) {
         Ok(policy) => {
-            put_policy(alloc, out, &policy)?;
-            run(alloc, out, &policy, parts)
+            put_rules(out, &policy)?;
+            run(alloc, out, Some(file), &policy, parts)
         }
-        Err(fault) => {
-            writeln!(out, "{fault}")?;
-            Ok(())
+        Err(_) => Err(OutOfMemory),
+    }
+}
+
+/// Tells of a policy file, and runs the parts under it.
+fn tell_file(alloc: Global, out: &mut String, file: &[u8], parts: &str) -> Result<(), OutOfMemory> {
+    match told_of_policy(alloc, file) {
+        Ok(line) => {
+            put_bytes(out, line.as_slice())?;
+            run_under(alloc, out, file, parts)
         }
+        Err(fault) => put_fault(out, &fault),
     }
 }
 
@@ -109,16 +140,16 @@ fn answer(
     let (first, rest) = parts.split_once("\n-- ").unwrap_or((parts, ""));
     let (kind, text) = first.split_once('\n').unwrap_or((first, ""));
     match kind {
-        "policy" => run_under(alloc, out, text.as_bytes(), rest),
+        "policy" => tell_file(alloc, out, text.as_bytes(), rest),
         "policy-in-hex" => {
             let file = bytes_of(alloc, text)?;
-            run_under(alloc, out, file.as_slice(), rest)
+            tell_file(alloc, out, file.as_slice(), rest)
         }
         "sample" => {
             let file = changed_sample(alloc, text)?;
-            run_under(alloc, out, file.as_bytes(), rest)
+            tell_file(alloc, out, file.as_bytes(), rest)
         }
-        _ => run(alloc, out, sample, parts),
+        _ => run(alloc, out, None, sample, parts),
     }
 }
 

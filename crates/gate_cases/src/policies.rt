@@ -1,11 +1,9 @@
-//! What a policy says: how much it holds, and its rules.
+//! What a policy says: its rules, and what is wrong with its file.
 
-use crate::texts::{put, put_bytes, text_of};
-use gx_core::first_that_needs_figures;
+use crate::texts::{put, text_of};
 use gx_history::policy::{Count, FileRule, Policy, RuleKind, Scope};
-use gx_server::policy_line;
+use gx_server::ProgramFault;
 use gx_units::{AccountName, OutOfMemory, Symbol};
-use std::alloc::Global;
 use std::fmt::Write;
 
 fn kind_text(kind: &RuleKind) -> &'static str {
@@ -86,23 +84,26 @@ fn put_rule(out: &mut String, rule: &FileRule) -> Result<(), OutOfMemory> {
     put(out, "\n")
 }
 
-/// Puts how much a policy holds, each of its rules, and the first rule that asks for figures.
-pub(crate) fn put_policy(
-    alloc: Global,
-    out: &mut String,
-    policy: &Policy,
-) -> Result<(), OutOfMemory> {
-    let line = policy_line(alloc, policy)?;
-    put_bytes(out, line.as_slice())?;
+/// Puts the rules of a policy, a line each.
+pub(crate) fn put_rules(out: &mut String, policy: &Policy) -> Result<(), OutOfMemory> {
     for rule in policy.rules() {
         put_rule(out, rule)?;
     }
-    match first_that_needs_figures(policy) {
-        Some(rule) => {
+    Ok(())
+}
+
+/// Puts why no gate opens under a policy file: its fault, or the first rule that asks for figures.
+pub(crate) fn put_fault(out: &mut String, fault: &ProgramFault) -> Result<(), OutOfMemory> {
+    match fault {
+        ProgramFault::Policy(fault) => {
+            writeln!(out, "{fault}")?;
+            Ok(())
+        }
+        ProgramFault::NotJudged(rule) => {
             let name = text_of(&rule.bytes);
             writeln!(out, "{name} asks for figures")?;
             Ok(())
         }
-        None => Ok(()),
+        _ => Err(OutOfMemory),
     }
 }

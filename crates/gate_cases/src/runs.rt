@@ -1,11 +1,14 @@
 //! Runs on a gate: connections and scripts over devices, and what is printed of them.
 
 use crate::devices::{Drips, Limits, Sips};
+use crate::sessions::tell_session;
 use crate::texts::{bytes_of, put, put_bytes, text_of};
+use crate::trials::{Trial, Varied, tell_trials};
 use gx_core::Gate;
 use gx_history::policy::Policy;
 use gx_script::outcome_line;
-use gx_server::{Counted, Explained, PipeFault, run_pipe, run_script_explained};
+use gx_server::{Explained, run_script_explained};
+use gx_session::{Counted, PipeFault, run_pipe};
 use gx_units::OutOfMemory;
 use std::alloc::Global;
 use std::fmt;
@@ -37,24 +40,39 @@ impl fmt::Display for End {
 
 /// What a run did: how it ended, how often a device failed, and what was written.
 #[derive(Drop)]
-struct Ended {
+pub(crate) struct Ended {
     end: End,
     failed_reads: u64,
     failed_writes: u64,
-    written: Vec<u8>,
+    pub(crate) written: Vec<u8>,
+}
+
+impl Ended {
+    /// Whether the run came to its end without a fault.
+    pub(crate) fn is_done(&self) -> bool {
+        match self.end {
+            End::Pipe(end) => end.is_ok(),
+            End::Script(end) => end.is_ok(),
+        }
+    }
+}
+
+/// What a run over these devices did.
+fn ended_over(end: End, reader: Counted<Drips<'_>>, writer: Counted<Sips>) -> Ended {
+    Ended {
+        end,
+        failed_reads: reader.failed(),
+        failed_writes: writer.failed(),
+        written: writer.into_inner().taken,
+    }
 }
 
 /// Runs a connection.
-fn connect(alloc: Global, gate: &mut Gate, limits: Limits, input: &[u8]) -> Ended {
+pub(crate) fn connect(alloc: Global, gate: &mut Gate, limits: Limits, input: &[u8]) -> Ended {
     let mut reader = Counted::new(Drips::new(input, limits));
     let mut writer = Counted::new(Sips::new(alloc, limits));
     let end = End::Pipe(run_pipe(alloc, gate, 1, &mut reader, &mut writer));
-    Ended {
-        end,
-        failed_reads: reader.failed,
-        failed_writes: writer.failed,
-        written: writer.device.taken,
-    }
+    ended_over(end, reader, writer)
 }
 
 /// Runs a script.
@@ -62,16 +80,11 @@ fn follow(alloc: Global, gate: &mut Gate, limits: Limits, input: &[u8]) -> Ended
     let mut reader = Counted::new(Drips::new(input, limits));
     let mut writer = Counted::new(Sips::new(alloc, limits));
     let end = End::Script(run_script_explained(alloc, gate, &mut reader, &mut writer));
-    Ended {
-        end,
-        failed_reads: reader.failed,
-        failed_writes: writer.failed,
-        written: writer.device.taken,
-    }
+    ended_over(end, reader, writer)
 }
 
 /// Puts the verdicts of the records from this number on, a line each.
-fn put_verdicts(
+pub(crate) fn put_verdicts(
     alloc: Global,
     out: &mut String,
     gate: &Gate,
@@ -86,7 +99,7 @@ fn put_verdicts(
 }
 
 /// Puts how a run ended, and how often its devices failed, where they did.
-fn put_end(out: &mut String, ended: &Ended) -> Result<(), OutOfMemory> {
+pub(crate) fn put_end(out: &mut String, ended: &Ended) -> Result<(), OutOfMemory> {
     let end = &ended.end;
     let (reads, writes) = (ended.failed_reads, ended.failed_writes);
     write!(out, "{end}")?;
@@ -97,7 +110,7 @@ fn put_end(out: &mut String, ended: &Ended) -> Result<(), OutOfMemory> {
 }
 
 /// Puts bytes in hex on a line of their own, where there are any.
-fn put_hex(alloc: Global, out: &mut String, bytes: &[u8]) -> Result<(), OutOfMemory> {
+pub(crate) fn put_hex(alloc: Global, out: &mut String, bytes: &[u8]) -> Result<(), OutOfMemory> {
     if bytes.is_empty() {
         return Ok(());
     }
@@ -169,9 +182,47 @@ fn limits_of(words: &str, usual: Limits) -> Option<Limits> {
     let (piece, rest) = words.split_once(' ')?;
     let (reads, room) = rest.split_once(' ')?;
     match (piece.parse(), reads.parse(), room.parse()) {
-        (Ok(piece), Ok(reads), Ok(room)) => Some(Limits { piece, reads, room }),
+        (Ok(piece), Ok(reads), Ok(room)) => Some(Limits {
+            piece,
+            sip: piece,
+            reads,
+            writes: usize::MAX,
+            room,
+        }),
         _ => None,
     }
+}
+
+/// Runs a part that has gates of its own, or none: a connection tried in each way, or a session.
+fn tell_apart(
+    alloc: Global,
+    out: &mut String,
+    policy: &Policy,
+    kind: &str,
+    words: &str,
+    text: &str,
+) -> Result<(), OutOfMemory> {
+    let varied = match kind {
+        "session" => return tell_session(alloc, out, words, text),
+        "pipe-reads" => Varied::Reads,
+        "pipe-writes" => Varied::Writes,
+        "pipe-lengths" => Varied::Lengths,
+        _ => return put(out, "no such part\n"),
+    };
+    let (piece, sip) = words.split_once(' ').unwrap_or((words, words));
+    let (Ok(piece), Ok(sip)) = (piece.parse(), sip.parse()) else {
+        return put(out, "no such part\n");
+    };
+    let input = bytes_of(alloc, text)?;
+    let input = input.as_slice();
+    let trial = Trial {
+        policy,
+        varied,
+        piece,
+        sip,
+        input,
+    };
+    tell_trials(alloc, out, trial)
 }
 
 /// Runs a part of a case: its first line says what it is, and names limits where it has its own.
@@ -179,6 +230,7 @@ fn tell_part(
     alloc: Global,
     out: &mut String,
     gate: &mut Gate,
+    policy: &Policy,
     part: &str,
     usual: Limits,
 ) -> Result<(), OutOfMemory> {
@@ -195,7 +247,7 @@ fn tell_part(
             let input = bytes_of(alloc, text)?;
             tell_script(alloc, out, gate, limits, input.as_slice())
         }
-        _ => put(out, "no such part\n"),
+        _ => tell_apart(alloc, out, policy, kind, words, text),
     }
 }
 
@@ -216,7 +268,7 @@ fn put_state(out: &mut String, gate: &Gate, policy: &Policy) -> Result<(), OutOf
     Ok(())
 }
 
-/// Runs the parts of a case on a gate, one after the other.
+/// Runs the parts of a case on a gate, one after the other; there may be none.
 pub(crate) fn tell_parts(
     alloc: Global,
     out: &mut String,
@@ -225,8 +277,11 @@ pub(crate) fn tell_parts(
     parts: &str,
     usual: Limits,
 ) -> Result<(), OutOfMemory> {
+    if parts.is_empty() {
+        return Ok(());
+    }
     for part in parts.split("\n-- ") {
-        tell_part(alloc, out, gate, part, usual)?;
+        tell_part(alloc, out, gate, policy, part, usual)?;
     }
     put_state(out, gate, policy)
 }

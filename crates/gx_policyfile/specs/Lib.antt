@@ -6,3 +6,4 @@ pub mod Rules
 pub mod Policies
 pub mod Sample
 pub mod Reads
+pub mod Telling

@@ -2,6 +2,7 @@
 
 ghost use Rattle.gx_policyfile.specs.declared.fault.FaultKind.TheVariants.{OutOfMemory};
 ghost use Rattle.gx_policyfile.specs.Field.{is_memory};
+ghost use Rattle.gx_policyfile.specs.Telling.{kind_words};
 ghost use Rattle.std.specs.Prelude.{◌≡◌, false};
 
 use std::alloc::{AllocError, AllocFailed};
@@ -29,9 +30,12 @@ pub enum FaultKind {
     OutOfMemory,
 }
 
-impl fmt::Display for FaultKind {
-    fn fmt<W: fmt::Write>(&self, f: &mut fmt::Formatter<W>) -> fmt::Result {
-        let text = match self {
+impl FaultKind {
+    /// The kind's number and name.
+    pub fn words(self) -> &'static str
+        ensures { result.now ≡ kind_words self }
+    {
+        match self {
             FaultKind::NotToml => "1 NotToml",
             FaultKind::MissingKey => "2 MissingKey",
             FaultKind::UnknownKey => "3 UnknownKey",
@@ -40,8 +44,23 @@ impl fmt::Display for FaultKind {
             FaultKind::DuplicateName => "6 DuplicateName",
             FaultKind::TooMany => "7 TooMany",
             FaultKind::OutOfMemory => "8 OutOfMemory",
-        };
-        f.write_str(text)
+        }
+    }
+
+    /// Whether a growth was refused.
+    pub fn is_memory(self) -> bool
+        ensures { result ≡ is_memory self }
+    {
+        match self {
+            FaultKind::OutOfMemory => true,
+            _ => false,
+        }
+    }
+}
+
+impl fmt::Display for FaultKind {
+    fn fmt<W: fmt::Write>(&self, f: &mut fmt::Formatter<W>) -> fmt::Result {
+        f.write_str(self.words())
     }
 }
 
@@ -184,19 +203,18 @@ impl fmt::Display for KeyList {
     }
 }
 
-/// A line that names the fault, a line that says where it is, and a line that says what is allowed there.
-impl fmt::Display for PolicyFault {
+/// Where a fault is, and what is allowed there: a line for each, and no line end behind the last. Nothing is said
+/// where a growth was refused.
+#[derive(Clone, Copy)]
+pub struct FaultPlace<'a>(&'a PolicyFault);
+
+impl fmt::Display for FaultPlace<'_> {
     fn fmt<W: fmt::Write>(&self, f: &mut fmt::Formatter<W>) -> fmt::Result {
-        let kind = self.kind;
-        write!(f, "policy fault {kind}")?;
-        if let Cause::Memory = &self.cause {
-            return Ok(());
-        }
-        f.write_str("\n")?;
-        if let Some(entry) = &self.entry {
+        let fault = self.0;
+        if let Some(entry) = &fault.entry {
             write!(f, "{entry}, ")?;
         }
-        match &self.cause {
+        match &fault.cause {
             Cause::Memory => Ok(()),
             Cause::Text(text) => f.write_str(text.as_str().trim_end()),
             Cause::Key(key, allowed) => write!(f, "key {key}\nallowed: {allowed}"),
@@ -204,6 +222,24 @@ impl fmt::Display for PolicyFault {
                 let keys = KeyList(known);
                 write!(f, "key {key:?}\nallowed: the keys {keys}")
             }
+        }
+    }
+}
+
+impl PolicyFault {
+    /// Where the fault is, and what is allowed there.
+    pub fn place(&self) -> FaultPlace<'_> {
+        FaultPlace(self)
+    }
+}
+
+/// A line that names the fault, a line that says where it is, and a line that says what is allowed there.
+impl fmt::Display for PolicyFault {
+    fn fmt<W: fmt::Write>(&self, f: &mut fmt::Formatter<W>) -> fmt::Result {
+        let (kind, place) = (self.kind, self.place());
+        match &self.cause {
+            Cause::Memory => write!(f, "policy fault {kind}"),
+            _ => write!(f, "policy fault {kind}\n{place}"),
         }
     }
 }

@@ -13,7 +13,7 @@ mod samples;
 mod stock;
 mod user;
 
-pub use fault::{Allowed, Cause, EntryPlace, FaultKind, Letters, PolicyFault};
+pub use fault::{Allowed, Cause, EntryPlace, FaultKind, FaultPlace, Letters, PolicyFault};
 pub use laws::{
     each_is_sound, keys_are_known, names_in_places_differ, order_is_kept, places_are_short,
 };

@@ -1,11 +1,6 @@
-pub mod Known
-pub mod Stepping
-pub mod Runs
-pub mod Parts
-pub mod Faults
-pub mod Serving
 pub mod Doing
 pub mod ScriptCuts
+pub mod Texts
 pub mod ScriptRuns
 pub mod ScriptEnds
-pub mod Texts
+pub mod Opened

@@ -1,10 +1,7 @@
-pub mod Session
-pub mod Transcript
-pub mod Devices
-pub mod Piping
-pub mod Serving
 pub mod Scripting
 pub mod Leaving
 pub mod ScriptPiping
 pub mod ScriptTexts
 pub mod Policies
+pub mod Opening
+pub mod Telling

@@ -1,25 +1,17 @@
-//! The gate behind a connection: bytes in, bytes out.
+//! What a run stands on: the gate that it opens, the lines of a script, and how each fault is told.
 #![tactic(auto)]
 
-mod counted;
-mod fault;
 mod laws;
-mod pipe;
+mod opening;
 mod policies;
-mod rows;
+mod program_fault;
 mod running;
 mod script;
 mod script_fault;
-mod session;
-mod write;
 
-pub use counted::Counted;
-pub use fault::PipeFault;
-pub use laws::{
-    lines_make_the_text, nothing_follows, nothing_follows_a_bad_line, silent_before_login,
-    stream_is_sent,
-};
-pub use pipe::run_pipe;
+pub use laws::{lines_make_the_text, nothing_follows_a_bad_line};
+pub use opening::{open_gate, told_of_policy};
 pub use policies::{policy_line, sample_without_figures};
+pub use program_fault::{FaultLine, ProgramFault};
 pub use script::{run_script, run_script_explained};
 pub use script_fault::{Explained, ScriptFault};

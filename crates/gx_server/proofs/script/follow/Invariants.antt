@@ -1,5 +1,5 @@
 use Rattle.std.proofs.Common.{◌≡◌, ◌≤◌, ◌*◌}
-use Rattle.gx_server.specs.Devices.{counted_on}
+use Rattle.gx_session.specs.Devices.{counted_on}
 use Rattle.gx_server.proofs.ScriptEnds.{StandsAt}
 use Rattle.gx_server.proofs.script.follow.Given as goal
 
@@ -7,7 +7,7 @@ abbrev pub invariant-loop : goal.invariant-loop
 invariant-loop g l = record {
   stands : StandsAt (g.R.Read.remaining l.fn.reader.device) (g.R.Read.remaining l.reader.device) (g.W.Write.contents l.fn.writer.device) (g.W.Write.contents l.writer.device) l.fn.gate l.gate l.held.rest.items l.held.lines;
   counted : l.held.lines ≤ 4096 * l.counter;
-  calls : l.reader.calls ≡ counted_on l.fn.reader.calls l.counter;
+  calls : counted_on l.fn.reader.calls l.counter ≤ l.reader.calls;
   reads : l.reader.failed ≡ l.fn.reader.failed;
   writes : l.writer.failed ≡ l.fn.writer.failed;
 }

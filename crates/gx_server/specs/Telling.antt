@@ -1,0 +1,66 @@
+-- How a fault is told: the status that the program ends with, and the line on standard error.
+use Rattle.std.specs.Prelude.{ℕ, List, ◌++◌, codes, decimal, if◌then◌else◌}
+use Rattle.gx_units.specs.declared.names.RuleId.{RuleId}
+use Rattle.gx_units.specs.Spelling.{without_right_spaces}
+use Rattle.gx_policyfile.specs.declared.fault.FaultKind.{FaultKind}
+use Rattle.gx_policyfile.specs.Field.{is_memory}
+use Rattle.gx_policyfile.specs.Telling.{kind_words}
+use Rattle.gx_script.specs.Printing.{line_end}
+use Rattle.gx_session.specs.Devices.{fault_words}
+use Rattle.gx_session.specs.declared.fault.PipeFault.TheVariants as pipe_faults
+use Rattle.gx_server.specs.declared.script_fault.ScriptFault.{ScriptFault}
+use Rattle.gx_server.specs.declared.script_fault.ScriptFault.TheVariants as script_faults
+use Rattle.gx_server.specs.declared.program_fault.ProgramFault.{ProgramFault}
+use Rattle.gx_server.specs.declared.program_fault.ProgramFault.TheVariants.{Pipe, Script, Unread, Policy, NotJudged}
+
+-- memory ran out
+abbrev pub out_of_memory : ProgramFault
+out_of_memory = Pipe pipe_faults.OutOfMemory
+
+-- why a script ended early
+abbrev pub script_words : ScriptFault → List ℕ
+script_words (script_faults.BadLine number) = codes "line " ++ decimal number ++ codes ": bad step"
+script_words script_faults.ReadFailed = codes "read failed"
+script_words script_faults.WriteFailed = codes "write failed"
+script_words script_faults.OutOfMemory = codes "out of memory"
+script_words script_faults.Endless = codes "endless input"
+
+-- why a policy file is refused
+abbrev pub policy_words : FaultKind → List ℕ
+policy_words kind = if is_memory kind then codes "out of memory" else codes "policy fault " ++ kind_words kind
+
+-- which rule keeps a gate from opening
+abbrev pub rule_words : RuleId → List ℕ
+rule_words rule = codes "rule " ++ without_right_spaces rule.bytes ++ codes " is of a kind not judged yet"
+
+-- why the program gave up
+abbrev pub words_of : ProgramFault → List ℕ
+words_of (Pipe fault) = fault_words fault
+words_of (Script explained) = script_words explained.fault
+words_of Unread = codes "read failed"
+words_of (Policy fault) = policy_words fault.kind
+words_of (NotJudged rule) = rule_words rule
+
+-- a line of these words
+abbrev pub gate_line : List ℕ → List ℕ
+gate_line words = codes "gate: " ++ words ++ line_end
+
+-- the line on standard error
+abbrev pub fault_line : ProgramFault → List ℕ
+fault_line fault = gate_line (words_of fault)
+
+-- 4 for a bad line
+abbrev pub script_status : ScriptFault → ℕ
+script_status (script_faults.BadLine number) = 4
+script_status script_faults.ReadFailed = 1
+script_status script_faults.WriteFailed = 1
+script_status script_faults.OutOfMemory = 1
+script_status script_faults.Endless = 1
+
+-- 3 for a fault of the policy file, 4 for a bad line of a script, else 1
+abbrev pub status_of : ProgramFault → ℕ
+status_of (Pipe fault) = 1
+status_of (Script explained) = script_status explained.fault
+status_of Unread = 1
+status_of (Policy fault) = if is_memory fault.kind then 1 else 3
+status_of (NotJudged rule) = 1

@@ -1,0 +1,197 @@
+//! Why the program gave up, and how that is told.
+
+ghost use Rattle.std.specs.Prelude.{◌≡◌, ◌≢◌, ◌+◌, ◌≤◌, ◌++◌, length, if◌then◌else◌};
+ghost use Rattle.arrayvec.specs.ArrayVec.{array_vec_len};
+ghost use Rattle.gx_policyfile.specs.Field.{is_memory};
+ghost use Rattle.gx_server.specs.declared.program_fault.ProgramFault.TheVariants as faults;
+ghost use Rattle.gx_session.specs.Devices.{fault_words};
+ghost use Rattle.gx_server.specs.Telling.{out_of_memory, script_words, policy_words, rule_words, gate_line, fault_line, script_status, status_of};
+
+use crate::script_fault::{Explained, ScriptFault};
+use arrayvec::ArrayVec;
+use gx_policyfile::{FaultKind, PolicyFault};
+use gx_session::PipeFault;
+use gx_units::{OutOfMemory, RuleId, unpadded};
+use itoa::Buffer;
+use std::io::ErrorKind;
+
+/// The line that tells a fault: no memory is asked for.
+pub type FaultLine = ArrayVec<u8, 64>;
+
+/// Why the program gave up.
+#[derive(Drop)]
+pub enum ProgramFault {
+    /// A connection was given up, or it failed so before there was one.
+    Pipe(PipeFault),
+    /// A script ended early.
+    Script(Explained),
+    /// The policy file can't be read.
+    Unread,
+    /// The policy file has a fault.
+    Policy(PolicyFault),
+    /// The policy has a rule whose kind asks for figures that are not there yet: the name of the first.
+    NotJudged(RuleId),
+}
+
+impl From<PipeFault> for ProgramFault {
+    ghost from_gives = { λ fault e. e ≡ faults.Pipe fault };
+
+    fn from(fault: PipeFault) -> ProgramFault {
+        ProgramFault::Pipe(fault)
+    }
+}
+
+impl From<Explained> for ProgramFault {
+    ghost from_gives = { λ explained e. e ≡ faults.Script explained };
+
+    fn from(explained: Explained) -> ProgramFault {
+        ProgramFault::Script(explained)
+    }
+}
+
+impl From<OutOfMemory> for ProgramFault {
+    ghost from_gives = { λ _ e. e ≡ out_of_memory };
+
+    fn from(_refused: OutOfMemory) -> ProgramFault {
+        ProgramFault::Pipe(PipeFault::OutOfMemory)
+    }
+}
+
+impl From<PolicyFault> for ProgramFault {
+    ghost from_gives = { λ fault e. e ≡ (if is_memory fault.kind then out_of_memory else faults.Policy fault) };
+
+    fn from(fault: PolicyFault) -> ProgramFault {
+        if fault.kind.is_memory() {
+            return ProgramFault::Pipe(PipeFault::OutOfMemory);
+        }
+        ProgramFault::Policy(fault)
+    }
+}
+
+impl ProgramFault {
+    /// Why a policy file can't be read, where the system answers with an error of this kind.
+    pub fn unread(kind: ErrorKind) -> ProgramFault
+        ensures memory { kind ≡ ErrorKind.OutOfMemory → result ≡ out_of_memory }
+        ensures unread { kind ≢ ErrorKind.OutOfMemory → result ≡ faults.Unread }
+    {
+        match kind {
+            ErrorKind::OutOfMemory => ProgramFault::Pipe(PipeFault::OutOfMemory),
+            _ => ProgramFault::Unread,
+        }
+    }
+
+    /// The exit status: 3 for a fault of the policy file, 4 for a bad line of a script, else 1.
+    pub fn status(&self) -> u8
+        ensures { result ≡ status_of self.now }
+    {
+        match self {
+            ProgramFault::Pipe(_) | ProgramFault::Unread | ProgramFault::NotJudged(_) => 1,
+            ProgramFault::Script(explained) => script_status(explained.fault),
+            ProgramFault::Policy(fault) => { if fault.kind.is_memory() { 1 } else { 3 } }
+        }
+    }
+
+    /// The line on standard error, with its line end.
+    pub fn line(&self) -> FaultLine
+        ensures { result.items ≡ fault_line self.now }
+    {
+        match self {
+            ProgramFault::Pipe(fault) => line_of(pipe_words(*fault)),
+            ProgramFault::Script(explained) => script_line(explained.fault),
+            ProgramFault::Unread => line_of(b"read failed"),
+            ProgramFault::Policy(fault) => policy_line(fault.kind),
+            ProgramFault::NotJudged(rule) => rule_line(rule),
+        }
+    }
+}
+
+fn script_status(fault: ScriptFault) -> u8
+    ensures { result ≡ script_status fault }
+{
+    match fault {
+        ScriptFault::BadLine(_) => 4,
+        _ => 1,
+    }
+}
+
+/// What is told of a connection's fault, as short as a line has room for.
+fn pipe_words(fault: PipeFault) -> &'static [u8]
+    ensures words { result.now ≡ fault_words fault }
+    ensures short { length result.now ≤ 20 }
+{
+    fault.words().as_bytes()
+}
+
+fn script_line(fault: ScriptFault) -> FaultLine
+    ensures { result.items ≡ gate_line (script_words fault) }
+{
+    match fault {
+        ScriptFault::BadLine(number) => bad_line(number),
+        ScriptFault::ReadFailed => line_of(b"read failed"),
+        ScriptFault::WriteFailed => line_of(b"write failed"),
+        ScriptFault::OutOfMemory => line_of(b"out of memory"),
+        ScriptFault::Endless => line_of(b"endless input"),
+    }
+}
+
+fn bad_line(number: u64) -> FaultLine
+    ensures { result.items ≡ gate_line (script_words (ScriptFault.BadLine number)) }
+{
+    let mut digits = Buffer::new();
+    line_around(b"line ", digits.format(number).as_bytes(), b": bad step")
+}
+
+fn policy_line(kind: FaultKind) -> FaultLine
+    ensures { result.items ≡ gate_line (policy_words kind) }
+{
+    if kind.is_memory() {
+        return line_of(b"out of memory");
+    }
+    line_around(b"policy fault", b" ", kind.words().as_bytes())
+}
+
+fn rule_line(rule: &RuleId) -> FaultLine
+    ensures { result.items ≡ gate_line (rule_words rule.now) }
+{
+    line_around(
+        b"rule ",
+        unpadded(&rule.bytes),
+        b" is of a kind not judged yet",
+    )
+}
+
+/// A line of these words.
+fn line_of(words: &[u8]) -> FaultLine
+    requires { length words.now ≤ 57 }
+    ensures { result.items ≡ gate_line words.now }
+{
+    let mut line = FaultLine::new();
+    put(&mut line, b"gate: ");
+    put(&mut line, words);
+    put(&mut line, b"\n");
+    line
+}
+
+/// A line of words in three pieces.
+fn line_around(before: &[u8], words: &[u8], after: &[u8]) -> FaultLine
+    requires { length before.now + length words.now + length after.now ≤ 57 }
+    ensures { result.items ≡ gate_line (before.now ++ words.now ++ after.now) }
+{
+    let mut all = FaultLine::new();
+    put(&mut all, before);
+    put(&mut all, words);
+    put(&mut all, after);
+    line_of(all.as_slice())
+}
+
+/// Puts the bytes at the end.
+fn put(line: &mut FaultLine, bytes: &[u8])
+    requires { array_vec_len line.old + length bytes.now ≤ 64 }
+    ensures bytes { line.new.items ≡ line.old.items ++ bytes.now }
+    ensures length { array_vec_len line.new ≡ array_vec_len line.old + length bytes.now }
+{
+    match line.try_extend_from_slice(bytes) {
+        Ok(()) => {}
+        Err(_) => unreachable!(),
+    }
+}

@@ -1,0 +1,295 @@
+-- What a connection that was cut short leaves.
+use Rattle.std.proofs.Common.{◌≡◌, ℕ, ◌+◌, ◌<◌, ◌≤◌, ◌⊎◌, inl, inr, Bool, true, false, cond, List, [], ◌∷◌, ◌++◌, length, take, drop, get_or, refl, sym, ap, ◌∙◌, subst, append_assoc, append-nil, take-append-drop, arith, Option, Some, None, Result, Ok, Err, OnOk, OnErr}
+use Rattle.std.specs.Prelude.{fold}
+use Rattle.std.specs.Io.KnownBytes.{Appends, Consumes, Keeps}
+use Rattle.std.proofs.KnownBytes.{Appends-nil, Appends-trans, Consumes-trans, Consumes-kept}
+use Rattle.std.proofs.lemmas.List.{take_more}
+use Rattle.std.proofs.lemmas.List.Sums.{fold-append}
+use Rattle.gx_soup.specs.declared.packet.ClientPacket.{ClientPacket}
+use Rattle.gx_soup.specs.declared.packet.SoupFault.{SoupFault}
+use Rattle.gx_soup.specs.Packets.{packets_of}
+use Rattle.gx_soup.specs.Feeding.{Held, HasRead, Gives}
+use Rattle.gx_soup.proofs.PacketLaws.{packets_grow}
+use Rattle.gx_core.specs.Gates.{GateData}
+use Rattle.gx_history.specs.declared.record.Request.TheVariants as requests
+use Rattle.gx_units.specs.declared.names.UserName.{UserName}
+use Rattle.gx_session.specs.declared.connection.Connection.{Connection}
+use Rattle.gx_session.specs.declared.event.Next.{Next}
+use Rattle.gx_session.specs.declared.event.Next.TheVariants as nexts
+use Rattle.gx_session.specs.declared.fault.PipeFault.{PipeFault}
+use Rattle.gx_session.specs.declared.fault.PipeFault.TheVariants.{OutOfMemory, ReadFailed, WriteFailed, DayFull, Endless}
+use Rattle.gx_session.specs.declared.session.Phase.{Phase}
+use Rattle.gx_session.specs.declared.session.Phase.TheVariants.{Fresh, Waiting, On, Abandoned, Done}
+use Rattle.gx_session.specs.Devices.{IsFront}
+use Rattle.gx_session.specs.Events.{asks_step, is_over}
+use Rattle.gx_session.specs.Happenings.{Happening}
+use Rattle.gx_session.specs.Happenings as happens
+use Rattle.gx_session.specs.Piping.{who, IsTaken, IsUndone, IsGivenUp, IsPullGivenUp, IsOfSending, IsOfStep, IfFullIsClosed, IsAt, IsMade, IsWithin, IsLeaving, StopsAt, IsCutShort, Follows, Broken, IsFault, LoggedOut, IsAfterFault}
+use Rattle.gx_session.specs.Steps.{asked_by, stepped}
+use Rattle.gx_session.specs.Table.{SessionData, row_in, turn}
+use Rattle.gx_session.specs.Transcript.{Run, with_text, silent, and_then, acted, is_on, on_event, ticked, answered, pulled, handled, on_packet, opened, run_of, finished}
+use Rattle.gx_session.proofs.Runs.{Stands, fold_from}
+use Rattle.gx_session.proofs.Turning.{front_behind, front_longer}
+
+module _ (At : GateData → Connection → Type 0) where
+  within_after : (t : List ℕ) (run : Run) (more : List ClientPacket) (text : List ℕ) (fault : PipeFault) → IsWithin run more text fault At → IsWithin (with_text t run) more text fault At
+  within_after t run more text fault w = record { packet = w.packet; others = w.others; next = w.next; made = w.made; cause = w.cause; rest = w.rest; front = w.front }
+
+  stops_after : (fault : PipeFault) (t : List ℕ) (run : Run) (more : List ClientPacket) (text : List ℕ) → StopsAt fault run more text At → StopsAt fault (with_text t run) more text At
+  stops_after OutOfMemory t run more text (inl b) = inl b
+  stops_after OutOfMemory t run more text (inr w) = inr (within_after t run more text OutOfMemory w)
+  stops_after WriteFailed t run more text (inl b) = inl b
+  stops_after WriteFailed t run more text (inr w) = inr (within_after t run more text WriteFailed w)
+  stops_after DayFull t run more text (inl b) = inl b
+  stops_after DayFull t run more text (inr w) = inr (within_after t run more text DayFull w)
+  stops_after ReadFailed t run more text b = b
+  stops_after Endless t run more text b = b
+
+  stops_all : (fault : PipeFault) (run : Run) → At run.gate run.connection → StopsAt fault run [] [] At
+  stops_all OutOfMemory run at = inl (refl, at)
+  stops_all WriteFailed run at = inl (refl, at)
+  stops_all DayFull run at = inl (refl, at)
+  stops_all ReadFailed run at = (refl, (refl, at))
+  stops_all Endless run at = (refl, (refl, at))
+
+  -- packets that were taken whole, and then some that were cut short
+  abbrev cut_after : (start : Run) (ps qs : List ClientPacket) (gate : GateData) (connection : Connection) (output mid left : Option (List ℕ)) (fault : PipeFault) → IsTaken (fold on_packet start ps) gate connection output mid → IsCutShort (silent gate connection) qs mid left fault At → IsCutShort start (ps ++ qs) output left fault At
+  cut_after start ps qs gate connection output mid left fault taken cut =
+      let run = fold on_packet start ps in
+      let then = fold on_packet (silent gate connection) cut.packets in
+      let here : silent run.gate run.connection ≡ silent gate connection = ap (λ h. silent h run.connection) (sym taken.gate) ∙ ap (λ s. silent gate s) (sym taken.connection) in
+      let e : fold on_packet start (ps ++ cut.packets) ≡ with_text run.text then =
+      fold-append on_packet start ps cut.packets ∙ (fold_from cut.packets run ∙ ap (λ s. with_text run.text (fold on_packet s cut.packets)) here) in
+      let told : run.text ++ (then.text ++ cut.text) ≡ (fold on_packet start (ps ++ cut.packets)).text ++ cut.text =
+      sym (append_assoc run.text then.text cut.text) ∙ ap (λ (r : Run). r.text ++ cut.text) (sym e) in
+      record {
+        packets = ps ++ cut.packets;
+        more = cut.more;
+        split = ap (λ x. ps ++ x) cut.split ∙ sym (append_assoc ps cut.packets cut.more);
+        text = cut.text;
+        written = subst (Appends output left) told (Appends-trans output mid left _ _ taken.text cut.written);
+        stop = subst (λ r. StopsAt fault r cut.more cut.text At) (sym e) (stops_after fault run.text then cut.more cut.text cut.stop);
+      }
+
+  cut_fault : (input left left' output written written' : Option (List ℕ)) (before : GateData) (first : ℕ) (gate : GateData) (connection : Connection) (feeder : Held) (piece : List ℕ) (fault : PipeFault) → (s : Stands input left output written before first gate connection feeder) → Consumes left left' piece → length piece ≤ 4096 → Broken gate connection s.bytes piece written written' fault At → IsFault input left' output written' before first fault At
+  unfolding run_of
+  cut_fault input left left' output written written' before first gate connection feeder piece fault s took small b =
+      let taken : IsTaken (fold on_packet (opened before first) (packets_of s.bytes).packets) gate connection output written = record { gate = s.follows.gate; connection = s.follows.connection; text = s.text } in
+      let cut = cut_after (opened before first) (packets_of s.bytes).packets b.given gate connection output written written' fault taken b.cut in
+      record {
+        bytes = s.bytes ++ piece;
+        consumed = Consumes-trans input left left' s.bytes piece s.consumed took;
+        cut = record { packets = cut.packets; more = cut.more; split = b.split ∙ cut.split; text = cut.text; written = cut.written; stop = cut.stop };
+        prompt = record { earlier = s.bytes; piece = piece; read = refl; small = small; behind = b.cut.packets; answered = refl };
+      }
+
+  whole_fault : (input left left' output written : Option (List ℕ)) (before : GateData) (first : ℕ) (gate : GateData) (connection : Connection) (feeder : Held) (fault : PipeFault) → (s : Stands input left output written before first gate connection feeder) → Keeps left left' → At gate connection → IsFault input left' output written before first fault At
+  unfolding run_of
+  whole_fault input left left' output written before first gate connection feeder fault s kept at =
+      let run = fold on_packet (opened before first) (packets_of s.bytes).packets in
+      let there : At run.gate run.connection = subst (λ h. At h run.connection) s.follows.gate (subst (At gate) s.follows.connection at) in
+      record {
+        bytes = s.bytes;
+        consumed = Consumes-kept input left left' s.bytes s.consumed kept;
+        cut = record {
+          packets = (packets_of s.bytes).packets;
+          more = [];
+          split = sym (append-nil (packets_of s.bytes).packets);
+          text = [];
+          written = subst (Appends output written) (sym (append-nil run.text)) s.text;
+          stop = stops_all fault run there;
+        };
+        prompt = record {
+          earlier = s.bytes;
+          piece = [];
+          read = sym (append-nil s.bytes);
+          small = omega arith;
+          behind = [];
+          answered = sym (append-nil (packets_of s.bytes).packets);
+        };
+      }
+
+module _ (At Then : GateData → Connection → Type 0) (leads : (gate : GateData) (connection : Connection) → At gate connection → Then gate connection) where
+  made_leads : (run : Run) (packet : ClientPacket) → IsMade run packet At → IsMade run packet Then
+  made_leads run packet (inl at) = inl (leads _ _ at)
+  made_leads run packet (inr at) = inr (leads _ _ at)
+
+  within_leads : (run : Run) (more : List ClientPacket) (text : List ℕ) (fault : PipeFault) → IsWithin run more text fault At → IsWithin run more text fault Then
+  within_leads run more text fault w = record { packet = w.packet; others = w.others; next = w.next; made = made_leads run w.packet w.made; cause = w.cause; rest = w.rest; front = w.front }
+
+  stops_lead : (fault : PipeFault) (run : Run) (more : List ClientPacket) (text : List ℕ) → StopsAt fault run more text At → StopsAt fault run more text Then
+  stops_lead OutOfMemory run more text (inl b) = inl (b.0, leads _ _ b.1)
+  stops_lead OutOfMemory run more text (inr w) = inr (within_leads run more text OutOfMemory w)
+  stops_lead WriteFailed run more text (inl b) = inl (b.0, leads _ _ b.1)
+  stops_lead WriteFailed run more text (inr w) = inr (within_leads run more text WriteFailed w)
+  stops_lead DayFull run more text (inl b) = inl (b.0, leads _ _ b.1)
+  stops_lead DayFull run more text (inr w) = inr (within_leads run more text DayFull w)
+  stops_lead ReadFailed run more text b = (b.0, (b.1.0, leads _ _ b.1.1))
+  stops_lead Endless run more text b = (b.0, (b.1.0, leads _ _ b.1.1))
+
+  fault_leads : (input left output written : Option (List ℕ)) (before : GateData) (first : ℕ) (fault : PipeFault) → IsFault input left output written before first fault At → IsFault input left output written before first fault Then
+  fault_leads input left output written before first fault f = record {
+    bytes = f.bytes;
+    consumed = f.consumed;
+    cut = record { packets = f.cut.packets; more = f.cut.more; split = f.cut.split; text = f.cut.text; written = f.cut.written; stop = stops_lead fault _ _ _ f.cut.stop };
+    prompt = record { earlier = f.prompt.earlier; piece = f.prompt.piece; read = f.prompt.read; small = f.prompt.small; behind = f.prompt.behind; answered = f.prompt.answered };
+  }
+
+-- The first packet was cut short.
+
+module _ (gate : GateData) (c : Connection) (packet : ClientPacket) (going : is_over c.session.phase ≡ false) where
+  abbrev pub row : Run
+  row = answered gate (ticked c) packet c.coming
+
+  handled_is : handled gate c packet ≡ and_then row (λ g k. pulled g k c.coming)
+  unfolding handled
+  handled_is = ap (λ b. cond b (silent gate c) (and_then row (λ g k. pulled g k c.coming))) going
+
+  text_is : (handled gate c packet).text ≡ row.text ++ (pulled row.gate row.connection c.coming).text
+  text_is = ap (λ (r : Run). r.text) handled_is
+
+  undone : (fault : PipeFault) (now : GateData) (state : Connection) (output left : Option (List ℕ)) (others : List ClientPacket) → IsUndone gate (ticked c) fault now state output left → IsCutShort (silent gate c) (packet ∷ others) output left fault (IsAt now state)
+  undone fault now state output left others u =
+      record { packets = []; more = packet ∷ others; split = refl; text = []; written = u.written; stop = stops fault u.cause }
+    where
+      stops : (e : PipeFault) → IsOfStep e → StopsAt e (silent gate c) (packet ∷ others) [] (IsAt now state)
+      stops OutOfMemory k = inl (refl, (u.gate_is, u.user))
+      stops DayFull k = inl (refl, (u.gate_is, u.user))
+      stops WriteFailed k = absurd k
+      stops ReadFailed k = absurd k
+      stops Endless k = absurd k
+
+  within : (fault : PipeFault) (now : GateData) (state : Connection) (output left : Option (List ℕ)) (others : List ClientPacket) → IsMade (silent gate c) packet (IsAt now state) → IfFullIsClosed fault row.gate → IsFront output left (handled gate c packet).text → IsCutShort (silent gate c) (packet ∷ others) output left fault (IsAt now state)
+  within fault now state output left others made cause f =
+      record { packets = []; more = packet ∷ others; split = refl; text = f.front; written = f.written; stop = stops fault cause }
+    where
+      there : (e : PipeFault) → IfFullIsClosed e row.gate → IsWithin (silent gate c) (packet ∷ others) f.front e (IsAt now state)
+      there e k = record { packet = packet; others = others; next = refl; made = made; cause = k; rest = f.rest; front = f.whole }
+
+      stops : (e : PipeFault) → IfFullIsClosed e row.gate → StopsAt e (silent gate c) (packet ∷ others) f.front (IsAt now state)
+      stops OutOfMemory k = inr (there OutOfMemory k)
+      stops WriteFailed k = inr (there WriteFailed k)
+      stops DayFull k = inr (there DayFull k)
+      stops ReadFailed k = absurd k
+      stops Endless k = absurd k
+
+  of_sending : (g : GateData) (fault : PipeFault) → IsOfSending fault → IfFullIsClosed fault g
+  of_sending g OutOfMemory k = tt
+  of_sending g WriteFailed k = tt
+  of_sending g ReadFailed k = absurd k
+  of_sending g DayFull k = absurd k
+  of_sending g Endless k = absurd k
+
+  pulled_at : {output mid : Option (List ℕ)} (then : GateData) (on : Connection) → IsTaken row then on output mid → pulled then on c.coming ≡ pulled row.gate row.connection c.coming
+  pulled_at then on t = ap (λ g. pulled g on c.coming) t.gate ∙ ap (λ k. pulled row.gate k c.coming) t.connection
+
+  pub answer_cut : (fault : PipeFault) (now : GateData) (state : Connection) (output left : Option (List ℕ)) → IsGivenUp gate (ticked c) row fault now state output left → (others : List ClientPacket) → IsCutShort (silent gate c) (packet ∷ others) output left fault (IsAt now state)
+  answer_cut fault now state output left (inl u) others = undone fault now state output left others u
+  answer_cut fault now state output left (inr u) others =
+      within fault now state output left others (inl (u.gate, u.user)) (of_sending row.gate fault u.cause)
+      (subst (IsFront output left) (sym text_is) (front_longer row.text (pulled row.gate row.connection c.coming).text output left u.text))
+
+  pub pull_cut : (fault : PipeFault) (then now : GateData) (on state : Connection) (output mid left : Option (List ℕ)) → IsTaken row then on output mid → IsPullGivenUp then on c.coming fault now state mid left → (others : List ClientPacket) → IsCutShort (silent gate c) (packet ∷ others) output left fault (IsAt now state)
+  pull_cut fault then now on state output mid left t (inl u) others =
+      within fault now state output left others
+      (inl (u.gate_is ∙ t.gate, u.user ∙ ap who t.connection))
+      (subst (IfFullIsClosed fault) t.gate u.cause)
+      (subst (IsFront output left) (sym (text_is ∙ ap (λ (r : Run). row.text ++ r.text) (sym (pulled_at then on t)))) (front_behind row.text (pulled then on c.coming).text output mid left t.text u.text))
+  pull_cut fault then now on state output mid left t (inr u) others =
+      within fault now state output left others
+      (inr (u.gate ∙ (ap (λ (r : Run). r.gate) (pulled_at then on t) ∙ sym (ap (λ (r : Run). r.gate) handled_is)), u.user ∙ (ap (λ (r : Run). who r.connection) (pulled_at then on t) ∙ sym (ap (λ (r : Run). who r.connection) handled_is))))
+      (of_sending row.gate fault u.cause)
+      (subst (IsFront output left) (sym (text_is ∙ ap (λ (r : Run). row.text ++ r.text) (sym (pulled_at then on t)))) (front_behind row.text (pulled then on c.coming).text output mid left t.text u.text))
+
+-- the packet at this place was cut short
+pub item_cut : (gate : GateData) (connection : Connection) (packets : List ClientPacket) (i : ℕ) (packet : ClientPacket) → i < length packets → packet ≡ get_or packets i packet → (then : GateData) (state : Connection) (output mid left : Option (List ℕ)) (fault : PipeFault) (now : GateData) (after : Connection) → IsTaken (fold on_packet (silent gate connection) (take i packets)) then state output mid → ((others : List ClientPacket) → IsCutShort (silent then state) (packet ∷ others) mid left fault (IsAt now after)) → IsCutShort (silent gate connection) packets output left fault (IsAt now after)
+item_cut gate connection packets i packet within item then state output mid left fault now after taken cut =
+    let others = drop (i + 1) packets in
+    let one : take (i + 1) packets ≡ take i packets ++ packet ∷ [] = take_more packets i packet within ∙ ap (λ p. take i packets ++ p ∷ []) (sym item) in
+    let all : take i packets ++ packet ∷ others ≡ packets =
+    sym (append_assoc (take i packets) (packet ∷ []) others) ∙ (ap (λ x. x ++ others) (sym one) ∙ take-append-drop (i + 1) packets) in
+    subst (λ ps. IsCutShort (silent gate connection) ps output left fault (IsAt now after)) all (cut_after (IsAt now after) (silent gate connection) (take i packets) (packet ∷ others) then state output mid left fault taken (cut others))
+
+-- nothing of the piece was fed
+pub feed_cut : (gate : GateData) (connection : Connection) (bytes piece : List ℕ) (output : Option (List ℕ)) → Broken gate connection bytes piece output output OutOfMemory (IsAt gate connection)
+feed_cut gate connection bytes piece output =
+    let g = packets_grow bytes piece in
+    record { given = g.0; split = g.1; cut = record { packets = []; more = g.0; split = refl; text = []; written = Appends-nil output; stop = inl (refl, (refl, refl)) } }
+
+pub broken_by : (gate : GateData) (connection : Connection) (feeder feeder' : Held) (piece : List ℕ) (given : List ClientPacket) (told : Option SoupFault) (output left : Option (List ℕ)) (fault : PipeFault) (now : GateData) (state : Connection) → ((bytes : List ℕ) → HasRead feeder bytes → Gives given told feeder' bytes piece) → IsCutShort (silent gate connection) given output left fault (IsAt now state) → (before : GateData) (first : ℕ) (bytes : List ℕ) → Follows before first bytes gate connection feeder → Broken gate connection bytes piece output left fault (IsAt now state)
+broken_by gate connection feeder feeder' piece given told output left fault now state feeds cut before first bytes follows =
+    record { given = given; split = (feeds bytes follows.reads).packets; cut = cut }
+
+pub fault_stands : (input left left' output written : Option (List ℕ)) (before : GateData) (first : ℕ) (gate : GateData) (connection : Connection) (feeder : Held) (fault : PipeFault) (now : GateData) (state : Connection) → Stands input left output written before first gate connection feeder → Keeps left left' → now ≡ gate → state ≡ connection → IsFault input left' output written before first fault (IsAt now state)
+fault_stands input left left' output written before first gate connection feeder fault now state s kept h e =
+    whole_fault (IsAt now state) input left left' output written before first gate connection feeder fault s kept (h, ap who e)
+
+pub fault_broken : (input left left' output written written' : Option (List ℕ)) (before : GateData) (first : ℕ) (gate : GateData) (connection : Connection) (feeder : Held) (piece : List ℕ) (fault : PipeFault) (now : GateData) (state : Connection) → (s : Stands input left output written before first gate connection feeder) → Consumes left left' piece → length piece ≤ 4096 → Broken gate connection s.bytes piece written written' fault (IsAt now state) → IsFault input left' output written' before first fault (IsAt now state)
+fault_broken input left left' output written written' before first gate connection feeder piece fault now state s took small b =
+    cut_fault (IsAt now state) input left left' output written written' before first gate connection feeder piece fault s took small b
+
+row_leaves : (p : Phase) (e : Happening) (silent quiet : Bool) → IsLeaving e → (row_in p e silent quiet).reply.next ≡ (row_in p happens.End silent quiet).reply.next
+row_leaves p (happens.Packet packet) silent quiet k = absurd k
+row_leaves p (happens.Answered answer) silent quiet k = absurd k
+row_leaves p (happens.Pulled count ended) silent quiet k = absurd k
+row_leaves p happens.Tick silent quiet k = absurd k
+row_leaves p happens.End silent quiet k = refl
+row_leaves Fresh (happens.Refused fault) silent quiet k = refl
+row_leaves Waiting (happens.Refused fault) silent quiet k = refl
+row_leaves On (happens.Refused fault) silent quiet k = refl
+row_leaves Abandoned (happens.Refused fault) silent quiet k = refl
+row_leaves Done (happens.Refused fault) silent quiet k = refl
+row_leaves Fresh happens.Fault silent quiet k = refl
+row_leaves Waiting happens.Fault silent quiet k = refl
+row_leaves On happens.Fault silent quiet k = refl
+row_leaves Abandoned happens.Fault silent quiet k = refl
+row_leaves Done happens.Fault silent quiet k = refl
+
+-- a fault of the input, its end and a refused step ask for the same
+pub leaves_as_at_the_end : (gate : GateData) (c : Connection) (e : Happening) (next : Next) (moment : ℕ) → IsLeaving e → moment ≡ c.session.heard → next ≡ (turn c.session e moment).reply.next → acted gate c.user moment next ≡ (finished (silent gate c)).gate
+unfolding finished on_event turn
+leaves_as_at_the_end gate c e next moment k m n =
+    ap (acted gate c.user moment) (n ∙ row_leaves c.session.phase e _ _ k) ∙ ap (λ h. (on_event gate c happens.End h).gate) m
+
+abbrev AsksAtTheEnd : Phase → Next → Type 0
+AsksAtTheEnd p next = ((next ≡ nexts.Logout) × (is_on p ≡ true)) ⊎ (asks_step next ≡ false)
+
+row_asks : (p : Phase) (silent quiet : Bool) → AsksAtTheEnd p (row_in p happens.End silent quiet).reply.next
+row_asks Fresh silent quiet = inr refl
+row_asks Waiting silent quiet = inr refl
+row_asks On silent quiet = inl (refl, refl)
+row_asks Abandoned silent quiet = inr refl
+row_asks Done silent quiet = inr refl
+
+end_asks : (session : SessionData) (moment : ℕ) → AsksAtTheEnd session.phase (turn session happens.End moment).reply.next
+unfolding turn
+end_asks session moment = row_asks session.phase _ _
+
+acted_still : (gate : GateData) (user : UserName) (moment : ℕ) (next : Next) → asks_step next ≡ false → acted gate user moment next ≡ gate
+acted_still gate user moment nexts.Idle h = refl
+acted_still gate user moment nexts.Login h = refl
+acted_still gate user moment (nexts.Act request) h = cc
+acted_still gate user moment nexts.Logout h = cc
+acted_still gate user moment nexts.Close h = refl
+
+logged : (now after : GateData) (state : Connection) (next : Next) → after ≡ acted now state.user state.session.heard next → AsksAtTheEnd state.session.phase next → (gate : GateData) (connection : Connection) → IsAt now state gate connection → LoggedOut after gate connection
+logged now after state next e (inl asks) gate connection at =
+    inr (
+      state.user,
+      state.session.heard,
+      sym at.1 ∙ ap (λ b. cond b (Some state.user) None) asks.1,
+      e ∙ (ap (acted now state.user state.session.heard) asks.0 ∙ ap (λ g. stepped g (asked_by state.user requests.Logout state.session.heard)) at.0),
+    )
+logged now after state next e (inr asks) gate connection at =
+    inl (e ∙ (acted_still now state.user state.session.heard next asks ∙ at.0))
+
+finished_at : (now after : GateData) (state : Connection) → after ≡ (finished (silent now state)).gate → (gate : GateData) (connection : Connection) → IsAt now state gate connection → LoggedOut after gate connection
+unfolding finished on_event
+finished_at now after state e gate connection at =
+    logged now after state _ e (end_asks state.session state.session.heard) gate connection at
+
+pub after_either : {T E : Type 0} (input left output written : Option (List ℕ)) (before : GateData) (first : ℕ) (now after : GateData) (state state' : Connection) (fault : PipeFault) (r : Result T E) → IsFault input left output written before first fault (IsAt now state) → OnOk r (after ≡ (finished (silent now state)).gate) → OnErr r ((after ≡ now) × (state' ≡ state)) → IsAfterFault input left output written before first after fault
+after_either input left output written before first now after state state' fault (Ok x) f ok err =
+    fault_leads (IsAt now state) (LoggedOut after) (finished_at now after state ok) input left output written before first fault f
+after_either input left output written before first now after state state' fault (Err x) f ok err =
+    fault_leads (IsAt now state) (LoggedOut after) (λ gate connection at. inl (err.0 ∙ at.0)) input left output written before first fault f

@@ -1,0 +1,7 @@
+pub mod Rows
+pub mod Known
+pub mod Stepping
+pub mod Turning
+pub mod Runs
+pub mod Faults
+pub mod Serving

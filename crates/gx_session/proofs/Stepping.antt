@@ -1,0 +1,51 @@
+-- What a step and a pull make of a gate.
+use Rattle.std.proofs.Common.{◌≡◌, ℕ, ◌<◌, List, [], ◌∷◌, ◌++◌, length, take, Option, Some, refl, sym, ap, ◌∙◌, arith, length-take}
+use Rattle.std.specs.Option.{option_map_or}
+use Rattle.std.proofs.lemmas.List.{take_all}
+use Rattle.gx_units.specs.Spelling.{folded_user}
+use Rattle.gx_units.specs.declared.names.UserName.{UserName}
+use Rattle.gx_soup.specs.declared.packet.LoginRequest.{LoginRequest}
+use Rattle.gx_history.specs.declared.record.Asked.{Asked}
+use Rattle.gx_history.specs.declared.record.RecordData.{RecordData}
+use Rattle.gx_history.specs.declared.record.Step.TheVariants as steps
+use Rattle.gx_history.specs.declared.record.Verdict.{Verdict}
+use Rattle.gx_history.specs.declared.policy.PolicyData.{PolicyData}
+use Rattle.gx_history.specs.Verdicts.{next, verdict, after_step}
+use Rattle.gx_history_laws.proofs.Granting.{verdict_of_next}
+use Rattle.gx_core.specs.Gates.{GateData, left_by}
+use Rattle.gx_core.specs.Logins.{login_answered}
+use Rattle.gx_core.specs.declared.outcome.LoginAnswer.{LoginAnswer}
+use Rattle.gx_core.specs.declared.outcome.Outcome.{Outcome}
+use Rattle.gx_session.specs.Steps.{stepped, login_asked_at, login_told}
+
+same_gate : (p q : PolicyData) (r s : List RecordData) (after : GateData) → after ≡ record { policy = p; records = r } → p ≡ q → r ≡ s → after ≡ record { policy = q; records = s }
+same_gate p q r s after h e f =
+    let policied : PolicyData → GateData = λ x. record { policy = x; records = r } in
+    let recorded : List RecordData → GateData = λ x. record { policy = q; records = x } in
+    h ∙ (ap policied e ∙ ap recorded f)
+
+-- a step's gate
+pub stepped_is : (gate after : GateData) (a : Asked) (o : Outcome) → after.policy ≡ gate.policy → next gate.policy gate.records (steps.Asked a) ≡ Some (left_by a o)
+    → after.records ≡ gate.records ++ left_by a o ∷ [] → after ≡ stepped gate a
+stepped_is gate after a o p n r =
+    let e : after.records ≡ after_step gate.policy gate.records (steps.Asked a) =
+    r ∙ sym (ap (λ (x : Option RecordData). option_map_or (λ (y : RecordData). gate.records ++ y ∷ []) x gate.records) n) in
+    same_gate after.policy gate.policy after.records (after_step gate.policy gate.records (steps.Asked a)) after refl p e
+
+-- what a login is told
+pub told_is : (gate : GateData) (moment : ℕ) (login : LoginRequest) (after : GateData) (a : Asked) (o : Outcome) (user : UserName) (answer : LoginAnswer)
+    → a ≡ login_asked_at gate moment login → after.policy ≡ gate.policy → next gate.policy gate.records (steps.Asked a) ≡ Some (left_by a o)
+    → after.records ≡ gate.records ++ left_by a o ∷ [] → user ≡ folded_user login.user
+    → answer ≡ login_answered after.policy after.records user login.wanted o.verdict → answer ≡ login_told gate moment login
+unfolding login_told
+told_is gate moment login after a o user answer asked p n r u e =
+    let s : after ≡ stepped gate a = stepped_is gate after a o p n r in
+    let v : o.verdict ≡ verdict gate.policy gate.records a = verdict_of_next gate.policy gate.records a (left_by a o) n in
+    e ∙ (ap (λ (x : GateData). login_answered x.policy x.records user login.wanted o.verdict) s
+    ∙ (ap (λ (x : UserName). login_answered gate.policy (stepped gate a).records x login.wanted o.verdict) u
+    ∙ (ap (λ (x : Verdict). login_answered gate.policy (stepped gate a).records (folded_user login.user) login.wanted x) v
+    ∙ ap (λ (x : Asked). login_answered gate.policy (stepped gate x).records (folded_user login.user) login.wanted (verdict gate.policy gate.records x)) asked)))
+
+-- fewer than were asked for are all
+pub all_taken : {X : Type 0} (xs : List X) (most : ℕ) → length (take most xs) < most → take most xs ≡ xs
+all_taken xs most h = take_all most xs (omega (arith, h, length-take most xs))

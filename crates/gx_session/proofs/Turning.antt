@@ -1,0 +1,268 @@
+-- What an event, a login, a packet and a pull leave, whole or given up.
+use Rattle.std.proofs.Common.{◌≡◌, ℕ, ◌+◌, ◌-◌, ◌<◌, inl, inr, max, pred, nat_lt, Bool, true, false, ◌&&◌, cond, is_some, List, [], ◌++◌, length, take, drop, Option, Some, None, refl, sym, ap, ◌∙◌, subst, append_assoc, append-nil, arith, length-drop}
+use Rattle.std.proofs.lemmas.Bool.Decides.{nat_tests}
+use Rattle.std.specs.Io.KnownBytes.{Appends}
+use Rattle.std.proofs.KnownBytes.{Appends-trans}
+use Rattle.gx_units.specs.Spelling.{folded_user}
+use Rattle.gx_units.specs.declared.names.UserName.{UserName}
+use Rattle.gx_soup.specs.declared.packet.LoginRequest.{LoginRequest}
+use Rattle.gx_soup.specs.declared.packet.ClientPacket.{ClientPacket}
+use Rattle.gx_soup.specs.declared.packet.ClientPacket.TheVariants as client
+use Rattle.gx_history.specs.declared.report.Report.{Report}
+use Rattle.gx_history.specs.InForce.{is_closed}
+use Rattle.gx_history.specs.Lists.{slice}
+use Rattle.gx_history.specs.Streams.{stream}
+use Rattle.gx_core.specs.Gates.{GateData}
+use Rattle.gx_core.specs.Told.{ends_before}
+use Rattle.gx_core.specs.declared.outcome.LoginAnswer.{LoginAnswer}
+use Rattle.gx_core.specs.declared.outcome.LoginAnswer.TheVariants as answers
+use Rattle.gx_session.specs.declared.connection.Connection.{Connection}
+use Rattle.gx_session.specs.declared.event.Control.{Control}
+use Rattle.gx_session.specs.declared.event.Next.{Next}
+use Rattle.gx_session.specs.declared.event.Next.TheVariants as nexts
+use Rattle.gx_session.specs.declared.fault.PipeFault.{PipeFault}
+use Rattle.gx_session.specs.declared.fault.PipeFault.TheVariants as faults
+use Rattle.gx_session.specs.declared.fault.SendFault.{SendFault}
+use Rattle.gx_session.specs.declared.fault.SendFault.TheVariants as send_faults
+use Rattle.gx_session.specs.declared.session.Phase.{Phase}
+use Rattle.gx_session.specs.declared.session.Phase.TheVariants.{Fresh, Waiting, On, Abandoned, Done}
+use Rattle.gx_session.specs.Devices.{IsFront, fault_of_send}
+use Rattle.gx_session.specs.Events.{asks_step}
+use Rattle.gx_session.specs.Happenings.{Happening}
+use Rattle.gx_session.specs.Happenings as happens
+use Rattle.gx_session.specs.Piping.{who, IsTaken, IsUnsent, IsGivenUp, IsTurnGivenUp, IsPullGivenUp, GivesAll, IfFullIsClosed, IsOfStep}
+use Rattle.gx_session.specs.Steps.{stepped, login_asked_at, login_told}
+use Rattle.gx_session.specs.Table.{SessionData, row_in, turn}
+use Rattle.gx_session.specs.Transcript.{Run, with_text, silent, control_text, acted, on_event, first_told, logged_in, login_in, with_login, answered, reports_text, sent, unsent, is_on, pulled}
+use Rattle.gx_session.proofs.Stepping.{all_taken}
+
+-- Rows of the table.
+
+row_answered : (p : Phase) (a : LoginAnswer) (silent quiet : Bool) → p ≡ Waiting → asks_step (row_in p (happens.Answered a) silent quiet).reply.next ≡ false
+row_answered Fresh a silent quiet h = cc
+row_answered Waiting (answers.Accepted name next) silent quiet h = refl
+row_answered Waiting (answers.Rejected reason) silent quiet h = refl
+row_answered On a silent quiet h = cc
+row_answered Abandoned a silent quiet h = cc
+row_answered Done a silent quiet h = cc
+
+answer_asks_nothing : (session : SessionData) (a : LoginAnswer) (moment : ℕ) → session.phase ≡ Waiting → asks_step (turn session (happens.Answered a) moment).reply.next ≡ false
+unfolding turn
+answer_asks_nothing session a moment h = row_answered session.phase a _ _ h
+
+row_packet : (p : Phase) (packet : ClientPacket) (silent quiet : Bool) → (row_in p (happens.Packet packet) silent quiet).reply.send ≡ None
+row_packet Fresh (client.Login login) silent quiet = refl
+row_packet Fresh (client.Data payload) silent quiet = refl
+row_packet Fresh client.Logout silent quiet = refl
+row_packet Fresh client.Heartbeat silent quiet = refl
+row_packet Fresh client.Debug silent quiet = refl
+row_packet Waiting packet silent quiet = refl
+row_packet On (client.Login login) silent quiet = refl
+row_packet On (client.Data payload) silent quiet = refl
+row_packet On client.Logout silent quiet = refl
+row_packet On client.Heartbeat silent quiet = refl
+row_packet On client.Debug silent quiet = refl
+row_packet Abandoned packet silent quiet = refl
+row_packet Done packet silent quiet = refl
+
+pub packet_is_silent : (session : SessionData) (packet : ClientPacket) (moment : ℕ) → (turn session (happens.Packet packet) moment).reply.send ≡ None
+unfolding turn
+packet_is_silent session packet moment = row_packet session.phase packet _ _
+
+-- a login is asked for by one who is not on, and then waits
+record WaitsFor (before after : Phase) : Type 0 where
+  fresh : is_on before ≡ false
+  waiting : after ≡ Waiting
+
+row_login : (p : Phase) (packet : ClientPacket) (silent quiet : Bool) → (row_in p (happens.Packet packet) silent quiet).reply.next ≡ nexts.Login → WaitsFor p (row_in p (happens.Packet packet) silent quiet).phase
+row_login Fresh (client.Login login) silent quiet h = record { fresh = refl; waiting = refl }
+row_login Fresh (client.Data payload) silent quiet h = cc
+row_login Fresh client.Logout silent quiet h = cc
+row_login Fresh client.Heartbeat silent quiet h = cc
+row_login Fresh client.Debug silent quiet h = cc
+row_login Waiting packet silent quiet h = cc
+row_login On (client.Login login) silent quiet h = cc
+row_login On (client.Data payload) silent quiet h = cc
+row_login On client.Logout silent quiet h = cc
+row_login On client.Heartbeat silent quiet h = cc
+row_login On client.Debug silent quiet h = cc
+row_login Abandoned packet silent quiet h = cc
+row_login Done packet silent quiet h = cc
+
+login_waits : (session : SessionData) (packet : ClientPacket) (moment : ℕ) → (turn session (happens.Packet packet) moment).reply.next ≡ nexts.Login → WaitsFor session.phase (turn session (happens.Packet packet) moment).session.phase
+unfolding turn
+login_waits session packet moment h = row_login session.phase packet _ _ h
+
+row_pulled : (p : Phase) (count : ℕ) (ended : Bool) (silent quiet : Bool) → asks_step (row_in p (happens.Pulled count ended) silent quiet).reply.next ≡ true → ended ≡ true
+row_pulled Fresh count ended silent quiet h = cc
+row_pulled Waiting count ended silent quiet h = cc
+row_pulled On count true silent quiet h = refl
+row_pulled On count false silent quiet h = cc
+row_pulled Abandoned count ended silent quiet h = cc
+row_pulled Done count ended silent quiet h = cc
+
+pull_asks_at_the_end : (session : SessionData) (count : ℕ) (ended : Bool) (moment : ℕ) → asks_step (turn session (happens.Pulled count ended) moment).reply.next ≡ true → ended ≡ true
+unfolding turn
+pull_asks_at_the_end session count ended moment h = row_pulled session.phase count ended _ _ h
+
+-- Text behind text.
+
+taken_behind : (text : List ℕ) (run : Run) (now : GateData) (state : Connection) (output mid left : Option (List ℕ)) → Appends output mid text → IsTaken run now state mid left → IsTaken (with_text text run) now state output left
+taken_behind text run now state output mid left w t = record { gate = t.gate; connection = t.connection; text = Appends-trans output mid left text run.text w t.text }
+
+pub front_behind : (text more : List ℕ) (output mid left : Option (List ℕ)) → Appends output mid text → IsFront mid left more → IsFront output left (text ++ more)
+front_behind text more output mid left w f = record {
+  front = text ++ f.front;
+  rest = f.rest;
+  written = Appends-trans output mid left text f.front w f.written;
+  whole = ap (λ t. text ++ t) f.whole ∙ sym (append_assoc text f.front f.rest);
+}
+
+pub front_longer : (text more : List ℕ) (output left : Option (List ℕ)) → IsFront output left text → IsFront output left (text ++ more)
+front_longer text more output left f = record { front = f.front; rest = f.rest ++ more; written = f.written; whole = ap (λ t. t ++ more) f.whole ∙ append_assoc f.front f.rest more }
+
+front_whole : (text more : List ℕ) (output left : Option (List ℕ)) → Appends output left text → IsFront output left (text ++ more)
+front_whole text more output left w = record { front = text; rest = more; written = w; whole = refl }
+
+-- A login.
+
+logged_in_is : (gate gate' : GateData) (c : Connection) (login : LoginRequest) (moment : ℕ) (answer : LoginAnswer) (next : ℕ) → gate' ≡ stepped gate (login_asked_at gate moment login) → answer ≡ login_told gate moment login → next ≡ first_told answer → logged_in gate c login moment ≡ on_event gate' (record c { user = login.user; next = next }) (happens.Answered answer) moment
+unfolding logged_in
+logged_in_is gate gate' c login moment answer next g a n =
+    ap (λ (x : LoginAnswer). on_event (stepped gate (login_asked_at gate moment login)) (record c { user = login.user; next = first_told x }) (happens.Answered x) moment) (sym a)
+    ∙ (ap (λ x. on_event x (record c { user = login.user; next = first_told answer }) (happens.Answered answer) moment) (sym g)
+    ∙ ap (λ k. on_event gate' (record c { user = login.user; next = k }) (happens.Answered answer) moment) (sym n))
+
+pub log_in_cut : (gate gate' : GateData) (c : Connection) (login : LoginRequest) (moment : ℕ) (answer : LoginAnswer) (next : ℕ) → c.session.phase ≡ Waiting → gate' ≡ stepped gate (login_asked_at gate moment login) → answer ≡ login_told gate moment login → next ≡ first_told answer → (fault : PipeFault) (now : GateData) (state : Connection) (output left : Option (List ℕ)) → IsTurnGivenUp gate' (record c { user = login.user; next = next }) (happens.Answered answer) moment fault now state output left → IsGivenUp gate c (logged_in gate c login moment) fault now state output left
+log_in_cut gate gate' c login moment answer next waiting g a n fault now state output left (inl h) =
+    let quiet = answer_asks_nothing c.session answer moment waiting in
+    let asks = h.0 in
+    cc
+log_in_cut gate gate' c login moment answer next waiting g a n fault now state output left (inr h) =
+    inr (subst (λ r. IsUnsent r fault now state output left) (sym (logged_in_is gate gate' c login moment answer next g a n)) h.1)
+
+-- A packet.
+
+pub packet_cut : (gate : GateData) (c : Connection) (packet : ClientPacket) (moment : ℕ) (fault : PipeFault) (now : GateData) (state : Connection) (output left : Option (List ℕ)) → IsTurnGivenUp gate c (happens.Packet packet) moment fault now state output left → IsGivenUp gate c (answered gate c packet moment) fault now state output left
+packet_cut gate c packet moment fault now state output left (inl h) = inl h.1
+packet_cut gate c packet moment fault now state output left (inr h) =
+    let quiet = packet_is_silent c.session packet moment in
+    let sends = h.0 in
+    let clash : is_some {T = Control} None ≡ true = ap is_some (sym quiet) ∙ sends in
+    cc
+
+pub login_is_waiting : (gate : GateData) (c : Connection) (packet : ClientPacket) (moment : ℕ) (next : Next) (now : GateData) (state : Connection) (output left : Option (List ℕ)) → next ≡ (turn c.session (happens.Packet packet) moment).reply.next → next ≡ nexts.Login → IsTaken (on_event gate c (happens.Packet packet) moment) now state output left → state.session.phase ≡ Waiting
+unfolding on_event
+login_is_waiting gate c packet moment next now state output left n is t =
+    ap (λ (x : Connection). x.session.phase) t.connection ∙ (login_waits c.session packet moment (sym n ∙ is)).waiting
+
+-- A packet that asks for a login.
+
+module _ (gate : GateData) (c : Connection) (packet : ClientPacket) (moment : ℕ) (login : LoginRequest) (now : GateData) (state : Connection) (output mid : Option (List ℕ)) (asks : (turn c.session (happens.Packet packet) moment).reply.next ≡ nexts.Login) (is : packet ≡ client.Login login) (told : IsTaken (on_event gate c (happens.Packet packet) moment) now state output mid) where
+  same_gate : now ≡ gate
+  unfolding on_event
+  same_gate = told.gate ∙ ap (λ n. acted_by n) asks
+    where
+      acted_by : Next → GateData
+      acted_by n = acted gate c.user moment n
+
+  nothing_sent : Appends output mid []
+  unfolding on_event
+  nothing_sent = subst (λ s. Appends output mid (control_text s)) (packet_is_silent c.session packet moment) told.text
+
+  before_is_out : who c ≡ None
+  before_is_out = ap (λ b. cond b (Some c.user) None) (login_waits c.session packet moment asks).fresh
+
+  after_is_out : who state ≡ None
+  unfolding on_event
+  after_is_out = ap who told.connection ∙ ap (λ p. cond (is_on p) (Some c.user) None) (login_waits c.session packet moment asks).waiting
+
+  answered_is : answered gate c packet moment ≡ logged_in now state login moment
+  unfolding answered on_event
+  answered_is =
+      ap (λ s. with_text (control_text s) (with_login (on_event gate c (happens.Packet packet) moment).gate (on_event gate c (happens.Packet packet) moment).connection moment (login_in packet (turn c.session (happens.Packet packet) moment).reply.next))) (packet_is_silent c.session packet moment)
+      ∙ (ap (λ n. with_login (on_event gate c (happens.Packet packet) moment).gate (on_event gate c (happens.Packet packet) moment).connection moment (login_in packet n)) asks
+      ∙ (ap (λ p. with_login (on_event gate c (happens.Packet packet) moment).gate (on_event gate c (happens.Packet packet) moment).connection moment (login_in p nexts.Login)) is
+      ∙ (ap (λ x. logged_in x (on_event gate c (happens.Packet packet) moment).connection login moment) (sym told.gate)
+      ∙ ap (λ x. logged_in now x login moment) (sym told.connection))))
+
+  pub login_cut : (fault : PipeFault) (then : GateData) (after : Connection) (left : Option (List ℕ)) → IsGivenUp now state (logged_in now state login moment) fault then after mid left → IsGivenUp gate c (answered gate c packet moment) fault then after output left
+  login_cut fault then after left (inl u) =
+      inl (record { gate_is = u.gate_is ∙ same_gate; user = u.user ∙ (after_is_out ∙ sym before_is_out); cause = u.cause; written = Appends-trans output mid left [] [] nothing_sent u.written })
+  login_cut fault then after left (inr u) =
+      inr (subst (λ r. IsUnsent r fault then after output left) (sym answered_is) (record { gate = u.gate; user = u.user; cause = u.cause; text = front_behind [] (logged_in now state login moment).text output mid left nothing_sent u.text }))
+
+-- A pull.
+
+first_of : (next : ℕ) → pred (max 1 next) ≡ next - 1
+first_of next = grind arith
+
+past_all : (n next : ℕ) → nat_lt n (max 1 next + (n - (next - 1))) ≡ true
+past_all n next = grind (arith, nat_tests)
+
+-- fewer than were asked for are all
+pub gives_all : (gate : GateData) (c : Connection) (user : UserName) (reports : List Report) (next : ℕ) (ended : Bool) (most : ℕ) → user ≡ folded_user c.user → reports ≡ slice (stream gate.policy gate.records user) c.next most → length reports < most → next ≡ max 1 c.next + length reports → ended ≡ ends_before gate user next → GivesAll gate c reports next ended
+gives_all gate c user reports next ended most u given few n e =
+    let owed = stream gate.policy gate.records user in
+    let place : slice owed c.next most ≡ take most (drop (c.next - 1) owed) = ap (λ k. take most (drop k owed)) (first_of c.next) in
+    let IsFew : List Report → Type 0 = λ xs. length xs < most in
+    let taken : length (take most (drop (c.next - 1) owed)) < most = subst IsFew (given ∙ place) few in
+    let all : reports ≡ drop (c.next - 1) owed = given ∙ (place ∙ all_taken (drop (c.next - 1) owed) most taken) in
+    let left : length reports ≡ length owed - (c.next - 1) = ap length all ∙ length-drop (c.next - 1) owed in
+    let past : nat_lt (length owed) next ≡ true = ap (nat_lt (length owed)) (n ∙ ap (λ k. max 1 c.next + k) left) ∙ past_all (length owed) c.next in
+    record {
+      reports_are = all ∙ ap (λ x. drop (c.next - 1) (stream gate.policy gate.records x)) u;
+      next_is = n;
+      ended_is = e ∙ (ap (λ b. is_closed gate.records && b) past ∙ and_true (is_closed gate.records));
+    }
+  where
+    and_true : (b : Bool) → (b && true) ≡ b
+    and_true true = refl
+    and_true false = refl
+
+module _ (gate : GateData) (c : Connection) (moment : ℕ) (reports : List Report) (count next : ℕ) (ended : Bool) (on : is_on c.session.phase ≡ true) (all : GivesAll gate c reports next ended) (counted : count ≡ length reports) where
+  abbrev pub turned : Run
+  turned = on_event gate (record c { next = next }) (happens.Pulled count ended) moment
+
+  pulled_is : pulled gate c moment ≡ with_text (reports_text reports) turned
+  unfolding pulled sent
+  pulled_is =
+      ap (λ b. cond b (sent gate c (unsent gate c) moment) (silent gate c)) on
+      ∙ (ap (λ xs. sent gate c xs moment) (sym all.reports_are)
+      ∙ (ap (λ k. with_text (reports_text reports) (on_event gate (record c { next = k }) (happens.Pulled (length reports) (is_closed gate.records)) moment)) (sym all.next_is)
+      ∙ (ap (λ b. with_text (reports_text reports) (on_event gate (record c { next = next }) (happens.Pulled (length reports) b) moment)) (sym all.ended_is)
+      ∙ ap (λ n. with_text (reports_text reports) (on_event gate (record c { next = next }) (happens.Pulled n ended) moment)) (sym counted))))
+
+  text_is : (pulled gate c moment).text ≡ reports_text reports ++ turned.text
+  text_is = ap (λ (r : Run). r.text) pulled_is
+
+  pub pull_unsent : (fault : SendFault) (output left : Option (List ℕ)) → IsFront output left (reports_text reports) → IsPullGivenUp gate c moment (fault_of_send fault) gate c output left
+  pull_unsent fault output left f =
+      inl (record { gate_is = refl; user = refl; cause = sends fault; text = subst (IsFront output left) (sym text_is) (front_longer (reports_text reports) turned.text output left f) })
+    where
+      sends : (e : SendFault) → IfFullIsClosed (fault_of_send e) gate
+      sends send_faults.OutOfMemory = tt
+      sends send_faults.WriteFailed = tt
+
+  pub pull_done : (now : GateData) (state : Connection) (output mid left : Option (List ℕ)) → Appends output mid (reports_text reports) → IsTaken turned now state mid left → IsTaken (pulled gate c moment) now state output left
+  pull_done now state output mid left w t =
+      subst (λ r. IsTaken r now state output left) (sym pulled_is) (taken_behind (reports_text reports) turned now state output mid left w t)
+
+  pub pull_unturned : (fault : PipeFault) (now : GateData) (state : Connection) (output mid left : Option (List ℕ)) → Appends output mid (reports_text reports) → IsTurnGivenUp gate (record c { next = next }) (happens.Pulled count ended) moment fault now state mid left → IsPullGivenUp gate c moment fault now state output left
+  pull_unturned fault now state output mid left w (inl h) =
+      let closed : is_closed gate.records ≡ true = sym all.ended_is ∙ pull_asks_at_the_end c.session count ended moment h.0 in
+      inl (record {
+        gate_is = h.1.gate_is;
+        user = h.1.user;
+        cause = if_closed fault h.1.cause closed;
+        text = subst (IsFront output left) (sym text_is) (front_whole (reports_text reports) turned.text output left (subst (Appends output left) (append-nil (reports_text reports)) (Appends-trans output mid left (reports_text reports) [] w h.1.written)));
+      })
+    where
+      if_closed : (e : PipeFault) → IsOfStep e → is_closed gate.records ≡ true → IfFullIsClosed e gate
+      if_closed faults.OutOfMemory f k = tt
+      if_closed faults.WriteFailed f k = absurd f
+      if_closed faults.ReadFailed f k = absurd f
+      if_closed faults.DayFull f k = k
+      if_closed faults.Endless f k = absurd f
+  pull_unturned fault now state output mid left w (inr h) =
+      inr (subst (λ r. IsUnsent r fault now state output left) (sym pulled_is) (record { gate = h.1.gate; user = h.1.user; cause = h.1.cause; text = front_behind (reports_text reports) turned.text output mid left w h.1.text }))

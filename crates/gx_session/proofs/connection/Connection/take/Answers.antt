@@ -1,0 +1,14 @@
+use Rattle.std.proofs.Common.{◌∙◌, sym}
+use Rattle.std.proofs.lemmas.Result.{err_from_is_err_and}
+use Rattle.gx_session.proofs.Known.{on_fault, if_err}
+use Rattle.gx_session.proofs.Faults.{answer_cut, pull_cut}
+use Rattle.gx_session.proofs.connection.Connection.take.Goals as goal
+
+pub returns-in_err-answer-clause-err : goal.returns-in_err-answer-clause-err
+returns-in_err-answer-clause-err g c =
+    let p = err_from_is_err_and c.from_residual.result c.from_residual.ensures.1 in
+    on_fault _ _ _ _ p.1 p.2 (answer_cut c.args.gate.now c.args.self.now c.args.packet.now (sym c.is_over.ensures ∙ c.if-is_over.false) _ _ _ _ _ (rw c.saturating_add-self.ensures at c.in_err-answer.ensures.err))
+
+pub returns-clause-err : goal.returns-clause-err
+returns-clause-err g c =
+    if_err c.pull.result _ _ (λ fault. pull_cut c.args.gate.now c.args.self.now c.args.packet.now (sym c.is_over.ensures ∙ c.if-is_over.false) fault _ _ _ _ _ _ _ (rw c.saturating_add-self.ensures at c.in_ok-answer.ensures.ok)) c.pull.ensures.err

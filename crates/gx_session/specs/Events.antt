@@ -1,0 +1,127 @@
+-- What follows a row of happens.
+use Rattle.std.specs.Prelude.{ℕ, Bool, true, false, ◌&&◌, is_none, List, [], ◌∷◌, IsTrue}
+use Rattle.gx_history.specs.Brought.{is_brought}
+use Rattle.gx_history.specs.Showing.{has_its_first}
+use Rattle.gx_core.specs.declared.outcome.LoginAnswer.{LoginAnswer}
+use Rattle.gx_core.specs.declared.outcome.LoginAnswer.TheVariants as answers
+use Rattle.gx_session.specs.Happenings.{Happening}
+use Rattle.gx_session.specs.Happenings as happens
+use Rattle.gx_session.specs.declared.event.Next.{Next}
+use Rattle.gx_session.specs.declared.event.Next.TheVariants.{Idle, Login, Act, Logout, Close}
+use Rattle.gx_session.specs.declared.event.Reply.{Reply}
+use Rattle.gx_session.specs.declared.session.Phase.{Phase}
+use Rattle.gx_session.specs.declared.session.Phase.TheVariants.{Fresh, Waiting, On, Abandoned, Done}
+use Rattle.gx_session.specs.Table.{SessionData, turn}
+
+-- an event and its moment
+pub record Timed : Type 0 where
+  pub event : Happening
+  pub moment : ℕ
+
+-- the replies to events, in order
+abbrev pub replies : SessionData → List Timed → List Reply
+replies session [] = []
+replies session (h ∷ hs) = (turn session h.event h.moment).reply ∷ replies (turn session h.event h.moment).session hs
+
+-- the session after events
+abbrev pub session_after : SessionData → List Timed → SessionData
+session_after session [] = session
+session_after session (h ∷ hs) = session_after (turn session h.event h.moment).session hs
+
+abbrev pub is_over : Phase → Bool
+is_over Fresh = false
+is_over Waiting = false
+is_over On = false
+is_over Abandoned = true
+is_over Done = true
+
+abbrev pub is_login : Next → Bool
+is_login Idle = false
+is_login Login = true
+is_login (Act request) = false
+is_login Logout = false
+is_login Close = false
+
+abbrev pub is_logout : Next → Bool
+is_logout Idle = false
+is_logout Login = false
+is_logout (Act request) = false
+is_logout Logout = true
+is_logout Close = false
+
+abbrev pub asks_login : Reply → Bool
+asks_login reply = is_login reply.next
+
+abbrev pub asks_logout : Reply → Bool
+asks_logout reply = is_logout reply.next
+
+-- what it asks for is a step of a gate
+abbrev pub asks_step : Next → Bool
+asks_step Idle = false
+asks_step Login = false
+asks_step (Act request) = true
+asks_step Logout = true
+asks_step Close = false
+
+-- a request that it asks for is one that a gate may be asked
+abbrev pub CanAsk : Next → Type 0
+CanAsk Idle = Unit {0}
+CanAsk Login = Unit {0}
+CanAsk (Act request) = IsTrue (is_brought request) × IsTrue (has_its_first request)
+CanAsk Logout = Unit {0}
+CanAsk Close = Unit {0}
+
+-- the session is over after it
+abbrev pub is_last : Next → Bool
+is_last Idle = false
+is_last Login = false
+is_last (Act request) = false
+is_last Logout = true
+is_last Close = true
+
+-- idle, or the logout of a login that was accepted late
+abbrev pub is_late : Next → Bool
+is_late Idle = true
+is_late Login = false
+is_late (Act request) = false
+is_late Logout = true
+is_late Close = false
+
+-- no step of a user's
+abbrev pub is_stepless : Next → Bool
+is_stepless Idle = true
+is_stepless Login = true
+is_stepless (Act request) = false
+is_stepless Logout = false
+is_stepless Close = true
+
+-- nothing is sent, and at most a logout is asked
+abbrev pub is_parting : Reply → Bool
+is_parting reply = is_none reply.send && is_late reply.next
+
+-- nothing is sent, and no request or logout is asked
+abbrev pub is_wordless : Reply → Bool
+is_wordless reply = is_none reply.send && is_stepless reply.next
+
+abbrev pub is_no_answer : Happening → Bool
+is_no_answer (happens.Packet packet) = true
+is_no_answer (happens.Answered answer) = false
+is_no_answer (happens.Refused fault) = true
+is_no_answer (happens.Pulled count ended) = true
+is_no_answer happens.Tick = true
+is_no_answer happens.Fault = true
+is_no_answer happens.End = true
+
+abbrev pub is_accepted : LoginAnswer → Bool
+is_accepted (answers.Accepted name next) = true
+is_accepted (answers.Rejected reason) = false
+
+-- a login's answer is told, and it is Accepted
+abbrev pub is_acceptance : Happening → Bool
+is_acceptance (happens.Packet packet) = false
+is_acceptance (happens.Answered answer) = is_accepted answer
+is_acceptance (happens.Refused fault) = false
+is_acceptance (happens.Pulled count ended) = false
+is_acceptance happens.Tick = false
+is_acceptance happens.Fault = false
+is_acceptance happens.End = false

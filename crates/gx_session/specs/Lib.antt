@@ -1,0 +1,8 @@
+pub mod Happenings
+pub mod Table
+pub mod Events
+pub mod Devices
+pub mod Steps
+pub mod Transcript
+pub mod Piping
+pub mod Serving

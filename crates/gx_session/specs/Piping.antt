@@ -1,0 +1,211 @@
+-- What a connection did to a reader, a writer and a gate.
+use Rattle.std.specs.Prelude.{◌≡◌, ℕ, ◌+◌, ◌≤◌, max, Bool, true, ◌⊎◌, if◌then◌else◌, IsTrue, is_some, List, [], ◌∷◌, ◌++◌, fold, length, Option, Some, None}
+use Rattle.std.specs.Io.KnownBytes.{Consumes, Appends, IsAtEnd}
+use Rattle.gx_units.specs.declared.names.UserName.{UserName}
+use Rattle.gx_soup.specs.declared.packet.ClientPacket.{ClientPacket}
+use Rattle.gx_soup.specs.Packets.{packets_of}
+use Rattle.gx_soup.specs.Feeding.{Held, HasRead}
+use Rattle.gx_history.specs.InForce.{is_closed}
+use Rattle.gx_history.specs.declared.report.Report.{Report}
+use Rattle.gx_history.specs.declared.record.Request.TheVariants as requests
+use Rattle.gx_core.specs.Gates.{GateData}
+use Rattle.gx_session.specs.declared.connection.Connection.{Connection}
+use Rattle.gx_session.specs.declared.fault.PipeFault.{PipeFault}
+use Rattle.gx_session.specs.declared.fault.PipeFault.TheVariants as faults
+use Rattle.gx_session.specs.Devices.{IsFront}
+use Rattle.gx_session.specs.Events.{asks_step}
+use Rattle.gx_session.specs.Happenings.{Happening}
+use Rattle.gx_session.specs.Happenings as happens
+use Rattle.gx_session.specs.Steps.{asked_by, stepped}
+use Rattle.gx_session.specs.Table.{turn}
+use Rattle.gx_session.specs.Transcript.{Run, silent, unsent, is_on, ticked, on_event, answered, pulled, handled, on_packet, opened, run_of, pipe, is_ended}
+
+-- the user who is logged in
+abbrev pub who : Connection → Option UserName
+who connection = if is_on connection.session.phase then Some connection.user else None
+
+-- a fault of sending: a growth was refused, or the writer failed
+abbrev pub IsOfSending : PipeFault → Type 0
+IsOfSending faults.OutOfMemory = Unit {0}
+IsOfSending faults.WriteFailed = Unit {0}
+IsOfSending faults.ReadFailed = ⊥
+IsOfSending faults.DayFull = ⊥
+IsOfSending faults.Endless = ⊥
+
+-- a fault of a step: a growth was refused, or the day is full
+abbrev pub IsOfStep : PipeFault → Type 0
+IsOfStep faults.OutOfMemory = Unit {0}
+IsOfStep faults.DayFull = Unit {0}
+IsOfStep faults.ReadFailed = ⊥
+IsOfStep faults.WriteFailed = ⊥
+IsOfStep faults.Endless = ⊥
+
+-- the run was made, and its text written
+pub record IsTaken (run : Run) (now : GateData) (state : Connection) (output left : Option (List ℕ)) : Type 0 where
+  pub gate : now ≡ run.gate
+  pub connection : state ≡ run.connection
+  pub text : Appends output left run.text
+
+-- no step was made, and nothing written
+pub record IsUndone (gate : GateData) (connection : Connection) (fault : PipeFault) (now : GateData) (state : Connection) (output left : Option (List ℕ)) : Type 0 where
+  pub gate_is : now ≡ gate
+  pub user : who state ≡ who connection
+  pub cause : IsOfStep fault
+  pub written : Appends output left []
+
+-- the run's steps were made, and a front of its text written
+pub record IsUnsent (run : Run) (fault : PipeFault) (now : GateData) (state : Connection) (output left : Option (List ℕ)) : Type 0 where
+  pub gate : now ≡ run.gate
+  pub user : who state ≡ who run.connection
+  pub cause : IsOfSending fault
+  pub text : IsFront output left run.text
+
+-- a run was given up before its step, or behind it
+abbrev pub IsGivenUp : GateData → Connection → Run → PipeFault → GateData → Connection → Option (List ℕ) → Option (List ℕ) → Type 0
+IsGivenUp gate connection run fault now state output left =
+    IsUndone gate connection fault now state output left ⊎ IsUnsent run fault now state output left
+
+-- an event was given up: the step that the session asked for was refused, or its packet not sent
+abbrev pub IsTurnGivenUp : GateData → Connection → Happening → ℕ → PipeFault → GateData → Connection → Option (List ℕ) → Option (List ℕ) → Type 0
+IsTurnGivenUp gate connection event moment fault now state output left =
+    (IsTrue (asks_step (turn connection.session event moment).reply.next) × IsUndone gate connection fault now state output left)
+    ⊎ (IsTrue (is_some (turn connection.session event moment).reply.send) × IsUnsent (on_event gate connection event moment) fault now state output left)
+
+-- a full day is told only where the day is closed
+abbrev pub IfFullIsClosed : PipeFault → GateData → Type 0
+IfFullIsClosed faults.OutOfMemory gate = Unit {0}
+IfFullIsClosed faults.WriteFailed gate = Unit {0}
+IfFullIsClosed faults.ReadFailed gate = ⊥
+IfFullIsClosed faults.DayFull gate = IsTrue (is_closed gate.records)
+IfFullIsClosed faults.Endless gate = ⊥
+
+-- no step was made, and a front of the text written
+pub record IsPartlySent (gate : GateData) (connection : Connection) (run : Run) (fault : PipeFault) (now : GateData) (state : Connection) (output left : Option (List ℕ)) : Type 0 where
+  pub gate_is : now ≡ gate
+  pub user : who state ≡ who connection
+  pub cause : IfFullIsClosed fault gate
+  pub text : IsFront output left run.text
+
+-- reports were not all sent, or the session was not told of them
+abbrev pub IsPullGivenUp : GateData → Connection → ℕ → PipeFault → GateData → Connection → Option (List ℕ) → Option (List ℕ) → Type 0
+IsPullGivenUp gate connection moment fault now state output left =
+    IsPartlySent gate connection (pulled gate connection moment) fault now state output left
+    ⊎ IsUnsent (pulled gate connection moment) fault now state output left
+
+-- a pull gives all that is there: the reports, the number behind them, and whether the day is closed
+pub record GivesAll (gate : GateData) (c : Connection) (reports : List Report) (next : ℕ) (ended : Bool) : Type 0 where
+  pub reports_are : reports ≡ unsent gate c
+  pub next_is : next ≡ max 1 c.next + length reports
+  pub ended_is : ended ≡ is_closed gate.records
+
+-- the input has a fault or is at its end, or a step was refused
+abbrev pub IsLeaving : Happening → Type 0
+IsLeaving (happens.Packet packet) = ⊥
+IsLeaving (happens.Answered answer) = ⊥
+IsLeaving (happens.Refused fault) = Unit {0}
+IsLeaving (happens.Pulled count ended) = ⊥
+IsLeaving happens.Tick = ⊥
+IsLeaving happens.Fault = Unit {0}
+IsLeaving happens.End = Unit {0}
+
+-- this gate, and whether its user is logged in
+abbrev pub IsAt : GateData → Connection → GateData → Connection → Type 0
+IsAt now state gate connection = (now ≡ gate) × (who state ≡ who connection)
+
+-- each packet that was taken is answered whole
+abbrev pub IsBetween : Run → List ℕ → (GateData → Connection → Type 0) → Type 0
+IsBetween run text At = (text ≡ []) × At run.gate run.connection
+
+-- the next packet, and what the session table asks for at it; no reports yet
+abbrev pub row_of : Run → ClientPacket → Run
+row_of run packet = answered run.gate (ticked run.connection) packet run.connection.coming
+
+-- the next packet's row of the session table is done, perhaps with the end of the day's session behind it
+abbrev pub IsMade : Run → ClientPacket → (GateData → Connection → Type 0) → Type 0
+IsMade run packet At =
+    At (row_of run packet).gate (row_of run packet).connection ⊎ At (on_packet run packet).gate (on_packet run packet).connection
+
+-- the next packet's step is made, and a front of its answer written
+pub record IsWithin (run : Run) (more : List ClientPacket) (text : List ℕ) (fault : PipeFault) (At : GateData → Connection → Type 0) : Type 0 where
+  pub packet : ClientPacket
+  pub others : List ClientPacket
+  pub next : more ≡ packet ∷ others
+  pub made : IsMade run packet At
+  pub cause : IfFullIsClosed fault (row_of run packet).gate
+  pub rest : List ℕ
+  pub front : (handled run.gate run.connection packet).text ≡ text ++ rest
+
+-- Where a fault stops a connection: a failed read and an endless input only once all that was read is answered.
+abbrev pub StopsAt : PipeFault → Run → List ClientPacket → List ℕ → (GateData → Connection → Type 0) → Type 0
+StopsAt faults.ReadFailed run more text At = (more ≡ []) × IsBetween run text At
+StopsAt faults.Endless run more text At = (more ≡ []) × IsBetween run text At
+StopsAt fault run more text At = IsBetween run text At ⊎ IsWithin run more text fault At
+
+-- The first of the packets were taken and answered whole; of the next one perhaps a step and a front of its answer.
+pub record IsCutShort (start : Run) (all : List ClientPacket) (output left : Option (List ℕ)) (fault : PipeFault) (At : GateData → Connection → Type 0) : Type 0 where
+  pub packets : List ClientPacket
+  pub more : List ClientPacket
+  pub split : all ≡ packets ++ more
+  pub text : List ℕ
+  pub written : Appends output left ((fold on_packet start packets).text ++ text)
+  pub stop : StopsAt fault (fold on_packet start packets) more text At
+
+-- after these bytes: what the feeder keeps, the gate and the connection
+pub record Follows (before : GateData) (first : ℕ) (bytes : List ℕ) (now : GateData) (state : Connection) (feeder : Held) : Type 0 where
+  pub reads : HasRead feeder bytes
+  pub gate : now ≡ (run_of before first bytes).gate
+  pub connection : state ≡ (run_of before first bytes).connection
+
+-- a piece was read and answered
+pub record Exchanged (before : GateData) (first : ℕ) (bytes piece : List ℕ) (over : Bool) (now : GateData) (state : Connection) (feeder : Held) (output left : Option (List ℕ)) : Type 0 where
+  pub follows : Follows before first (bytes ++ piece) now state feeder
+  pub ends : over ≡ is_ended before first (bytes ++ piece)
+  pub text : List ℕ
+  pub written : Appends output left text
+  pub more : (run_of before first (bytes ++ piece)).text ≡ (run_of before first bytes).text ++ text
+
+-- of the bytes read, the gate and the bytes written are the pipe's; the bytes read are all, or no further one counts
+pub record IsTranscript (input left output written : Option (List ℕ)) (before : GateData) (first : ℕ) (after : GateData) : Type 0 where
+  pub bytes : List ℕ
+  pub consumed : Consumes input left bytes
+  pub gate : after ≡ (pipe before first bytes).gate
+  pub text : Appends output written (pipe before first bytes).text
+  pub whole : IsAtEnd left ⊎ (is_ended before first bytes ≡ true)
+
+-- the gate and the bytes written are the pipe's of this input
+pub record IsPipe (input : List ℕ) (output written : Option (List ℕ)) (before : GateData) (first : ℕ) (after : GateData) : Type 0 where
+  pub gate : after ≡ (pipe before first input).gate
+  pub text : Appends output written (pipe before first input).text
+
+-- a piece was cut short
+pub record Broken (gate : GateData) (connection : Connection) (bytes piece : List ℕ) (output left : Option (List ℕ)) (fault : PipeFault) (At : GateData → Connection → Type 0) : Type 0 where
+  pub given : List ClientPacket
+  pub split : (packets_of (bytes ++ piece)).packets ≡ (packets_of bytes).packets ++ given
+  pub cut : IsCutShort (silent gate connection) given output left fault At
+
+-- The packets of what was read before the last piece were answered before that piece was read; a piece has at most
+-- 4,096 bytes.
+pub record IsPrompt (bytes : List ℕ) (taken : List ClientPacket) : Type 0 where
+  pub earlier : List ℕ
+  pub piece : List ℕ
+  pub read : bytes ≡ earlier ++ piece
+  pub small : length piece ≤ 4096
+  pub behind : List ClientPacket
+  pub answered : taken ≡ (packets_of earlier).packets ++ behind
+
+-- of the packets of the bytes read
+pub record IsFault (input left output written : Option (List ℕ)) (before : GateData) (first : ℕ) (fault : PipeFault) (At : GateData → Connection → Type 0) : Type 0 where
+  pub bytes : List ℕ
+  pub consumed : Consumes input left bytes
+  pub cut : IsCutShort (opened before first) (packets_of bytes).packets output written fault At
+  pub prompt : IsPrompt bytes cut.packets
+
+-- this gate, or, where a user is logged in, perhaps the gate after his logout
+abbrev pub LoggedOut : GateData → GateData → Connection → Type 0
+LoggedOut after gate connection =
+    (after ≡ gate) ⊎ ((user : UserName) × (moment : ℕ) × (who connection ≡ Some user) × (after ≡ stepped gate (asked_by user requests.Logout moment)))
+
+-- After a fault: of the packets of the bytes read, the first were taken and answered whole, and of the next one perhaps
+-- a step and a front of its answer; the gate is that of these packets, perhaps with the user's logout.
+abbrev pub IsAfterFault : (input left output written : Option (List ℕ)) → GateData → ℕ → GateData → PipeFault → Type 0
+IsAfterFault input left output written before first after fault = IsFault input left output written before first fault (LoggedOut after)

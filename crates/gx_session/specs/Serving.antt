@@ -1,0 +1,41 @@
+-- What a connection was sent, in other words than the session table's.
+use Rattle.std.specs.Prelude.{◌≡◌, ℕ, ◌+◌, ◌-◌, ◌≤◌, List, [], ◌++◌, length, drop}
+use Rattle.gx_units.specs.Spelling.{folded_user}
+use Rattle.gx_units.specs.declared.names.UserName.{UserName}
+use Rattle.gx_soup.specs.declared.packet.ServerPacket.TheVariants as server
+use Rattle.gx_soup.specs.Writing.{server_bytes}
+use Rattle.gx_history.specs.declared.report.Report.{Report}
+use Rattle.gx_history.specs.Streams.{stream}
+use Rattle.gx_core.specs.Gates.{GateData}
+use Rattle.gx_session.specs.declared.session.Phase.{Phase}
+use Rattle.gx_session.specs.declared.session.Phase.TheVariants.{Fresh, Waiting, On, Abandoned, Done}
+use Rattle.gx_session.specs.Transcript.{Run, reports_text}
+
+-- the user's stream
+abbrev pub owed : GateData → UserName → List Report
+owed gate user = stream gate.policy gate.records (folded_user user)
+
+-- Login Accepted with a number, and then the reports of the stream from that number on, each once and in order;
+-- none that is there is left out, and the next number is the one after them
+pub record IsServed (gate : GateData) (text : List ℕ) (user : UserName) (next : ℕ) : Type 0 where
+  pub from : ℕ
+  pub sent : text ≡ server_bytes (server.Accepted gate.policy.session from) ++ reports_text (drop (from - 1) (owed gate user))
+  pub counts_from_one : 1 ≤ from
+  pub is_available : from ≤ length (owed gate user) + 1
+  pub follows : next ≡ length (owed gate user) + 1
+
+-- by how far the session has come: nothing is written, and no step made, before a login is answered
+abbrev pub Serves : GateData → GateData → List ℕ → UserName → ℕ → Phase → Type 0
+Serves before gate text user next Fresh = (gate ≡ before) × (text ≡ [])
+Serves before gate text user next Waiting = ⊥
+Serves before gate text user next On = IsServed gate text user next
+Serves before gate text user next Abandoned = ⊥
+Serves before gate text user next Done = Unit {0}
+
+-- no step was made, and nothing written
+abbrev pub IsSilent : GateData → Run → Type 0
+IsSilent before run = (run.gate ≡ before) × (run.text ≡ [])
+
+-- the user of the run was sent his stream from the number that he asked for
+abbrev pub WasServed : Run → Type 0
+WasServed run = IsServed run.gate run.text run.connection.user run.connection.next

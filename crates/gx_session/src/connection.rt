@@ -1,0 +1,308 @@
+//! A connection: what happens to its session, done to the gate and to the writer.
+
+ghost use Rattle.std.specs.Prelude.{◌≡◌, ◌-◌, ◌^◌, ◌<◌, ◌≤◌, List, ◌∷◌, length, IfOk, IfErr, OnOk, OnErr, IsTrue};
+ghost use Rattle.std.specs.Io.KnownBytes.{Appends};
+ghost use Rattle.gx_soup.specs.declared.packet.ClientPacket.{ClientPacket};
+ghost use Rattle.gx_session.specs.declared.session.Phase.TheVariants.{Waiting};
+ghost use Rattle.gx_session.specs.Devices.{IsFront, IsToldFull, IsToldRightly, IsFinite, IsBlamed};
+ghost use Rattle.gx_session.specs.Events.{CanAsk, asks_step, is_over};
+ghost use Rattle.gx_session.specs.Happenings.{happening};
+ghost use Rattle.gx_session.specs.Piping.{IsTaken, IsGivenUp};
+ghost use Rattle.gx_session.specs.Piping.{IsTurnGivenUp, IsPullGivenUp, IsAt};
+ghost use Rattle.gx_session.specs.Piping.{GivesAll, IsCutShort, IsLeaving};
+ghost use Rattle.gx_session.specs.Table.{turn};
+ghost use Rattle.gx_session.specs.Transcript.{acted, control_bytes, silent, on_event, logged_in, answered};
+ghost use Rattle.gx_session.specs.Transcript.{pulled, is_on, handled, opened_at, finished, first_told};
+
+use crate::asking::{asked, count_of, login_step};
+use crate::counted::Counted;
+use crate::event::{Control, Event, Next};
+use crate::fault::{PipeFault, SendFault};
+use crate::sending::send_pulled;
+use crate::session::{Phase, Session};
+use crate::write::write_whole;
+use gx_core::{Gate, LoginAnswer, Pulled, StepFault};
+use gx_history::record::Request;
+use gx_soup::{ClientPacket, LoginRequest, ServerPacket, encode};
+use gx_units::{OutOfMemory, UserName};
+use std::alloc::Global;
+use std::io::Write;
+
+/// A connection: its session, who asked to be logged in, and how far it has come.
+#[derive(Clone, Copy)]
+pub struct Connection {
+    pub session: Session,
+    /// Who asked to be logged in, as he wrote his name; blank before.
+    pub user: UserName,
+    /// The number of the next report that the user is sent.
+    pub next: u64,
+    /// The moment of the next packet.
+    pub coming: u64,
+}
+
+/// Makes the step that a session asks for.
+fn act(gate: &mut Gate, user: UserName, next: Next, moment: u64) -> Result<(), StepFault>
+    requires { CanAsk next }
+    ensures ok { OnOk result (gate.new ≡ acted gate.old user moment next) }
+    ensures err { OnErr result (gate.new ≡ gate.old) }
+    ensures step { OnErr result (IsTrue (asks_step next)) }
+    ensures grows { length gate.old.records ≤ length gate.new.records }
+    ensures full { IfErr result (IsToldFull gate.new) }
+{
+    match next {
+        Next::Act(request) => {
+            let _ = gate.step(asked(user, request, moment))?;
+            Ok(())
+        }
+        Next::Logout => {
+            let _ = gate.step(asked(user, Request::Logout, moment))?;
+            Ok(())
+        }
+        Next::Idle | Next::Login | Next::Close => Ok(()),
+    }
+}
+
+/// Sends a packet of the session's own.
+fn send<W: Write>(alloc: Global, control: Control, writer: &mut Counted<W>) -> Result<(), SendFault>
+    requires { writer.old.failed < 2 ^ 64 - 1 }
+    ensures sent { OnOk result (Appends
+        (W.contents writer.old.device) (W.contents writer.new.device) (control_bytes control)) }
+    ensures front { OnErr result (IsFront
+        (W.contents writer.old.device) (W.contents writer.new.device) (control_bytes control)) }
+    ensures kept { OnOk result (writer.new.failed ≡ writer.old.failed) }
+    ensures told { IfErr result (IsBlamed writer.old.failed writer.new.failed) }
+{
+    let packet = match control {
+        Control::Accepted(name, next) => ServerPacket::Accepted(name, next),
+        Control::Rejected(reason) => ServerPacket::Rejected(reason),
+        Control::Heartbeat => ServerPacket::Heartbeat,
+        Control::EndOfSession => ServerPacket::EndOfSession,
+    };
+    let bytes = encode(alloc, &packet)?;
+    write_whole(writer, bytes.as_slice())?;
+    Ok(())
+}
+
+impl Connection {
+    /// A new connection, whose first packet comes at this moment.
+    pub(crate) fn new(first: u64) -> Connection
+        ensures { result ≡ opened_at first }
+    {
+        Connection {
+            session: Session::new(first),
+            user: UserName { bytes: *b"      " },
+            next: 0,
+            coming: first,
+        }
+    }
+
+    /// Tells the session of an event: makes the step that it asks for, and sends its packet.
+    /// Answers what it asked for.
+    ///
+    /// Where the step is refused, the session stands as before the event.
+    #[tactic(auto, unfolding(crate::specs::Transcript::on_event))]
+    fn turn<W: Write>(
+        &mut self,
+        alloc: Global,
+        gate: &mut Gate,
+        event: Event<'_>,
+        moment: u64,
+        writer: &mut Counted<W>,
+    ) -> Result<Next, PipeFault>
+        requires { writer.old.failed < 2 ^ 64 - 1 }
+        ensures next { IfOk result (λ next.
+            next ≡ (turn self.old.session (happening event.entry) moment).reply.next) }
+        ensures ok { OnOk result (IsTaken
+            (on_event gate.old self.old (happening event.entry) moment) gate.new self.new
+            (W.contents writer.old.device) (W.contents writer.new.device)) }
+        ensures err { IfErr result (λ fault. IsTurnGivenUp gate.old self.old
+            (happening event.entry) moment fault gate.new self.new
+            (W.contents writer.old.device) (W.contents writer.new.device)) }
+        ensures kept { OnOk result (writer.new.failed ≡ writer.old.failed) }
+        ensures told { IfErr result (IsToldRightly
+            0 0 writer.old.failed writer.new.failed gate.new) }
+    {
+        let mut session = self.session;
+        let reply = session.on(event, moment);
+        act(gate, self.user, reply.next, moment)?;
+        self.session = session;
+        if let Some(control) = reply.send {
+            send(alloc, control, writer)?;
+        }
+        Ok(reply.next)
+    }
+
+    /// Makes a login's step, and tells the session of its answer.
+    #[tactic(auto, unfolding(crate::specs::Transcript::logged_in))]
+    fn log_in<W: Write>(
+        &mut self,
+        alloc: Global,
+        gate: &mut Gate,
+        login: &LoginRequest,
+        moment: u64,
+        writer: &mut Counted<W>,
+    ) -> Result<(), PipeFault>
+        requires waiting { self.old.session.phase ≡ Waiting }
+        requires writer { writer.old.failed < 2 ^ 64 - 1 }
+        ensures ok { OnOk result (IsTaken (logged_in gate.old self.old login.now moment)
+            gate.new self.new (W.contents writer.old.device) (W.contents writer.new.device)) }
+        ensures err { IfErr result (λ fault. IsGivenUp gate.old self.old
+            (logged_in gate.old self.old login.now moment) fault gate.new self.new
+            (W.contents writer.old.device) (W.contents writer.new.device)) }
+        ensures kept { OnOk result (writer.new.failed ≡ writer.old.failed) }
+        ensures told { IfErr result (IsToldRightly
+            0 0 writer.old.failed writer.new.failed gate.new) }
+    {
+        let answer = login_step(gate, moment, login)?;
+        self.user = login.user;
+        self.next = first_told(answer);
+        self.turn(alloc, gate, Event::Answered(answer), moment, writer)?;
+        Ok(())
+    }
+
+    /// Tells the session of a packet; where it asks for a login, makes and answers it.
+    #[tactic(auto, unfolding(crate::specs::Transcript::answered))]
+    fn answer<W: Write>(
+        &mut self,
+        alloc: Global,
+        gate: &mut Gate,
+        packet: &ClientPacket,
+        moment: u64,
+        writer: &mut Counted<W>,
+    ) -> Result<(), PipeFault>
+        requires { writer.old.failed < 2 ^ 64 - 1 }
+        ensures ok { OnOk result (IsTaken (answered gate.old self.old packet.now moment)
+            gate.new self.new (W.contents writer.old.device) (W.contents writer.new.device)) }
+        ensures err { IfErr result (λ fault. IsGivenUp gate.old self.old
+            (answered gate.old self.old packet.now moment) fault gate.new self.new
+            (W.contents writer.old.device) (W.contents writer.new.device)) }
+        ensures kept { OnOk result (writer.new.failed ≡ writer.old.failed) }
+        ensures told { IfErr result (IsToldRightly
+            0 0 writer.old.failed writer.new.failed gate.new) }
+    {
+        let next = self.turn(alloc, gate, Event::Packet(packet), moment, writer)?;
+        match (next, packet) {
+            (Next::Login, ClientPacket::Login(login)) => {
+                self.log_in(alloc, gate, login, moment, writer)
+            }
+            _ => Ok(()),
+        }
+    }
+
+    /// All reports that are there.
+    fn reports(&self, gate: &Gate) -> Result<Pulled, OutOfMemory>
+        ensures all { IfOk result (λ p. GivesAll gate.now self.now p.reports p.next p.ended) }
+    {
+        let pulled = gate.reports(self.user.folded(), self.next, u64::MAX)?;
+        let _few = count_of(pulled.reports.as_slice());
+        Ok(pulled)
+    }
+
+    /// Sends all reports that are there, where a user is logged in, and tells the session of them.
+    #[tactic(auto, unfolding(crate::specs::Transcript::pulled, crate::specs::Transcript::sent))]
+    fn pull<W: Write>(
+        &mut self,
+        alloc: Global,
+        gate: &mut Gate,
+        moment: u64,
+        writer: &mut Counted<W>,
+    ) -> Result<(), PipeFault>
+        requires { writer.old.failed < 2 ^ 64 - 1 }
+        ensures ok { OnOk result (IsTaken (pulled gate.old self.old moment)
+            gate.new self.new (W.contents writer.old.device) (W.contents writer.new.device)) }
+        ensures err { IfErr result (λ fault. IsPullGivenUp
+            gate.old self.old moment fault gate.new self.new
+            (W.contents writer.old.device) (W.contents writer.new.device)) }
+        ensures kept { OnOk result (writer.new.failed ≡ writer.old.failed) }
+        ensures told { IfErr result (IsToldRightly
+            0 0 writer.old.failed writer.new.failed gate.new) }
+    {
+        if !self.is_on() {
+            return Ok(());
+        }
+        let pulled = self.reports(gate)?;
+        let count = count_of(pulled.reports.as_slice());
+        let ended = pulled.ended;
+        send_pulled(alloc, &pulled, writer)?;
+        self.next = pulled.next;
+        self.turn(alloc, gate, Event::Pulled { count, ended }, moment, writer)?;
+        Ok(())
+    }
+
+    /// Takes a packet at its moment: tells the session of it, and then sends reports.
+    /// Nothing once the session is over.
+    #[tactic(auto, unfolding(crate::specs::Transcript::handled))]
+    pub(crate) fn take<W: Write>(
+        &mut self,
+        alloc: Global,
+        gate: &mut Gate,
+        packet: &ClientPacket,
+        writer: &mut Counted<W>,
+    ) -> Result<(), PipeFault>
+        requires { writer.old.failed < 2 ^ 64 - 1 }
+        ensures ok { OnOk result (IsTaken (handled gate.old self.old packet.now)
+            gate.new self.new (W.contents writer.old.device) (W.contents writer.new.device)) }
+        ensures err { IfErr result (λ fault. (others : List ClientPacket) →
+            IsCutShort (silent gate.old self.old) (packet.now ∷ others)
+            (W.contents writer.old.device) (W.contents writer.new.device)
+            fault (IsAt gate.new self.new)) }
+        ensures kept { OnOk result (writer.new.failed ≡ writer.old.failed) }
+        ensures finite { IfErr result IsFinite }
+        ensures told { IfErr result (IsToldRightly
+            0 0 writer.old.failed writer.new.failed gate.new) }
+    {
+        if self.is_over() {
+            return Ok(());
+        }
+        let moment = self.coming;
+        self.coming = moment.saturating_add(1);
+        self.answer(alloc, gate, packet, moment, writer)?;
+        self.pull(alloc, gate, moment, writer)
+    }
+
+    /// Whether a user is logged in.
+    fn is_on(&self) -> bool
+        ensures { result ≡ is_on self.now.session.phase }
+    {
+        match self.session.phase() {
+            Phase::On => true,
+            Phase::Fresh | Phase::Waiting | Phase::Abandoned | Phase::Done => false,
+        }
+    }
+
+    /// Whether the session is over.
+    pub(crate) fn is_over(&self) -> bool
+        ensures { result ≡ is_over self.now.session.phase }
+    {
+        match self.session.phase() {
+            Phase::Abandoned | Phase::Done => true,
+            Phase::Fresh | Phase::Waiting | Phase::On => false,
+        }
+    }
+
+    /// Tells the session that its input has a fault or is at its end, and logs out a user who is on.
+    pub(crate) fn leave(&mut self, gate: &mut Gate, event: Event<'_>) -> Result<(), StepFault>
+        requires { IsLeaving (happening event) }
+        ensures ok { OnOk result (gate.new ≡ (finished (silent gate.old self.old)).gate) }
+        ensures err { OnErr result ((gate.new ≡ gate.old) × (self.new ≡ self.old)) }
+        ensures grows { length gate.old.records ≤ length gate.new.records }
+        ensures full { IfErr result (IsToldFull gate.new) }
+    {
+        let moment = self.session.heard();
+        let mut session = self.session;
+        let reply = session.on(event, moment);
+        act(gate, self.user, reply.next, moment)?;
+        self.session = session;
+        Ok(())
+    }
+}
+
+/// The number of the first report that a login is sent.
+fn first_told(answer: LoginAnswer) -> u64
+    ensures { result ≡ first_told answer }
+{
+    match answer {
+        LoginAnswer::Accepted { next, .. } => next,
+        LoginAnswer::Rejected(_) => 0,
+    }
+}

@@ -1,0 +1,26 @@
+//! A connection: the session table that says what follows each event, and its driver over any reader and writer.
+#![tactic(auto)]
+
+mod asking;
+mod connection;
+mod counted;
+mod event;
+mod fault;
+mod laws;
+mod pipe;
+mod sending;
+mod session;
+mod write;
+
+pub use asking::{asked, count_of, login_request};
+pub use counted::Counted;
+pub use event::{Control, Event, Next, Reply};
+pub use fault::{PipeFault, SendFault};
+pub use laws::{
+    ended_sessions_are_silent, no_logout_without_a_login, nothing_follows, one_login,
+    silent_before_an_answer, silent_before_login, stream_is_sent,
+};
+pub use pipe::run_pipe;
+pub use sending::send_pulled;
+pub use session::{Phase, Session};
+pub use write::{WriteFailed, write_whole};

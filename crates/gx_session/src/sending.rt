@@ -1,0 +1,60 @@
+//! Sending reports.
+
+ghost use Rattle.std.specs.Prelude.{◌≡◌, ◌-◌, ◌^◌, ◌<◌, IfOk, IfErr, OnOk, OnErr};
+ghost use Rattle.std.specs.Io.KnownBytes.{Appends};
+ghost use Rattle.gx_session.specs.Devices.{IsFront, IsBlamed};
+ghost use Rattle.gx_session.specs.Transcript.{report_packet, reports_text};
+
+use crate::counted::Counted;
+use crate::fault::SendFault;
+use crate::write::write_whole;
+use gx_core::Pulled;
+use gx_history::report::Report;
+use gx_ouch::MESSAGE_ROOM;
+use gx_soup::{Payload, ServerPacket, encode};
+use gx_units::OutOfMemory;
+use std::alloc::Global;
+use std::io::Write;
+
+/// A report in a Sequenced Data packet.
+fn report_packet(alloc: Global, report: &Report) -> Result<Vec<u8>, OutOfMemory>
+    ensures { IfOk result (λ text. text.items ≡ report_packet report.now) }
+{
+    let mut room = [0u8; MESSAGE_ROOM];
+    let length = report.write(&mut room);
+    let payload = Payload::new(alloc, &room[..length])?;
+    encode(alloc, &ServerPacket::Sequenced(payload))
+}
+
+fn reports_text(alloc: Global, reports: &[Report]) -> Result<Vec<u8>, OutOfMemory>
+    ensures { IfOk result (λ text. text.items ≡ reports_text reports.now) }
+{
+    let mut text = Vec::new(alloc);
+    for report in reports {
+        let packet = report_packet(alloc, report)?;
+        text.extend_from_slice(packet.as_slice())?;
+    }
+    Ok(text)
+}
+
+/// Sends the reports of a pull: one Sequenced Data packet each, in their order, and nothing else.
+/// After a fault a front of these packets is written.
+pub fn send_pulled<W: Write>(
+    alloc: Global,
+    pulled: &Pulled,
+    writer: &mut Counted<W>,
+) -> Result<(), SendFault>
+    requires { writer.old.failed < 2 ^ 64 - 1 }
+    ensures sent { OnOk result (Appends
+        (W.contents writer.old.device) (W.contents writer.new.device)
+        (reports_text pulled.now.reports)) }
+    ensures front { OnErr result (IsFront
+        (W.contents writer.old.device) (W.contents writer.new.device)
+        (reports_text pulled.now.reports)) }
+    ensures kept { OnOk result (writer.new.failed ≡ writer.old.failed) }
+    ensures told { IfErr result (IsBlamed writer.old.failed writer.new.failed) }
+{
+    let text = reports_text(alloc, pulled.reports.as_slice())?;
+    write_whole(writer, text.as_slice())?;
+    Ok(())
+}

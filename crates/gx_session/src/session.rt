@@ -1,0 +1,262 @@
+//! The session table.
+
+ghost use Rattle.std.specs.Prelude.{◌≡◌, None};
+ghost use Rattle.gx_session.specs.declared.event.Next.TheVariants.{Idle};
+ghost use Rattle.gx_session.specs.Table.{fresh_packet, fresh_row, waiting_row, on_packet, on_row};
+ghost use Rattle.gx_session.specs.Table.{abandoned_row, row, row_at, is_sending, heard_after, sent_after};
+ghost use Rattle.gx_session.specs.Table.{turn, new_session};
+ghost use Rattle.gx_session.specs.Happenings.{happening};
+ghost use Rattle.gx_session.specs.Events.{CanAsk};
+
+use crate::event::{Control, Event, Next, Reply};
+use gx_core::LoginAnswer;
+use gx_history::record::Request;
+use gx_soup::ClientPacket;
+use std::marker::Model;
+
+/// How far a session has come.
+#[derive(Clone, Copy, PartialEq, Eq)]
+pub enum Phase {
+    /// No login has come.
+    Fresh,
+    /// A login has come, and its answer has not.
+    Waiting,
+    /// A user is logged in.
+    On,
+    /// The session is over, and the answer to its login has not come.
+    Abandoned,
+    /// The session is over.
+    Done,
+}
+
+/// After so many nanoseconds without a packet from the client a session is over.
+const PATIENCE: u64 = 15_000_000_000;
+
+/// After so many nanoseconds without a packet to the client a heartbeat is sent.
+const HEARTBEAT: u64 = 1_000_000_000;
+
+/// A row of the table: where the session goes, and what follows.
+#[derive(Clone, Copy, PartialEq, Eq)]
+pub(crate) struct Row {
+    pub(crate) phase: Phase,
+    pub(crate) reply: Reply,
+}
+
+impl Row {
+    fn new(phase: Phase, send: Option<Control>, next: Next) -> Row
+        ensures { result ≡ row phase send next }
+    {
+        Row {
+            phase,
+            reply: Reply { send, next },
+        }
+    }
+
+    fn stay(phase: Phase) -> Row
+        ensures { result ≡ row phase None Idle }
+    {
+        Row::new(phase, None, Next::Idle)
+    }
+
+    fn leave(phase: Phase, next: Next) -> Row
+        ensures { result ≡ row phase None next }
+    {
+        Row::new(phase, None, next)
+    }
+}
+
+fn fresh_packet(packet: &ClientPacket) -> Row
+    ensures row { result ≡ fresh_packet packet.now }
+    ensures able { CanAsk result.reply.next }
+{
+    match packet {
+        ClientPacket::Login(_) => Row::leave(Phase::Waiting, Next::Login),
+        ClientPacket::Data(_) | ClientPacket::Logout => Row::leave(Phase::Done, Next::Close),
+        ClientPacket::Heartbeat | ClientPacket::Debug => Row::stay(Phase::Fresh),
+    }
+}
+
+fn fresh_row(event: Event<'_>, silent: bool) -> Row
+    ensures row { result ≡ fresh_row (happening event.entry) silent }
+    ensures able { CanAsk result.reply.next }
+{
+    match event {
+        Event::Packet(packet) => fresh_packet(packet),
+        Event::Tick if !silent => Row::stay(Phase::Fresh),
+        Event::Tick | Event::Refused(_) | Event::Fault | Event::End => {
+            Row::leave(Phase::Done, Next::Close)
+        }
+        Event::Answered(_) | Event::Pulled { .. } => Row::stay(Phase::Fresh),
+    }
+}
+
+fn waiting_row(event: Event<'_>, silent: bool) -> Row
+    ensures row { result ≡ waiting_row (happening event.entry) silent }
+    ensures able { CanAsk result.reply.next }
+{
+    match event {
+        Event::Answered(LoginAnswer::Accepted { session, next }) => Row::new(
+            Phase::On,
+            Some(Control::Accepted(session, next)),
+            Next::Idle,
+        ),
+        Event::Answered(LoginAnswer::Rejected(reason)) => {
+            Row::new(Phase::Done, Some(Control::Rejected(reason)), Next::Close)
+        }
+        Event::Tick if !silent => Row::stay(Phase::Waiting),
+        Event::Tick | Event::Refused(_) | Event::Fault | Event::End => {
+            Row::leave(Phase::Abandoned, Next::Close)
+        }
+        Event::Packet(_) | Event::Pulled { .. } => Row::stay(Phase::Waiting),
+    }
+}
+
+fn on_packet(packet: &ClientPacket) -> Row
+    ensures row { result ≡ on_packet packet.now }
+    ensures able { CanAsk result.reply.next }
+{
+    match packet {
+        ClientPacket::Data(payload) => {
+            Row::leave(Phase::On, Next::Act(Request::read(payload.as_slice())))
+        }
+        ClientPacket::Login(_) | ClientPacket::Logout => Row::leave(Phase::Done, Next::Logout),
+        ClientPacket::Heartbeat | ClientPacket::Debug => Row::stay(Phase::On),
+    }
+}
+
+fn on_row(event: Event<'_>, silent: bool, quiet: bool) -> Row
+    ensures row { result ≡ on_row (happening event.entry) silent quiet }
+    ensures able { CanAsk result.reply.next }
+{
+    match event {
+        Event::Packet(packet) => on_packet(packet),
+        Event::Pulled { ended: true, .. } => {
+            Row::new(Phase::Done, Some(Control::EndOfSession), Next::Logout)
+        }
+        Event::Tick if silent => Row::leave(Phase::Done, Next::Logout),
+        Event::Tick if quiet => Row::new(Phase::On, Some(Control::Heartbeat), Next::Idle),
+        Event::Refused(_) | Event::Fault | Event::End => Row::leave(Phase::Done, Next::Logout),
+        Event::Answered(_) | Event::Pulled { .. } | Event::Tick => Row::stay(Phase::On),
+    }
+}
+
+fn abandoned_row(event: Event<'_>) -> Row
+    ensures row { result ≡ abandoned_row (happening event.entry) }
+    ensures able { CanAsk result.reply.next }
+{
+    match event {
+        Event::Answered(LoginAnswer::Accepted { .. }) => Row::leave(Phase::Done, Next::Logout),
+        Event::Answered(LoginAnswer::Rejected(_)) => Row::stay(Phase::Done),
+        _ => Row::stay(Phase::Abandoned),
+    }
+}
+
+/// Whether a packet goes to the client: the session's own, or reports of a user who is on.
+fn is_sending(phase: Phase, event: Event<'_>, send: Option<Control>) -> bool
+    ensures { result ≡ is_sending phase (happening event.entry) send }
+{
+    match (phase, event) {
+        (Phase::On, Event::Pulled { count, .. }) => count > 0 || send.is_some(),
+        _ => send.is_some(),
+    }
+}
+
+/// A connection's session: how far it has come, and when packets were last received and sent.
+///
+/// It decides and does nothing itself: the caller sends what it is told to, and tells what came of it.
+#[derive(Clone, Copy)]
+pub struct Session {
+    phase: Phase,
+    /// The moment of the last packet received.
+    heard: u64,
+    /// The moment of the last packet sent.
+    sent: u64,
+}
+
+impl Model for Session {
+    ghost use Rattle.gx_session.specs.Table.{SessionData};
+
+    ghost Value = { SessionData };
+
+    ghost view = { λ s. record { phase = s.phase; heard = s.heard; sent = s.sent } };
+
+    ghost inverse = { λ d. record { phase = d.phase; heard = d.heard; sent = d.sent } };
+}
+
+impl Session {
+    /// A session that begins at this moment.
+    pub fn new(moment: u64) -> Session
+        ensures { result ≡ new_session moment }
+    {
+        Session {
+            phase: Phase::Fresh,
+            heard: moment,
+            sent: moment,
+        }
+    }
+
+    /// The moment of the last packet received; before one, the moment that the session began at.
+    pub fn heard(&self) -> u64
+        ensures { result ≡ self.now.heard }
+    {
+        self.heard
+    }
+
+    /// How far the session has come.
+    pub fn phase(&self) -> Phase
+        ensures { result ≡ self.now.phase }
+    {
+        self.phase
+    }
+
+    fn row(&self, event: Event<'_>, moment: u64) -> Row
+        ensures row { result ≡ row_at self.now (happening event.entry) moment }
+        ensures able { CanAsk result.reply.next }
+    {
+        let silent = moment.saturating_sub(self.heard) >= PATIENCE;
+        let quiet = moment.saturating_sub(self.sent) >= HEARTBEAT;
+        match self.phase {
+            Phase::Fresh => fresh_row(event, silent),
+            Phase::Waiting => waiting_row(event, silent),
+            Phase::On => on_row(event, silent, quiet),
+            Phase::Abandoned => abandoned_row(event),
+            Phase::Done => Row::stay(Phase::Done),
+        }
+    }
+
+    fn heard_after(&self, event: Event<'_>, moment: u64) -> u64
+        ensures { result ≡ heard_after self.now (happening event.entry) moment }
+    {
+        match event {
+            Event::Packet(_) => self.heard.max(moment),
+            _ => self.heard,
+        }
+    }
+
+    fn sent_after(&self, event: Event<'_>, moment: u64, send: Option<Control>) -> u64
+        ensures { result ≡ sent_after self.now (happening event.entry) moment send }
+    {
+        if is_sending(self.phase, event, send) {
+            self.sent.max(moment)
+        } else {
+            self.sent
+        }
+    }
+
+    /// What follows the event at this moment. A moment before the last packet's counts as no time passed. Takes no
+    /// memory. A request that it asks for is one that a gate may be asked (`able`).
+    #[tactic(auto, unfolding(crate::specs::Table::turn))]
+    pub fn on(&mut self, event: Event<'_>, moment: u64) -> Reply
+        ensures reply { result ≡ (turn self.old (happening event.entry) moment).reply }
+        ensures session { self.new ≡ (turn self.old (happening event.entry) moment).session }
+        ensures able { CanAsk result.next }
+    {
+        let row = self.row(event, moment);
+        let heard = self.heard_after(event, moment);
+        let sent = self.sent_after(event, moment, row.reply.send);
+        self.phase = row.phase;
+        self.heard = heard;
+        self.sent = sent;
+        row.reply
+    }
+}
