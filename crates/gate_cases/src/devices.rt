@@ -17,6 +17,35 @@ pub(crate) struct Limits {
     pub(crate) writes: usize,
     /// How many bytes the writer takes before it takes none.
     pub(crate) room: usize,
+    /// How often each call is interrupted before it is done.
+    pub(crate) interrupts: usize,
+}
+
+/// How often the next call is interrupted still.
+#[derive(Clone, Copy)]
+struct Interrupts {
+    left: usize,
+    each: usize,
+}
+
+impl Interrupts {
+    fn new(each: usize) -> Interrupts {
+        Interrupts { left: each, each }
+    }
+
+    /// Whether this call is interrupted.
+    fn comes(&mut self) -> bool {
+        match self.left.checked_sub(1) {
+            Some(left) => {
+                self.left = left;
+                true
+            }
+            None => {
+                self.left = self.each;
+                false
+            }
+        }
+    }
 }
 
 /// A reader that gives a piece at a time, and fails after so many.
@@ -24,16 +53,24 @@ pub(crate) struct Limits {
 pub(crate) struct Drips<'a> {
     rest: &'a [u8],
     limits: Limits,
+    interrupts: Interrupts,
 }
 
 impl<'a> Drips<'a> {
     pub(crate) fn new(rest: &'a [u8], limits: Limits) -> Drips<'a> {
-        Drips { rest, limits }
+        Drips {
+            rest,
+            limits,
+            interrupts: Interrupts::new(limits.interrupts),
+        }
     }
 }
 
 impl Read for Drips<'_> {
     fn read(&mut self, buf: &mut [u8]) -> io::Result<usize> {
+        if self.interrupts.comes() {
+            return Err(io::Error::from(io::ErrorKind::Interrupted));
+        }
         if self.limits.reads == 0 {
             return Err(io::Error::from(io::ErrorKind::BrokenPipe));
         }
@@ -51,6 +88,7 @@ impl Read for Drips<'_> {
 pub(crate) struct Sips {
     pub(crate) taken: Vec<u8>,
     limits: Limits,
+    interrupts: Interrupts,
 }
 
 impl Sips {
@@ -58,12 +96,16 @@ impl Sips {
         Sips {
             taken: Vec::new(alloc),
             limits,
+            interrupts: Interrupts::new(limits.interrupts),
         }
     }
 }
 
 impl Write for Sips {
     fn write(&mut self, buf: &[u8]) -> io::Result<usize> {
+        if self.interrupts.comes() {
+            return Err(io::Error::from(io::ErrorKind::Interrupted));
+        }
         if self.limits.writes == 0 {
             return Err(io::Error::from(io::ErrorKind::BrokenPipe));
         }

@@ -26,7 +26,8 @@
 //! are killed. Each case is run twice: with devices that give and take large pieces, and with devices that give and
 //! take a byte at a time; where the two differ both are told. `PIECE READS ROOM` behind a run's kind sets its devices
 //! apart: they give and take at most PIECE bytes at a time, the reader fails after READS reads, and the writer takes
-//! no more than ROOM bytes.
+//! no more than ROOM bytes. `PIECE READS ROOM INTERRUPTS`: so too, and each call is interrupted so often before it is
+//! done.
 #![tactic(auto)]
 
 mod devices;
@@ -56,6 +57,7 @@ const LARGE: Limits = Limits {
     reads: usize::MAX,
     writes: usize::MAX,
     room: usize::MAX,
+    interrupts: 0,
 };
 
 const BYTE_BY_BYTE: Limits = Limits {

@@ -180,14 +180,21 @@ fn limits_of(words: &str, usual: Limits) -> Option<Limits> {
         return Some(usual);
     }
     let (piece, rest) = words.split_once(' ')?;
-    let (reads, room) = rest.split_once(' ')?;
-    match (piece.parse(), reads.parse(), room.parse()) {
-        (Ok(piece), Ok(reads), Ok(room)) => Some(Limits {
+    let (reads, rest) = rest.split_once(' ')?;
+    let (room, interrupts) = rest.split_once(' ').unwrap_or((rest, "0"));
+    match (
+        piece.parse(),
+        reads.parse(),
+        room.parse(),
+        interrupts.parse(),
+    ) {
+        (Ok(piece), Ok(reads), Ok(room), Ok(interrupts)) => Some(Limits {
             piece,
             sip: piece,
             reads,
             writes: usize::MAX,
             room,
+            interrupts,
         }),
         _ => None,
     }

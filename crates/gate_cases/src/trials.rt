@@ -91,6 +91,7 @@ fn varied_by<'a>(trial: Trial<'a>, count: usize) -> (Limits, &'a [u8]) {
         reads: usize::MAX,
         writes: usize::MAX,
         room: usize::MAX,
+        interrupts: 0,
     };
     let input = trial.input;
     match trial.varied {
