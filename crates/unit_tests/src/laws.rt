@@ -1,5 +1,6 @@
 //! The laws, which are functions that do nothing: each can be called.
 
+use gx_book::laws::{one_side_changes, sides_show_a_change};
 use gx_day::laws::{a_day_begins, days_go_on};
 use gx_effects::laws::{
     books_are_in_price_time_order, books_are_never_crossed, denials_change_nothing,
@@ -12,6 +13,10 @@ use gx_effects::laws::{
 use gx_history_laws::laws::{
     days_are_runs, orders_are_granted_requests, orders_end, requests_are_judged, states_go_on,
     streams_grow,
+};
+use gx_market::laws::{
+    book_after_a_match, book_after_a_request, book_goes_on, books_are_not_crossed, books_are_sound,
+    live_orders_wait_or_rest, matches_fit_the_book, next_match_is_found,
 };
 use gx_orders::laws::{orders_after_a_match, orders_after_a_request, requests_fit_the_orders};
 use gx_ouch::read_messages_have_no_gaps;
@@ -109,6 +114,20 @@ fn call_laws_of_what_is_kept() {
     reports_are_streams();
 }
 
+/// The laws of the book and of what is matched next.
+fn call_laws_of_the_book() {
+    one_side_changes();
+    sides_show_a_change();
+    book_goes_on();
+    book_after_a_request();
+    book_after_a_match();
+    matches_fit_the_book();
+    next_match_is_found();
+    live_orders_wait_or_rest();
+    books_are_sound();
+    books_are_not_crossed();
+}
+
 #[test]
 fn laws_are_there() {
     call_laws_of_texts();
@@ -116,4 +135,5 @@ fn laws_are_there() {
     call_laws_of_effects();
     call_laws_of_settings();
     call_laws_of_what_is_kept();
+    call_laws_of_the_book();
 }

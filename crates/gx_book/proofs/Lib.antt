@@ -1,0 +1,12 @@
+pub mod Places
+pub mod Finding
+pub mod Stocks
+pub mod Keeping
+pub mod Opening
+pub mod Ranks
+pub mod Putting
+pub mod Laddered
+pub mod Indexed
+pub mod Leaving
+pub mod Each
+pub mod Shown

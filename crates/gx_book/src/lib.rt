@@ -1,0 +1,10 @@
+//! The book: the orders that rest, per listed stock and side in price-time priority.
+#![tactic(auto)]
+
+pub mod book;
+pub mod laws;
+mod level;
+mod place;
+pub mod resting;
+mod side;
+mod sides;

@@ -1,0 +1,4 @@
+pub mod BookInForce
+pub mod Changes
+pub mod Meeting
+pub mod Laws
