@@ -1,6 +1,6 @@
 -- What the record that a request leaves changes.
 use Rattle.std.proofs.Common.{◌≡◌, true, false, List, [], ◌∷◌, ◌++◌, refl, ◌∙◌, ap, sym}
-use Rattle.std.specs.Prelude.{Some, drop}
+use Rattle.std.specs.Prelude.{Some}
 use Rattle.gx_desk.specs.declared.Action.{Action}
 use Rattle.gx_desk.specs.declared.Action.TheVariants as actions
 use Rattle.gx_desk.specs.declared.Command.{Command}
@@ -9,33 +9,20 @@ use Rattle.gx_history.specs.declared.record.Asked.{Asked}
 use Rattle.gx_history.specs.declared.record.RecordData.{RecordData}
 use Rattle.gx_history.specs.declared.record.Request.{Request}
 use Rattle.gx_history.specs.declared.record.Request.TheVariants as requests
-use Rattle.gx_history.specs.declared.record.RuleName.{RuleName}
-use Rattle.gx_history.specs.declared.record.RuleName.TheVariants.{L1, L2, L3, G1, G2, G3}
 use Rattle.gx_history.specs.declared.record.Step.TheVariants as steps
 use Rattle.gx_history.specs.declared.record.Verdict.{Verdict}
 use Rattle.gx_history.specs.declared.record.Verdict.TheVariants as verdicts
 use Rattle.gx_history.specs.Brought.{is_brought}
 use Rattle.gx_history.specs.Requests.{is_judged, is_unreadable}
-use Rattle.gx_history.specs.RuleNames.{rules_before}
-use Rattle.gx_history.specs.Rules.{forbids}
-use Rattle.gx_history.specs.Verdicts.{facts_now, next, IsLegal}
-use Rattle.gx_history_laws.proofs.Granting.{asked_is_judged, granted_passes_before}
-use Rattle.gx_history_laws.proofs.Order.{none_among}
+use Rattle.gx_history.specs.Verdicts.{next, IsLegal}
+use Rattle.gx_history_laws.proofs.Granting.{asked_is_judged}
 use Rattle.gx_effects.proofs.Effects.{is_told}
 use Rattle.gx_effects.proofs.Killing.{kill_takes_effect}
 use Rattle.gx_effects.proofs.Lifting.{lift_takes_effect}
 use Rattle.gx_effects.proofs.Lines.{login_takes_effect, logout_takes_effect}
 use Rattle.gx_effects.proofs.Taking.{takes_effect}
 use Rattle.gx_core.specs.Steps.{CommandEffect, GrantEffect, VerdictEffect}
-
--- what is unreadable is denied
-pub unreadable_is_denied : (policy : PolicyData) (history : List RecordData) (a : Asked) (r : RecordData)
-    → next policy history (steps.Asked a) ≡ Some r → r.verdict ≡ verdicts.Granted → is_unreadable a.request ≡ false
-unfolding rules_before
-unreadable_is_denied policy history a r left granted =
-    none_among (λ (name : RuleName). forbids name (facts_now policy history a) a.request)
-    (L1 ∷ L2 ∷ L3 ∷ G1 ∷ G2 ∷ []) G3 (drop 6 rules_before)
-    (granted_passes_before policy history a r left granted)
+use Rattle.gx_keepers.proofs.Carrying.{unreadable_is_denied}
 
 by_command : (policy : PolicyData) (history : List RecordData) (a : Asked) (r : RecordData) (c : Command)
     → IsLegal policy history → next policy history (steps.Asked a) ≡ Some r → a.request ≡ requests.Command c → r.verdict ≡ verdicts.Granted

@@ -34,7 +34,7 @@ use Rattle.gx_people.specs.Entitled.{has, holds, holds_in_role, power_of}
 use Rattle.gx_people.proofs.Keeping.{accounts_stay, officers_stay, passwords_stay, powers_stay, scopes_stay, traders_stay, users_stay}
 use Rattle.gx_streams.specs.Streams.{reports_in}
 use Rattle.gx_streams.proofs.Finding.{reports_are}
-use Rattle.gx_core.specs.declared.keepers.Keepers.{Keepers}
+use Rattle.gx_keepers.specs.declared.keepers.Keepers.{Keepers}
 use Rattle.gx_core.specs.Kept.{IsKept}
 
 -- people

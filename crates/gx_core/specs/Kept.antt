@@ -7,8 +7,8 @@ use Rattle.gx_history.specs.declared.report.Report.{Report}
 use Rattle.gx_history.specs.Plain.{rules_need_no_figures}
 use Rattle.gx_history.specs.Verdicts.{IsLegal, day_limit}
 use Rattle.gx_streams.specs.Streams.{reports_in}
-use Rattle.gx_core.specs.declared.keepers.Keepers.{Keepers}
-use Rattle.gx_core.specs.Keepers.{AreInForce}
+use Rattle.gx_keepers.specs.declared.keepers.Keepers.{Keepers}
+use Rattle.gx_keepers.specs.Keepers.{AreInForce}
 
 -- the records are those of a legal day within its limit, under rules that need no figures, and the keepers hold what is in
 -- force after them

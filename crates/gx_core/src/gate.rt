@@ -16,17 +16,17 @@ ghost use Rattle.gx_core.specs.Logins.{login_answered};
 ghost use Rattle.gx_core.specs.Told.{ends_before, login_of, stream_of};
 ghost use Rattle.gx_core.specs.Steps.{next_of, verdict_of, with_record, EndsKills, HasEffect, IsFull, IsJudged};
 
-use crate::apply::apply;
 use crate::copies::copied;
-use crate::keepers::Keepers;
 use crate::login::{login_answered, login_asked};
 use crate::outcome::{LoginAnswer, Outcome, StepFault};
-use crate::places::keep_places;
 use crate::pulling::{Pulled, pull};
 use gx_history::history::History;
 use gx_history::policy::Policy;
 use gx_history::record::{Asked, Record, RecordData, Request, Step, Verdict};
 use gx_history::slices::slice;
+use gx_keepers::apply::carry_on;
+use gx_keepers::keepers::Keepers;
+use gx_keepers::next_record::NextRecord;
 use gx_units::{AccountName, Moment, OutOfMemory, Password, SessionName, UserName};
 use std::alloc::Global;
 use std::marker::Model;
@@ -109,8 +109,15 @@ impl Gate {
         let entry = record_of(&a, outcome);
         let record = Record::new(entry);
         self.history.reserve(1)?;
-        keep_places(&mut self.keepers, &self.policy, &self.history, &a, &entry)?;
-        apply(&mut self.keepers, &self.policy, &self.history, &a, &entry)?;
+        carry_on(
+            &mut self.keepers,
+            NextRecord {
+                policy: &self.policy,
+                history: &self.history,
+                asked: &a,
+                left: &entry,
+            },
+        )?;
         self.history.push_reserved(record);
         Ok(outcome)
     }

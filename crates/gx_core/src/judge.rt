@@ -14,12 +14,12 @@ ghost use Rattle.gx_core.specs.Known.{accounts_held, change_asked, cuts_none, ha
 ghost use Rattle.gx_core.specs.Steps.{next_of, verdict_of};
 
 use crate::gate::Gate;
-use crate::listed::{account_named, fits_firm, lists_its_stock};
 use crate::outcome::Outcome;
-use crate::request::{named_token, new_token};
 use gx_desk::Action;
 use gx_history::facts::{Facts, NamedOrder};
 use gx_history::record::{Asked, Request, RuleName, Verdict};
+use gx_keepers::listed::{account_named, fits_firm, lists_its_stock};
+use gx_keepers::request::{named_token, new_token};
 use gx_orders::live_order::LiveOrder;
 use gx_people::power::Power;
 use gx_units::{AccountName, Moment, UserName};

@@ -4,8 +4,8 @@ ghost use Rattle.std.specs.Prelude.{◌≡◌, ◌+◌, length, max, IfOk};
 ghost use Rattle.gx_history.specs.Lists.{slice};
 ghost use Rattle.gx_core.specs.Kept.{is_past_the_end, told_kept};
 
-use crate::keepers::Keepers;
 use gx_history::report::Report;
+use gx_keepers::keepers::Keepers;
 use gx_units::{OutOfMemory, UserName};
 use std::marker::Model;
 

@@ -7,7 +7,7 @@ use Rattle.gx_history.specs.InForce.{is_killed}
 use Rattle.gx_history_laws.proofs.Granting.{denied_names_first, granted_exactly}
 use Rattle.gx_effects.proofs.Lifting.{kill_ends_by_lift}
 use Rattle.gx_core.specs.Gates.{GateData, left_by}
-use Rattle.gx_core.specs.Keepers.{AreInForce}
+use Rattle.gx_keepers.specs.Keepers.{AreInForce}
 use Rattle.gx_core.specs.Kept.{IsKept}
 use Rattle.gx_core.specs.Steps.{HasEffect, IsJudged, VerdictEffect, next_of}
 use Rattle.gx_core.proofs.Effecting.{effect_of}
@@ -16,17 +16,17 @@ use Rattle.gx_core.proofs.gate.Gate.step.Goals as goal
 
 pub invariant_of-self-2 : goal.invariant_of-self-2
 invariant_of-self-2 c =
-    subst (λ (records : List RecordData). IsKept c.self.inside.policy records c.apply.new.keepers)
+    subst (λ (records : List RecordData). IsKept c.self.inside.policy records c.carry_on.new.keepers)
     (sym
     (c.push_reserved.ensures.records
     ∙ ap (λ (records : List RecordData). records ++ c.new-record.result ∷ []) c.reserve.ensures.records
     ∙ ap (λ (r : RecordData). c.self.inside.history.records ++ r ∷ []) (c.new-record.ensures ∙ c.record_of-entry.ensures)))
-    (keep_on c.self.inside.policy c.self.inside.history.records c.args.a (left_by c.args.a c.outcome_of-outcome.result) c.self.inside.keepers c.apply.new.keepers c.self.invariant
+    (keep_on c.self.inside.policy c.self.inside.history.records c.args.a (left_by c.args.a c.outcome_of-outcome.result) c.self.inside.keepers c.carry_on.new.keepers c.self.invariant
     (ap (λ (g : GateData). next_of g c.args.a) c.self.view_is ∙ c.outcome_of-outcome.ensures.next) c.outcome_of-outcome.ensures.fits
-    (subst (λ (records : List RecordData). AreInForce c.self.inside.policy records c.apply.new.keepers)
+    (subst (λ (records : List RecordData). AreInForce c.self.inside.policy records c.carry_on.new.keepers)
     (ap (λ (records : List RecordData). records ++ c.record_of-entry.result ∷ []) c.reserve.ensures.records
     ∙ ap (λ (r : RecordData). c.self.inside.history.records ++ r ∷ []) c.record_of-entry.ensures)
-    c.in_ok-apply.ensures.ok))
+    c.in_ok-carry_on.ensures.ok))
 
 pub returns-clause-judged : goal.returns-clause-judged
 returns-clause-judged c =

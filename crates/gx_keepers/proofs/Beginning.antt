@@ -1,0 +1,29 @@
+-- What the keepers hold at the beginning of a day.
+use Rattle.std.proofs.Common.{◌≡◌, List, [], ◌∙◌, ap, sym}
+use Rattle.gx_history.specs.declared.policy.FileRule.{FileRule}
+use Rattle.gx_history.specs.declared.policy.PolicyData.{PolicyData}
+use Rattle.gx_history.specs.declared.policy.User.{User}
+use Rattle.gx_history.specs.InForce.{rules_in_force}
+use Rattle.gx_day.specs.DayData.{DayData}
+use Rattle.gx_day.specs.InForce.{fresh_day}
+use Rattle.gx_day.proofs.Going.{day_begins}
+use Rattle.gx_orders.specs.LiveOrders.{OrdersData}
+use Rattle.gx_orders.proofs.Staying.{none_at_first}
+use Rattle.gx_people.proofs.Keeping.{first_users}
+use Rattle.gx_streams.specs.Streams.{AllStreams, empty_streams}
+use Rattle.gx_streams.specs.Telling.{shown}
+use Rattle.gx_streams.proofs.Telling.{first_told}
+use Rattle.gx_keepers.specs.Keepers.{AreInForce}
+
+-- at the beginning of a day
+pub begin : (policy : PolicyData) (users : List User) (rules : List FileRule) (day : DayData) (orders : OrdersData) (streams : AllStreams)
+    → users ≡ policy.users → rules ≡ policy.rules → day ≡ fresh_day policy → orders.live ≡ [] → orders.used ≡ [] → streams ≡ empty_streams policy
+    → AreInForce policy [] (record { people = users; rules = rules; day = day; orders = orders; streams = streams })
+unfolding rules_in_force
+begin policy users rules day orders streams users_are rules_are day_is none_live none_used streams_are = record {
+  people = users_are ∙ sym (first_users policy);
+  rules = rules_are;
+  day = day_is ∙ sym (day_begins policy);
+  orders = (λ i. record { live = none_live i; used = none_used i }) ∙ sym (none_at_first policy);
+  streams = ap shown streams_are ∙ first_told policy;
+}

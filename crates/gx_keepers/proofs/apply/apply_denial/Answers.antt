@@ -1,0 +1,16 @@
+use Rattle.std.proofs.Common.{refl}
+use Rattle.gx_keepers.proofs.Carrying.{denial_goes_on, denied_place, denied_unused}
+use Rattle.gx_keepers.proofs.apply.apply_denial.Goals as goal
+
+pub mark_denied-requires : goal.mark_denied-requires
+mark_denied-requires c = record { new = denied_unused c.args.next.policy.now c.args.next.history.now.records c.args.next.asked.now c.args.next.left.now c.args.rule c.args.keepers.now c.requires.takes c.requires.denied }
+
+pub tell-requires : goal.tell-requires
+tell-requires c =
+    denied_place c.args.next.policy.now c.args.next.history.now.records c.args.next.asked.now c.args.next.left.now c.args.rule c.args.keepers.now c.rejected-message.result
+    c.requires.takes c.requires.places c.requires.denied c.rejected-message.ensures
+
+pub returns-clause-ok : goal.returns-clause-ok
+returns-clause-ok c =
+    denial_goes_on c.args.next.policy.now c.args.next.history.now.records c.args.next.asked.now c.args.next.left.now c.args.rule c.args.keepers.now _ c.rejected-message.result
+    c.requires.takes c.requires.denied c.rejected-message.ensures refl refl refl c.in_ok-mark_denied.ensures.ok c.tell.ensures

@@ -1,0 +1,134 @@
+-- What the keepers hold after these records.
+use Rattle.std.specs.Prelude.{◌≡◌, ℕ, ◌≤◌, IsTrue, IsFalse, IfSome, List, [], ◌∷◌, ◌++◌, length, Option, Some, None, is_some, option_and_then, if◌then◌else◌}
+use Rattle.std.specs.List.{filter}
+use Rattle.gx_units.specs.declared.names.AccountName.{AccountName}
+use Rattle.gx_units.specs.declared.names.UserName.{UserName}
+use Rattle.gx_desk.specs.declared.Action.{Action}
+use Rattle.gx_desk.specs.declared.Action.TheVariants as actions
+use Rattle.gx_history.specs.declared.policy.Role.TheVariants as roles
+use Rattle.gx_history.specs.declared.policy.User.{User}
+use Rattle.gx_history.specs.declared.record.Asked.{Asked}
+use Rattle.gx_history.specs.declared.record.Request.{Request}
+use Rattle.gx_history.specs.declared.record.Step.TheVariants as steps
+use Rattle.gx_history.specs.declared.record.RuleName.{RuleName}
+use Rattle.gx_history.specs.declared.record.Verdict.{Verdict}
+use Rattle.gx_history.specs.declared.report.Message.{Message}
+use Rattle.gx_history.specs.People.{account_of, user_in}
+use Rattle.gx_history.specs.Requests.{action_of, is_granted}
+use Rattle.gx_history.specs.declared.policy.PolicyData.{PolicyData}
+use Rattle.gx_history.specs.declared.record.RecordData.{RecordData}
+use Rattle.gx_history.specs.InForce.{rules_in_force}
+use Rattle.gx_history.specs.Streams.{reports_of}
+use Rattle.gx_history.specs.Verdicts.{IsLegal, day_limit, next}
+use Rattle.gx_day.specs.DayData.{at_moment}
+use Rattle.gx_day.specs.InForce.{day_in_force}
+use Rattle.gx_orders.specs.InForce.{orders_in_force}
+use Rattle.gx_people.specs.Entitled.{people_in_force}
+use Rattle.gx_streams.specs.Telling.{shown, told_after}
+use Rattle.gx_orders.specs.declared.live_order.LiveOrder.{LiveOrder}
+use Rattle.gx_orders.specs.declared.live_order.UserToken.{UserToken}
+use Rattle.gx_orders.specs.Changes.{denied_token, marking}
+use Rattle.gx_orders.specs.LiveOrders.{OrdersData, is_of_user, is_used}
+use Rattle.gx_streams.specs.Kept.{is_known, places_in, with_kept_last}
+use Rattle.gx_streams.specs.Streams.{AllStreams, on_told}
+use Rattle.gx_keepers.specs.declared.keepers.Keepers.{Keepers}
+use Rattle.gx_keepers.specs.declared.next_record.NextRecord.{NextRecord}
+
+-- each keeper holds what its definition says of the records
+pub record AreInForce (policy : PolicyData) (history : List RecordData) (k : Keepers) : Type 0 where
+  pub people : k.people ≡ people_in_force policy history
+  pub rules : k.rules ≡ rules_in_force policy history
+  pub day : k.day ≡ day_in_force policy history
+  pub orders : k.orders ≡ orders_in_force policy history
+  pub streams : shown k.streams ≡ told_after policy history
+
+-- and after one more record
+abbrev pub AreCarriedOn : PolicyData → List RecordData → RecordData → Keepers → Type 0
+AreCarriedOn policy history r k = AreInForce policy (history ++ r ∷ []) k
+
+-- they do, once the day has its moment
+pub record AreInForceBut (policy : PolicyData) (history : List RecordData) (r : RecordData) (k : Keepers) : Type 0 where
+  pub people : k.people ≡ people_in_force policy (history ++ r ∷ [])
+  pub rules : k.rules ≡ rules_in_force policy (history ++ r ∷ [])
+  pub day : at_moment r.moment k.day ≡ day_in_force policy (history ++ r ∷ [])
+  pub orders : k.orders ≡ orders_in_force policy (history ++ r ∷ [])
+  pub streams : shown k.streams ≡ told_after policy (history ++ r ∷ [])
+
+-- the account that an action kills
+abbrev pub killed_by_action : Action → Option AccountName
+killed_by_action (actions.Kill account) = Some account
+killed_by_action other = None
+
+-- the account that a request of this verdict kills
+abbrev pub killed_account : Request → Verdict → Option AccountName
+killed_account q given = if is_granted given then option_and_then killed_by_action (action_of q) else None
+
+-- the streams know the policy's users
+abbrev pub KnowsUsers : PolicyData → AllStreams → Type 0
+KnowsUsers policy streams = (user : UserName) → is_known streams.told user ≡ is_some (user_in policy.users user)
+
+-- the same users are known
+abbrev pub KnowTheSame : AllStreams → AllStreams → Type 0
+KnowTheSame before after = (user : UserName) → is_known after.told user ≡ is_known before.told user
+
+-- nobody has fewer places than before
+abbrev pub HaveNoFewer : AllStreams → AllStreams → Type 0
+HaveNoFewer before after = (user : UserName) → places_in before.told user ≤ places_in after.told user
+
+-- the user has so many places, if he is known
+abbrev pub HasPlaces : UserName → ℕ → AllStreams → Type 0
+HasPlaces user places streams = IsTrue (is_known streams.told user) → places ≤ places_in streams.told user
+
+-- the user, if he trades for the account and is known, has a place for each of his live orders
+abbrev pub HasEndPlaces : AccountName → List LiveOrder → AllStreams → User → Type 0
+HasEndPlaces account live streams u =
+    u.role ≡ roles.Trader account → HasPlaces u.name (length (filter (is_of_user u.name) live)) streams
+
+-- each trader of the account has a place for each of his live orders
+abbrev pub HaveEndPlaces : PolicyData → AccountName → List LiveOrder → AllStreams → Type 0
+HaveEndPlaces policy account live streams =
+    (user : UserName) → account_of policy user ≡ Some account → length (filter (is_of_user user) live) ≤ places_in streams.told user
+
+-- the token that the denial uses, if it uses one, was not used before
+abbrev pub IsUnused : List UserToken → Asked → RuleName → Type 0
+IsUnused used a rule = IfSome (denied_token rule a.request) (λ token. IsFalse (is_used used a.user token))
+
+-- the token that the denial uses, if it uses one, is used
+abbrev pub marked_by : Asked → RuleName → OrdersData → OrdersData
+marked_by a rule orders = marking a.user (denied_token rule a.request) orders
+
+-- a report put last in the user's stream, in a place that was kept, if there is one
+abbrev pub with_told : UserName → ℕ → Option Message → AllStreams → AllStreams
+with_told user moment None streams = streams
+with_told user moment (Some message) streams = on_told user (with_kept_last (record { timestamp = moment; message = message })) streams
+
+-- each user whom the record tells has a place for each of its reports
+abbrev pub HavePlaces : PolicyData → List RecordData → RecordData → AllStreams → Type 0
+HavePlaces policy history r streams = (user : UserName) → length (reports_of policy user (history, r)) ≤ places_in streams.told user
+
+-- after a legal day, with what is in force, the request leaves the record
+pub record Takes (policy : PolicyData) (history : List RecordData) (a : Asked) (r : RecordData) (k : Keepers) : Type 0 where
+  pub legal : IsLegal policy history
+  pub fits : r.number ≤ day_limit
+  pub left : next policy history (steps.Asked a) ≡ Some r
+  pub in_force : AreInForce policy history k
+
+-- the record is next, after a legal day with what is in force
+abbrev pub IsNext : NextRecord → Keepers → Type 0
+IsNext n k = Takes n.policy.now n.history.now.records n.asked.now n.left.now k
+
+-- the record has its places
+abbrev pub IsPlaced : NextRecord → Keepers → Type 0
+IsPlaced n k = HavePlaces n.policy.now n.history.now.records n.left.now k.streams
+
+-- the keepers hold what is in force before the record
+abbrev pub AreBefore : NextRecord → Keepers → Type 0
+AreBefore n k = AreInForce n.policy.now n.history.now.records k
+
+-- after it
+abbrev pub AreAfter : NextRecord → Keepers → Type 0
+AreAfter n k = AreCarriedOn n.policy.now n.history.now.records n.left.now k
+
+-- and after it, once the day has its moment
+abbrev pub AreAfterBut : NextRecord → Keepers → Type 0
+AreAfterBut n k = AreInForceBut n.policy.now n.history.now.records n.left.now k

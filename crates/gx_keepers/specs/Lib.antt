@@ -1,0 +1,4 @@
+pub mod Ends
+pub mod Keepers
+pub mod Messages
+pub mod Settings

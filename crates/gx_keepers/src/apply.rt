@@ -1,0 +1,276 @@
+//! What each kind of record does to the keepers.
+//!
+//! Each function begins with the one call that can be refused, if it makes one; nothing has changed then. What follows
+//! takes no memory: the places for reports were kept before.
+
+ghost use Rattle.std.specs.Prelude.{◌≡◌, ◌<◌, IfSome, OnOk, OnErr, IsTrue};
+ghost use Rattle.gx_desk.specs.declared.Action.TheVariants as actions;
+ghost use Rattle.gx_history.specs.declared.record.Request.TheVariants as requests;
+ghost use Rattle.gx_history.specs.declared.record.Verdict.TheVariants as verdicts;
+ghost use Rattle.gx_orders.specs.Changes.{waiting_order};
+ghost use Rattle.gx_streams.specs.Kept.{places_in};
+ghost use Rattle.gx_keepers.specs.Keepers.{marked_by, with_told, AreAfter, AreAfterBut, AreBefore, IsNext, IsPlaced, IsUnused};
+ghost use Rattle.gx_keepers.specs.Ends.{owed_by_ends, told_of_ends, HaveOwedPlaces};
+ghost use Rattle.gx_keepers.specs.Settings.{is_carried, is_carried_command};
+
+use crate::keepers::Keepers;
+use crate::listed::firm_of;
+use crate::next_record::NextRecord;
+use crate::places::keep_places;
+use crate::reports::{accepted, ended, rejected};
+use crate::request::denied_token;
+use crate::settings::apply_setting;
+use gx_desk::{Action, Command};
+use gx_history::policy::Policy;
+use gx_history::record::{Asked, RecordData, Request, RuleName, Verdict};
+use gx_history::report::{Message, Report};
+use gx_orders::live_order::LiveOrder;
+use gx_orders::orders::Orders;
+use gx_ouch::{EnterOrder, OrderTerms};
+use gx_streams::streams::Streams;
+use gx_units::{AccountName, Moment, OutOfMemory, UserName};
+
+/// Uses the token of a request that this rule denies, if the rule is one whose denials are answered.
+fn mark_denied(orders: &mut Orders, a: &Asked, rule: RuleName) -> Result<(), OutOfMemory>
+    requires new { IsUnused orders.old.used a.now rule }
+    ensures ok { OnOk result (orders.new ≡ marked_by a.now rule orders.old) }
+    ensures err { OnErr result (orders.new ≡ orders.old) }
+{
+    match denied_token(rule, &a.request) {
+        Some(token) => orders.mark_used(a.user, token),
+        None => Ok(()),
+    }
+}
+
+/// Tells the user, if there is something to tell.
+fn tell(streams: &mut Streams, user: UserName, moment: Moment, found: Option<Message>)
+    requires { IfSome found (λ message. 0 < places_in streams.old.told user) }
+    ensures { streams.new ≡ with_told user moment found streams.old }
+{
+    if let Some(message) = found {
+        streams.append_reserved(
+            user,
+            Report {
+                timestamp: moment,
+                message,
+            },
+        );
+    }
+}
+
+/// A denial: it uses the token and is told, where its rule is one whose denials are answered.
+fn apply_denial(
+    keepers: &mut Keepers,
+    next: NextRecord<'_>,
+    rule: RuleName,
+) -> Result<(), OutOfMemory>
+    requires takes { IsNext next keepers.old }
+    requires places { IsPlaced next keepers.old }
+    requires denied { next.left.now.verdict ≡ verdicts.Denied rule }
+    ensures ok { OnOk result (AreAfterBut next.entry keepers.new) }
+    ensures err { OnErr result (AreBefore next.entry keepers.new) }
+{
+    mark_denied(&mut keepers.orders, next.asked, rule)?;
+    let message = rejected(next.policy, rule, &next.asked.request);
+    tell(
+        &mut keepers.streams,
+        next.asked.user,
+        next.left.moment,
+        message,
+    );
+    Ok(())
+}
+
+/// The order of an Enter that the record grants.
+fn order_of(
+    policy: &Policy,
+    entry: &RecordData,
+    user: UserName,
+    account: AccountName,
+    m: &EnterOrder,
+) -> LiveOrder
+    ensures { result ≡ waiting_order policy.now entry.now user account m.now }
+{
+    LiveOrder {
+        number: entry.number,
+        user,
+        account,
+        token: m.token,
+        terms: OrderTerms {
+            side: m.side,
+            shares: m.shares,
+            stock: m.stock,
+            price: m.price,
+            time_in_force: m.time_in_force,
+            firm: firm_of(policy, account, m.firm),
+            display: m.display,
+            capacity: m.capacity,
+            intermarket_sweep: m.intermarket_sweep,
+            minimum_quantity: m.minimum_quantity,
+            cross_type: m.cross_type,
+        },
+        total: m.shares,
+        done: 0,
+        waits: true,
+    }
+}
+
+/// A granted Enter: its order is the last of those that wait, and its user is told.
+fn apply_enter(
+    keepers: &mut Keepers,
+    next: NextRecord<'_>,
+    m: &EnterOrder,
+) -> Result<(), OutOfMemory>
+    requires takes { IsNext next keepers.old }
+    requires places { IsPlaced next keepers.old }
+    requires granted { next.left.now.verdict ≡ verdicts.Granted }
+    requires enters { next.asked.now.request ≡ requests.Enter m.now }
+    ensures ok { OnOk result (AreAfterBut next.entry keepers.new) }
+    ensures err { OnErr result (AreBefore next.entry keepers.new) }
+{
+    let Some(account) = keepers.people.account_of(next.asked.user) else {
+        unreachable!();
+    };
+    let order = order_of(next.policy, next.left, next.asked.user, account, m);
+    keepers.orders.enter(order)?;
+    tell(
+        &mut keepers.streams,
+        next.asked.user,
+        next.left.moment,
+        Some(accepted(&order)),
+    );
+    Ok(())
+}
+
+/// Tells each user, by number, of his live orders of the account, which end now.
+fn tell_of_ends(streams: &mut Streams, orders: &Orders, account: AccountName, moment: Moment)
+    requires { HaveOwedPlaces (owed_by_ends account moment orders.now.live) streams.old }
+    ensures { streams.new ≡ told_of_ends account moment orders.now.live streams.old }
+{
+    for order in orders.live() {
+        if account == order.account {
+            streams.append_reserved(
+                order.user,
+                Report {
+                    timestamp: moment,
+                    message: ended(order),
+                },
+            );
+        }
+    }
+}
+
+/// A granted Kill: the account is killed, each of its orders ends, and their users are told.
+fn apply_kill(keepers: &mut Keepers, next: NextRecord<'_>, c: &Command, account: AccountName)
+    requires takes { IsNext next keepers.old }
+    requires places { IsPlaced next keepers.old }
+    requires granted { next.left.now.verdict ≡ verdicts.Granted }
+    requires commands { next.asked.now.request ≡ requests.Command c.now }
+    requires kills { c.now.action ≡ actions.Kill account }
+    ensures { AreAfterBut next.entry keepers.new }
+{
+    tell_of_ends(
+        &mut keepers.streams,
+        &keepers.orders,
+        account,
+        next.left.moment,
+    );
+    keepers.orders.end_account(account);
+    keepers.day.kill(account);
+}
+
+/// A granted command.
+fn apply_command(
+    keepers: &mut Keepers,
+    next: NextRecord<'_>,
+    c: &Command,
+) -> Result<(), OutOfMemory>
+    requires takes { IsNext next keepers.old }
+    requires places { IsPlaced next keepers.old }
+    requires granted { next.left.now.verdict ≡ verdicts.Granted }
+    requires commands { next.asked.now.request ≡ requests.Command c.now }
+    requires carried { IsTrue (is_carried_command c.now.action) }
+    ensures ok { OnOk result (AreAfterBut next.entry keepers.new) }
+    ensures err { OnErr result (AreBefore next.entry keepers.new) }
+{
+    match c.action {
+        Action::Kill(account) => {
+            apply_kill(keepers, next, c, account);
+            Ok(())
+        }
+        Action::Lift(account) => {
+            keepers.day.lift(account);
+            Ok(())
+        }
+        _ => apply_setting(keepers, next, c),
+    }
+}
+
+/// A granted request.
+fn apply_grant(keepers: &mut Keepers, next: NextRecord<'_>) -> Result<(), OutOfMemory>
+    requires takes { IsNext next keepers.old }
+    requires places { IsPlaced next keepers.old }
+    requires granted { next.left.now.verdict ≡ verdicts.Granted }
+    requires carried { IsTrue (is_carried next.asked.now.request) }
+    ensures ok { OnOk result (AreAfterBut next.entry keepers.new) }
+    ensures err { OnErr result (AreBefore next.entry keepers.new) }
+{
+    let a = next.asked;
+    match &a.request {
+        Request::Login(_) => {
+            keepers.day.log_in(a.user, a.line);
+            Ok(())
+        }
+        Request::Logout => {
+            keepers.day.log_out(a.user);
+            Ok(())
+        }
+        Request::Enter(m) => apply_enter(keepers, next, m),
+        Request::Command(c) => apply_command(keepers, next, c),
+        _ => unreachable!(),
+    }
+}
+
+/// What the record does, but that the day has its moment.
+fn apply_verdict(keepers: &mut Keepers, next: NextRecord<'_>) -> Result<(), OutOfMemory>
+    requires takes { IsNext next keepers.old }
+    requires places { IsPlaced next keepers.old }
+    requires carried { IsTrue (is_carried next.asked.now.request) }
+    ensures ok { OnOk result (AreAfterBut next.entry keepers.new) }
+    ensures err { OnErr result (AreBefore next.entry keepers.new) }
+{
+    match next.left.verdict {
+        Verdict::Granted => apply_grant(keepers, next),
+        Verdict::Denied(rule) => apply_denial(keepers, next, rule),
+        _ => unreachable!(),
+    }
+}
+
+/// What the record does; an `OutOfMemory` comes before anything has changed.
+fn apply(keepers: &mut Keepers, next: NextRecord<'_>) -> Result<(), OutOfMemory>
+    requires takes { IsNext next keepers.old }
+    requires places { IsPlaced next keepers.old }
+    requires carried { IsTrue (is_carried next.asked.now.request) }
+    ensures ok { OnOk result (AreAfter next.entry keepers.new) }
+    ensures err { OnErr result (AreBefore next.entry keepers.new) }
+{
+    apply_verdict(keepers, next)?;
+    keepers.day.set_moment(next.left.moment);
+    Ok(())
+}
+
+/// Keeps a place for each report that the record owes, and carries the keepers on by the record.
+///
+/// # Errors
+///
+/// `OutOfMemory` where a stream, an order, an answered denial or a setting finds no memory; then they are as they were, but
+/// for places that were kept.
+pub fn carry_on(keepers: &mut Keepers, next: NextRecord<'_>) -> Result<(), OutOfMemory>
+    requires takes { IsNext next keepers.old }
+    requires carried { IsTrue (is_carried next.asked.now.request) }
+    ensures ok { OnOk result (AreAfter next.entry keepers.new) }
+    ensures err { OnErr result (AreBefore next.entry keepers.new) }
+{
+    keep_places(keepers, next)?;
+    apply(keepers, next)
+}

@@ -1,0 +1,14 @@
+//! What a gate carries its keepers on by.
+
+use gx_history::history::History;
+use gx_history::policy::Policy;
+use gx_history::record::{Asked, RecordData};
+
+/// The next record of a day: the request that leaves it, and the policy and the records that the request is judged on.
+#[derive(Clone, Copy)]
+pub struct NextRecord<'a> {
+    pub policy: &'a Policy,
+    pub history: &'a History,
+    pub asked: &'a Asked,
+    pub left: &'a RecordData,
+}

@@ -1,0 +1,103 @@
+//! What users are told: the messages of OUCH, from orders and denials.
+
+ghost use Rattle.std.specs.Prelude.{◌≡◌, option_copied, find, option_to_list};
+ghost use Rattle.gx_units.specs.Names.{same_rule};
+ghost use Rattle.gx_history.specs.Reasons.{kind_reason, reject_reason};
+ghost use Rattle.gx_history.specs.Streams.{rejected};
+ghost use Rattle.gx_orders.specs.Changes.{ended_message};
+ghost use Rattle.gx_keepers.specs.Messages.{accepted_message};
+
+use crate::request::new_token;
+use gx_history::policy::{FileRule, Policy, RuleKind};
+use gx_history::record::{Request, RuleName};
+use gx_history::report::Message;
+use gx_orders::live_order::LiveOrder;
+use gx_ouch::{Accepted, CancelReason, Canceled, Outbound, RejectReason, Rejected};
+use gx_units::RuleId;
+
+fn find_rule<'a>(rules: &'a [FileRule], name: RuleId) -> Option<&'a FileRule>
+    ensures { option_copied result ≡ find (λ r. same_rule r.name name) rules.now }
+{
+    rules.iter().find(|r| r.name == name)
+}
+
+fn reason_of_kind(kind: &RuleKind) -> RejectReason
+    ensures { result ≡ kind_reason kind.now }
+{
+    match kind {
+        RuleKind::Halt(_) => RejectReason::Halted,
+        RuleKind::Restricted(_) => RejectReason::RestrictedStock,
+        RuleKind::NoShort => RejectReason::ShortSale,
+        RuleKind::NoIso => RejectReason::IntermarketSweep,
+        RuleKind::OddLot => RejectReason::OddLot,
+        RuleKind::OrderShares(_) => RejectReason::SharesExceedSafety,
+        RuleKind::OrderValue(_) => RejectReason::DollarLimit,
+        RuleKind::Collar(_) => RejectReason::InvalidPrice,
+        RuleKind::GrossShares(_, _) => RejectReason::SharesLimit,
+        RuleKind::GrossValue(_, _) => RejectReason::DollarLimit,
+        RuleKind::Rate(_, _) => RejectReason::Other,
+        RuleKind::Repeat(_, _) => RejectReason::Other,
+    }
+}
+
+fn reason_of_rule(policy: &Policy, name: RuleId) -> Option<RejectReason>
+    ensures { result ≡ reject_reason policy.now (RuleName.File name) }
+{
+    match find_rule(policy.rules(), name) {
+        Some(rule) => Some(reason_of_kind(&rule.kind)),
+        None => None,
+    }
+}
+
+/// The reason given for a denial that is answered Rejected, by a rule P or a rule of the file; None for others.
+fn reject_reason(policy: &Policy, rule: RuleName) -> Option<RejectReason>
+    ensures { result ≡ reject_reason policy.now rule }
+{
+    match rule {
+        RuleName::P1 => Some(RejectReason::Closed),
+        RuleName::P2 => Some(RejectReason::RejectAll),
+        RuleName::P3 => Some(RejectReason::FirmNotAuthorized),
+        RuleName::P4 => Some(RejectReason::InvalidStock),
+        RuleName::P5 => Some(RejectReason::SharesExceedSafety),
+        RuleName::P6 => Some(RejectReason::InvalidPrice),
+        RuleName::P7 => Some(RejectReason::InvalidDisplay),
+        RuleName::P8 => Some(RejectReason::Other),
+        RuleName::P9 => Some(RejectReason::InvalidMinimumQuantity),
+        RuleName::P10 => Some(RejectReason::NotAllowedInCross),
+        RuleName::P11 => Some(RejectReason::Other),
+        RuleName::P12 => Some(RejectReason::Other),
+        RuleName::File(name) => reason_of_rule(policy, name),
+        _ => None,
+    }
+}
+
+/// Rejected: to who asked for an order that a rule denies, if the rule is one whose denial is answered.
+pub fn rejected(policy: &Policy, rule: RuleName, request: &Request) -> Option<Message>
+    ensures { option_to_list result ≡ rejected policy.now request.now rule }
+{
+    let token = new_token(request)?;
+    let reason = reject_reason(policy, rule)?;
+    Some(Message::Order(Outbound::Rejected(Rejected { token, reason })))
+}
+
+/// Accepted: to who asked for the order.
+pub fn accepted(order: &LiveOrder) -> Message
+    ensures { result ≡ accepted_message order.now }
+{
+    Message::Order(Outbound::Accepted(Accepted {
+        token: order.token,
+        terms: order.terms,
+        order_reference: order.number,
+    }))
+}
+
+/// Canceled: to the user of an order that an officer's command ends, with the shares that were open.
+pub fn ended(order: &LiveOrder) -> Message
+    ensures { result ≡ ended_message order.now }
+{
+    Message::Order(Outbound::Canceled(Canceled {
+        token: order.token,
+        decrement: order.open(),
+        reason: CancelReason::Supervisory,
+    }))
+}
