@@ -20,14 +20,18 @@ const SCRIPT_LINES: &str = "Lines:
   M USER login PASSWORD NUMBER                        log in; NUMBER is the first report wanted, 0 for the last
   M USER logout                                       log out
   M USER enter TOKEN SIDE SHARES STOCK PRICE TIF      enter an order
+  M USER cancel TOKEN SHARES                          cut an order to a new size; 0 ends it
   M USER kill TAG ACCOUNT                             kill an account (officers)
   M USER lift TAG ACCOUNT                             lift a kill (officers)
   M USER raw HEX                                      what the bytes of a message ask for
+  M match                                             make one matching step
+  M settle                                            make matching steps until no order waits
   stream USER                                         print the reports that the user is owed
 
 M is the moment in nanoseconds past midnight, PRICE in ten-thousandths of a dollar, TIF 0, 99998 or 99999.
 Words are separated by one space. Empty lines and lines that begin with # are skipped.
 Each step prints `N granted`, `N denied RULE` or `refused DayFull`, N being the number of its record;
+a matching step `N filled TAKER MAKER SHARES PRICE`, `N rested ORDER`, `N expired ORDER` or `idle`;
 `stream` prints `USER K HEX` for each report. A bad line ends the script with status 4.";
 
 /// Why the program gave up, and which file can't be read, in the system's words.

@@ -5,6 +5,7 @@ pub mod Keeping
 pub mod Opening
 pub mod Ranks
 pub mod Putting
+pub mod Arrivals
 pub mod Laddered
 pub mod Indexed
 pub mod Leaving

@@ -8,7 +8,6 @@ use Rattle.std.specs.BTreeMap.{insert_entry, is_at}
 use Rattle.std.specs.Ordering.{is_eq, nat_cmp, match_ordering}
 use Rattle.std.specs.declared.cmp.Ordering.{Ordering}
 use Rattle.std.specs.declared.cmp.Ordering.TheVariants.{Less, Equal, Greater}
-use Rattle.std.specs.declared.collections.VecDeque.{VecDeque}
 use Rattle.std.proofs.lemmas.Bool.{eqb-true, eqb-false, ltb-false}
 use borrow.Author.Tests.{ltb-true}
 use Rattle.gx_history.specs.Book.{is_buy}
@@ -83,87 +82,86 @@ none_pass p (x ∷ xs) all =
 pub ahead_of_all : (r : Resting) (xs : List Resting) → list_all (is_better r) xs ≡ true → with_order r xs ≡ r ∷ xs
 ahead_of_all r xs all = ap (λ front. front ++ r ∷ filter (is_better r) xs) (none_pass (is_better r) xs all) ∙ ap (λ rest. r ∷ rest) (all_pass (is_better r) xs all)
 
-module _ {Z : Type 0} where
-  -- the levels of higher ranks are all bettered
-  pub behind_all : (r : Resting) (k : ℕ) (es : List (ℕ × VecDeque Resting Z)) → is_ranked k r ≡ true → list_all is_level es ≡ true → list_all (is_on (is_buy r.side)) (orders_of es) ≡ true
-      → AllByRecursion (λ y. k < y) (keys_of es) → list_all (is_better r) (orders_of es) ≡ true
-  behind_all r k [] here levels on above = refl
-  behind_all r k (e ∷ es) here levels on above =
-      let parts = both (is_level e) (list_all is_level es) levels in
-      let level = both (list_all (is_ranked e.0) e.1.items) _ parts.0 in
-      let sides = split_all (is_on (is_buy r.side)) e.1.items (orders_of es) on in
-      join_all (is_better r) e.1.items (orders_of es) (level_behind r k e.0 e.1.items here level.0 sides.0 above.0) (behind_all r k es here parts.1 sides.1 above.1)
+-- the levels of higher ranks are all bettered
+pub behind_all : (r : Resting) (k : ℕ) (es : List (ℕ × List Resting)) → is_ranked k r ≡ true → list_all is_level es ≡ true → list_all (is_on (is_buy r.side)) (orders_of es) ≡ true
+    → AllByRecursion (λ y. k < y) (keys_of es) → list_all (is_better r) (orders_of es) ≡ true
+behind_all r k [] here levels on above = refl
+behind_all r k (e ∷ es) here levels on above =
+    let parts = both (is_level e) (list_all is_level es) levels in
+    let level = both (list_all (is_ranked e.0) e.1) _ parts.0 in
+    let sides = split_all (is_on (is_buy r.side)) e.1 (orders_of es) on in
+    join_all (is_better r) e.1 (orders_of es) (level_behind r k e.0 e.1 here level.0 sides.0 above.0) (behind_all r k es here parts.1 sides.1 above.1)
 
-  pub not_found_above : (k : ℕ) (es : List (ℕ × VecDeque Resting Z)) → AllByRecursion (λ y. k < y) (keys_of es) → lookup (is_at (nat_cmp k)) es ≡ None
-  not_found_above k [] above = refl
-  not_found_above k (e ∷ es) above = by (compared k e.0) (not_found_above k es above.1)
-    where
-      by : Compared k e.0 → lookup (is_at (nat_cmp k)) es ≡ None → lookup (is_at (nat_cmp k)) (e ∷ es) ≡ None
-      by (below lt is) later = ap (λ o. cond (is_eq o) (Some e.1) (lookup (is_at (nat_cmp k)) es)) is ∙ later
-      by (equal eq is) later = absurd (omega (arith, above.0, eq))
-      by (beyond gt is) later = absurd (omega (arith, above.0, gt))
+pub not_found_above : (k : ℕ) (es : List (ℕ × List Resting)) → AllByRecursion (λ y. k < y) (keys_of es) → lookup (is_at (nat_cmp k)) es ≡ None
+not_found_above k [] above = refl
+not_found_above k (e ∷ es) above = by (compared k e.0) (not_found_above k es above.1)
+  where
+    by : Compared k e.0 → lookup (is_at (nat_cmp k)) es ≡ None → lookup (is_at (nat_cmp k)) (e ∷ es) ≡ None
+    by (below lt is) later = ap (λ o. cond (is_eq o) (Some e.1) (lookup (is_at (nat_cmp k)) es)) is ∙ later
+    by (equal eq is) later = absurd (omega (arith, above.0, eq))
+    by (beyond gt is) later = absurd (omega (arith, above.0, gt))
 
-  abbrev find_at : ℕ → ℕ × VecDeque Resting Z → List (ℕ × VecDeque Resting Z) → Ordering → Option (VecDeque Resting Z)
-  find_at k e es o = cond (is_eq o) (Some e.1) (lookup (is_at (nat_cmp k)) es)
+abbrev find_at : ℕ → ℕ × List Resting → List (ℕ × List Resting) → Ordering → Option (List Resting)
+find_at k e es o = cond (is_eq o) (Some e.1) (lookup (is_at (nat_cmp k)) es)
 
-  abbrev set_at : ℕ → ℕ × VecDeque Resting Z → List (ℕ × VecDeque Resting Z) → VecDeque Resting Z → Ordering → List (ℕ × VecDeque Resting Z)
-  set_at k e es q o = cond (is_eq o) ((e.0, q) ∷ es) (e ∷ set_value (is_at (nat_cmp k)) es q)
+abbrev set_at : ℕ → ℕ × List Resting → List (ℕ × List Resting) → List Resting → Ordering → List (ℕ × List Resting)
+set_at k e es q o = cond (is_eq o) ((e.0, q) ∷ es) (e ∷ set_value (is_at (nat_cmp k)) es q)
 
-  abbrev insert_at : ℕ → ℕ × VecDeque Resting Z → List (ℕ × VecDeque Resting Z) → VecDeque Resting Z → Ordering → List (ℕ × VecDeque Resting Z)
-  insert_at k e es q o = match_ordering o ((k, q) ∷ e ∷ es) ((e.0, q) ∷ es) (e ∷ insert_entry nat_cmp es k q)
+abbrev insert_at : ℕ → ℕ × List Resting → List (ℕ × List Resting) → List Resting → Ordering → List (ℕ × List Resting)
+insert_at k e es q o = match_ordering o ((k, q) ∷ e ∷ es) ((e.0, q) ∷ es) (e ∷ insert_entry nat_cmp es k q)
 
-  -- the order last in the level that it belongs to
-  pub put_present : (r : Resting) (k : ℕ) (es : List (ℕ × VecDeque Resting Z)) (q q' : VecDeque Resting Z) → is_ranked k r ≡ true → list_all is_level es ≡ true
-      → IsStrictlySortedBy nat_cmp (keys_of es) → list_all (is_on (is_buy r.side)) (orders_of es) ≡ true
-      → lookup (is_at (nat_cmp k)) es ≡ Some q → q'.items ≡ q.items ++ r ∷ [] → orders_of (set_value (is_at (nat_cmp k)) es q') ≡ with_order r (orders_of es)
-  unfolding IsStrictlySortedBy
-  put_present r k [] q q' here levels sorted on found items = absurd (some_is_none (sym found))
-  put_present r k (e ∷ es) q q' here levels sorted on found items =
-      by (compared k e.0) (λ rest side later. put_present r k es q q' here rest sorted.1 side later items)
-    where
-      by : Compared k e.0
-          → (list_all is_level es ≡ true → list_all (is_on (is_buy r.side)) (orders_of es) ≡ true → lookup (is_at (nat_cmp k)) es ≡ Some q → orders_of (set_value (is_at (nat_cmp k)) es q') ≡ with_order r (orders_of es))
-          → orders_of (set_value (is_at (nat_cmp k)) (e ∷ es) q') ≡ with_order r (orders_of (e ∷ es))
-      by (below lt is) later = absurd (some_is_none (sym found ∙ ap (find_at k e es) is ∙ not_found_above k es (keys_above k e.0 (keys_of es) (omega (arith, lt)) sorted.0)))
-      by (equal eq is) later =
-          let parts = both (is_level e) (list_all is_level es) levels in
-          let level = (both (list_all (is_ranked e.0) e.1.items) _ parts.0).0 in
-          let sides = split_all (is_on (is_buy r.side)) e.1.items (orders_of es) on in
-          let q_is : q ≡ e.1 = some_is (sym found ∙ ap (find_at k e es) is) in
-          ap (λ o. orders_of (set_at k e es q' o)) is
-          ∙ ap (λ xs. xs ++ orders_of es) (items ∙ ap (λ (p : VecDeque Resting Z). p.items ++ r ∷ []) q_is)
-          ∙ append_assoc e.1.items (r ∷ []) (orders_of es)
-          ∙ ap (λ xs. e.1.items ++ xs) (sym (ahead_of_all r (orders_of es) (behind_all r k es here parts.1 sides.1 (keys_above k e.0 (keys_of es) (omega (arith, eq)) sorted.0))))
-          ∙ sym (level_ahead r k e.0 e.1.items (orders_of es) here level sides.0 (omega (arith, eq)))
-      by (beyond gt is) later =
-          let parts = both (is_level e) (list_all is_level es) levels in
-          let level = (both (list_all (is_ranked e.0) e.1.items) _ parts.0).0 in
-          let sides = split_all (is_on (is_buy r.side)) e.1.items (orders_of es) on in
-          ap (λ o. orders_of (set_at k e es q' o)) is
-          ∙ ap (λ xs. e.1.items ++ xs) (later parts.1 sides.1 (sym (ap (find_at k e es) is) ∙ found))
-          ∙ sym (level_ahead r k e.0 e.1.items (orders_of es) here level sides.0 (omega (arith, gt)))
+-- the order last in the level that it belongs to
+pub put_present : (r : Resting) (k : ℕ) (es : List (ℕ × List Resting)) (q q' : List Resting) → is_ranked k r ≡ true → list_all is_level es ≡ true
+    → IsStrictlySortedBy nat_cmp (keys_of es) → list_all (is_on (is_buy r.side)) (orders_of es) ≡ true
+    → lookup (is_at (nat_cmp k)) es ≡ Some q → q' ≡ q ++ r ∷ [] → orders_of (set_value (is_at (nat_cmp k)) es q') ≡ with_order r (orders_of es)
+unfolding IsStrictlySortedBy
+put_present r k [] q q' here levels sorted on found items = absurd (some_is_none (sym found))
+put_present r k (e ∷ es) q q' here levels sorted on found items =
+    by (compared k e.0) (λ rest side later. put_present r k es q q' here rest sorted.1 side later items)
+  where
+    by : Compared k e.0
+        → (list_all is_level es ≡ true → list_all (is_on (is_buy r.side)) (orders_of es) ≡ true → lookup (is_at (nat_cmp k)) es ≡ Some q → orders_of (set_value (is_at (nat_cmp k)) es q') ≡ with_order r (orders_of es))
+        → orders_of (set_value (is_at (nat_cmp k)) (e ∷ es) q') ≡ with_order r (orders_of (e ∷ es))
+    by (below lt is) later = absurd (some_is_none (sym found ∙ ap (find_at k e es) is ∙ not_found_above k es (keys_above k e.0 (keys_of es) (omega (arith, lt)) sorted.0)))
+    by (equal eq is) later =
+        let parts = both (is_level e) (list_all is_level es) levels in
+        let level = (both (list_all (is_ranked e.0) e.1) _ parts.0).0 in
+        let sides = split_all (is_on (is_buy r.side)) e.1 (orders_of es) on in
+        let q_is : q ≡ e.1 = some_is (sym found ∙ ap (find_at k e es) is) in
+        ap (λ o. orders_of (set_at k e es q' o)) is
+        ∙ ap (λ xs. xs ++ orders_of es) (items ∙ ap (λ (p : List Resting). p ++ r ∷ []) q_is)
+        ∙ append_assoc e.1 (r ∷ []) (orders_of es)
+        ∙ ap (λ xs. e.1 ++ xs) (sym (ahead_of_all r (orders_of es) (behind_all r k es here parts.1 sides.1 (keys_above k e.0 (keys_of es) (omega (arith, eq)) sorted.0))))
+        ∙ sym (level_ahead r k e.0 e.1 (orders_of es) here level sides.0 (omega (arith, eq)))
+    by (beyond gt is) later =
+        let parts = both (is_level e) (list_all is_level es) levels in
+        let level = (both (list_all (is_ranked e.0) e.1) _ parts.0).0 in
+        let sides = split_all (is_on (is_buy r.side)) e.1 (orders_of es) on in
+        ap (λ o. orders_of (set_at k e es q' o)) is
+        ∙ ap (λ xs. e.1 ++ xs) (later parts.1 sides.1 (sym (ap (find_at k e es) is) ∙ found))
+        ∙ sym (level_ahead r k e.0 e.1 (orders_of es) here level sides.0 (omega (arith, gt)))
 
-  -- a level of its own, where there is none
-  pub put_absent : (r : Resting) (k : ℕ) (es : List (ℕ × VecDeque Resting Z)) (q' : VecDeque Resting Z) → is_ranked k r ≡ true → list_all is_level es ≡ true
-      → IsStrictlySortedBy nat_cmp (keys_of es) → list_all (is_on (is_buy r.side)) (orders_of es) ≡ true
-      → lookup (is_at (nat_cmp k)) es ≡ None → q'.items ≡ r ∷ [] → orders_of (insert_entry nat_cmp es k q') ≡ with_order r (orders_of es)
-  unfolding IsStrictlySortedBy
-  put_absent r k [] q' here levels sorted on none items = ap (λ xs. xs ++ []) items
-  put_absent r k (e ∷ es) q' here levels sorted on none items =
-      by (compared k e.0) (λ rest side later. put_absent r k es q' here rest sorted.1 side later items)
-    where
-      by : Compared k e.0
-          → (list_all is_level es ≡ true → list_all (is_on (is_buy r.side)) (orders_of es) ≡ true → lookup (is_at (nat_cmp k)) es ≡ None → orders_of (insert_entry nat_cmp es k q') ≡ with_order r (orders_of es))
-          → orders_of (insert_entry nat_cmp (e ∷ es) k q') ≡ with_order r (orders_of (e ∷ es))
-      by (below lt is) later =
-          ap (λ o. orders_of (insert_at k e es q' o)) is
-          ∙ ap (λ xs. xs ++ orders_of (e ∷ es)) items
-          ∙ sym (ahead_of_all r (orders_of (e ∷ es)) (behind_all r k (e ∷ es) here levels on (lt, keys_above k e.0 (keys_of es) (omega (arith, lt)) sorted.0)))
-      by (equal eq is) later = absurd (some_is_none (sym (ap (find_at k e es) is) ∙ none))
-      by (beyond gt is) later =
-          let parts = both (is_level e) (list_all is_level es) levels in
-          let level = (both (list_all (is_ranked e.0) e.1.items) _ parts.0).0 in
-          let sides = split_all (is_on (is_buy r.side)) e.1.items (orders_of es) on in
-          ap (λ o. orders_of (insert_at k e es q' o)) is
-          ∙ ap (λ xs. e.1.items ++ xs) (later parts.1 sides.1 (sym (ap (find_at k e es) is) ∙ none))
-          ∙ sym (level_ahead r k e.0 e.1.items (orders_of es) here level sides.0 (omega (arith, gt)))
+-- a level of its own, where there is none
+pub put_absent : (r : Resting) (k : ℕ) (es : List (ℕ × List Resting)) (q' : List Resting) → is_ranked k r ≡ true → list_all is_level es ≡ true
+    → IsStrictlySortedBy nat_cmp (keys_of es) → list_all (is_on (is_buy r.side)) (orders_of es) ≡ true
+    → lookup (is_at (nat_cmp k)) es ≡ None → q' ≡ r ∷ [] → orders_of (insert_entry nat_cmp es k q') ≡ with_order r (orders_of es)
+unfolding IsStrictlySortedBy
+put_absent r k [] q' here levels sorted on none items = ap (λ xs. xs ++ []) items
+put_absent r k (e ∷ es) q' here levels sorted on none items =
+    by (compared k e.0) (λ rest side later. put_absent r k es q' here rest sorted.1 side later items)
+  where
+    by : Compared k e.0
+        → (list_all is_level es ≡ true → list_all (is_on (is_buy r.side)) (orders_of es) ≡ true → lookup (is_at (nat_cmp k)) es ≡ None → orders_of (insert_entry nat_cmp es k q') ≡ with_order r (orders_of es))
+        → orders_of (insert_entry nat_cmp (e ∷ es) k q') ≡ with_order r (orders_of (e ∷ es))
+    by (below lt is) later =
+        ap (λ o. orders_of (insert_at k e es q' o)) is
+        ∙ ap (λ xs. xs ++ orders_of (e ∷ es)) items
+        ∙ sym (ahead_of_all r (orders_of (e ∷ es)) (behind_all r k (e ∷ es) here levels on (lt, keys_above k e.0 (keys_of es) (omega (arith, lt)) sorted.0)))
+    by (equal eq is) later = absurd (some_is_none (sym (ap (find_at k e es) is) ∙ none))
+    by (beyond gt is) later =
+        let parts = both (is_level e) (list_all is_level es) levels in
+        let level = (both (list_all (is_ranked e.0) e.1) _ parts.0).0 in
+        let sides = split_all (is_on (is_buy r.side)) e.1 (orders_of es) on in
+        ap (λ o. orders_of (insert_at k e es q' o)) is
+        ∙ ap (λ xs. e.1 ++ xs) (later parts.1 sides.1 (sym (ap (find_at k e es) is) ∙ none))
+        ∙ sym (level_ahead r k e.0 e.1 (orders_of es) here level sides.0 (omega (arith, gt)))

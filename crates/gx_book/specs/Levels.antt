@@ -1,7 +1,7 @@
 -- Price levels: the orders of one price, the earlier first.
-use Rattle.std.specs.Prelude.{ℕ, Bool, IsTrue, IsSomeAnd, ◌+◌, ◌==◌, ◌&&◌, nat_lt, length, List, if◌then◌else◌}
+use Rattle.std.specs.Prelude.{ℕ, Bool, IsTrue, IsSomeAnd, ◌+◌, ◌==◌, ◌&&◌, ◌++◌, nat_lt, length, List, if◌then◌else◌}
 use Rattle.std.specs.List.{find, flat_map, list_all}
-use Rattle.std.specs.declared.collections.VecDeque.{VecDeque}
+use Rattle.std.specs.Map.{values_of}
 use Rattle.gx_history.specs.Book.{is_buy}
 use Rattle.gx_book.specs.declared.resting.Resting.{Resting}
 use Rattle.gx_book.specs.Queue.{is_numbered}
@@ -19,9 +19,17 @@ abbrev pub IsAtRank : ℕ → ℕ → List Resting → Type 0
 IsAtRank rank number orders = IsSomeAnd (find (is_numbered number) orders) (λ r. IsTrue (is_ranked rank r))
 
 -- the orders of a level, those that belong there, and one at least
-abbrev pub is_level : {Z : Type 0} → ℕ × VecDeque Resting Z → Bool
-is_level entry = list_all (is_ranked entry.0) entry.1.items && nat_lt 0 (length entry.1.items)
+abbrev pub is_level : ℕ × List Resting → Bool
+is_level entry = list_all (is_ranked entry.0) entry.1 && nat_lt 0 (length entry.1)
 
 -- the orders of all levels
-abbrev pub orders_of : {Z : Type 0} → List (ℕ × VecDeque Resting Z) → List Resting
-orders_of entries = flat_map (λ e. e.1.items) entries
+abbrev pub orders_of : List (ℕ × List Resting) → List Resting
+orders_of entries = flat_map (λ e. e.1) entries
+
+-- the orders of a level: those kept by number, and behind them the queue
+abbrev pub in_turn : List (ℕ × Resting) → List Resting → List Resting
+in_turn entries late = values_of entries ++ late
+
+-- each is kept under its own number
+abbrev pub are_keyed : List (ℕ × Resting) → Bool
+are_keyed entries = list_all (λ e. is_numbered e.0 e.1) entries

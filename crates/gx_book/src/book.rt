@@ -5,8 +5,8 @@ ghost use Rattle.gx_history.specs.Book.{is_buy};
 ghost use Rattle.gx_book.specs.Books.{HasShares, IsSound, all_orders, best_in, empty_book, on_each_side, on_side, order_in, with_rested};
 ghost use Rattle.gx_book.specs.Queue.{best_reduced, is_of, no_orders, reduced, without_account, without_order};
 
-use crate::place::{Place, is_buy, place_of, rank_of};
-use crate::resting::Resting;
+use crate::place::{Place, place_of, rank_of};
+use crate::resting::{Resting, is_buy};
 use crate::sides::Sides;
 use gx_history::policy::Policy;
 use gx_units::{AccountName, OutOfMemory, Symbol};

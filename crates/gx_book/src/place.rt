@@ -5,7 +5,7 @@ ghost use Rattle.gx_history.specs.Book.{is_buy};
 ghost use Rattle.gx_book.specs.Index.{place_of};
 ghost use Rattle.gx_book.specs.Levels.{is_rank};
 
-use crate::resting::Resting;
+use crate::resting::{Resting, is_buy};
 use gx_units::{AccountName, Symbol};
 
 /// The side of a stock and the price at which an order stands, and whose it is.
@@ -15,13 +15,6 @@ pub(crate) struct Place {
     pub(crate) stock: Symbol,
     pub(crate) side: u8,
     pub(crate) price: u32,
-}
-
-/// Whether the side is that of buys.
-pub(crate) fn is_buy(side: u8) -> bool
-    ensures { result ≡ is_buy side }
-{
-    side == b'B'
 }
 
 /// The rank of the price among those of its side: the better the price, the lower the rank.

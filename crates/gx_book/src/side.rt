@@ -9,12 +9,12 @@ ghost use Rattle.gx_history.specs.Book.{is_buy};
 ghost use Rattle.gx_book.specs.Queue.{TellsGone, are_on, is_numbered, reduced, with_order, without_account};
 ghost use Rattle.gx_book.specs.Levels.{IsAtRank};
 
-use crate::level::{Level, find_in, leave, lower_in};
+use crate::level::Level;
 use crate::place::rank_of;
 use crate::resting::Resting;
 use gx_units::{AccountName, OutOfMemory};
 use std::alloc::Global;
-use std::collections::{BTreeMap, VecDeque};
+use std::collections::BTreeMap;
 use std::marker::Model;
 
 /// The orders on one side of a stock: a level for each price, the best first.
@@ -59,7 +59,7 @@ impl Side {
         ensures { result ≡ slice_get self.now 0 }
     {
         let (_, level) = self.levels.first_key_value()?;
-        level.front().copied()
+        level.first()
     }
 
     /// Puts the order behind all of equal or better price.
@@ -70,11 +70,11 @@ impl Side {
     {
         let rank = rank_of(added.side, added.price);
         if let Some(level) = self.levels.get_mut(&rank) {
-            level.push_back(added)?;
+            level.push(added)?;
             return Ok(());
         }
-        let mut level = VecDeque::with_capacity(self.alloc, 1)?;
-        level.push_back(added)?;
+        let mut level = Level::new(self.alloc);
+        level.push(added)?;
         self.levels.insert(rank, level)?;
         Ok(())
     }
@@ -87,7 +87,7 @@ impl Side {
         // What this ensures: the levels are in the order of their ranks.
         let _ = self.levels.len();
         let level = self.levels.get(&rank)?;
-        find_in(level, number)
+        level.find(number)
     }
 
     /// Takes so many shares off the order, which stands in the level of this rank, and it out where none are left;
@@ -100,7 +100,7 @@ impl Side {
         let Some(level) = self.levels.get_mut(&rank) else {
             return false;
         };
-        let gone = lower_in(level, number, shares);
+        let gone = level.lower(number, shares);
         if level.is_empty() {
             take_out(&mut self.levels, rank);
         }
@@ -111,7 +111,7 @@ impl Side {
     pub(crate) fn remove_account(&mut self, account: AccountName)
         ensures { self.new ≡ without_account account self.old }
     {
-        self.levels.retain(|_, level| leave(level, account));
+        self.levels.retain(|_, level| level.leave(account));
     }
 
     /// Takes all orders out.

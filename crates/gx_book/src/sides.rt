@@ -7,8 +7,7 @@ ghost use Rattle.gx_book.specs.Levels.{IsAtRank};
 ghost use Rattle.gx_book.specs.Queue.{TellsGone, are_on, is_numbered, no_orders, reduced, without_account};
 ghost use Rattle.gx_book.specs.Table.{both_changed, changed, own_side, side_in, with_own};
 
-use crate::place::is_buy;
-use crate::resting::Resting;
+use crate::resting::{Resting, is_buy};
 use crate::side::Side;
 use gx_units::{AccountName, OutOfMemory};
 use std::alloc::Global;

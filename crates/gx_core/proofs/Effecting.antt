@@ -16,6 +16,7 @@ use Rattle.gx_history.specs.Brought.{is_brought}
 use Rattle.gx_history.specs.Requests.{is_judged, is_unreadable}
 use Rattle.gx_history.specs.Verdicts.{next, IsLegal}
 use Rattle.gx_history_laws.proofs.Granting.{asked_is_judged}
+use Rattle.gx_effects.proofs.Cutting.{cancel_takes_effect}
 use Rattle.gx_effects.proofs.Effects.{is_told}
 use Rattle.gx_effects.proofs.Killing.{kill_takes_effect}
 use Rattle.gx_effects.proofs.Lifting.{lift_takes_effect}
@@ -49,7 +50,7 @@ by_grant policy history a r legal left granted brought (requests.Unreadable m) a
     let denied : true ≡ false = sym (ap is_unreadable asks) ∙ unreadable_is_denied policy history a r left granted in cc
 by_grant policy history a r legal left granted brought (requests.Enter m) asks = takes_effect policy history a r m legal left asks granted
 by_grant policy history a r legal left granted brought (requests.Replace m) asks = let off : false ≡ true = sym (ap is_brought asks) ∙ brought in cc
-by_grant policy history a r legal left granted brought (requests.Cancel m) asks = let off : false ≡ true = sym (ap is_brought asks) ∙ brought in cc
+by_grant policy history a r legal left granted brought (requests.Cancel m) asks = cancel_takes_effect policy history a r m legal left asks granted
 by_grant policy history a r legal left granted brought (requests.Command c) asks = by_command policy history a r c legal left asks granted brought c.action refl
 
 by_verdict : (policy : PolicyData) (history : List RecordData) (a : Asked) (r : RecordData)

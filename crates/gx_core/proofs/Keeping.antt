@@ -1,9 +1,8 @@
 -- What is always so of a gate and of what it keeps, after one more record.
 use Rattle.std.proofs.Common.{◌≡◌, ◌≤◌, arith, List, [], ◌∷◌, ◌++◌, length-append, ◌∙◌, ap, inl}
 use Rattle.std.specs.Prelude.{Some}
-use Rattle.gx_history.specs.declared.record.Asked.{Asked}
 use Rattle.gx_history.specs.declared.record.RecordData.{RecordData}
-use Rattle.gx_history.specs.declared.record.Step.TheVariants as steps
+use Rattle.gx_history.specs.declared.record.Step.{Step}
 use Rattle.gx_history.specs.Verdicts.{day_limit, next}
 use Rattle.gx_history_laws.proofs.NextReports.{legal_next}
 use Rattle.gx_history_laws.proofs.Numbers.{number_left}
@@ -14,12 +13,12 @@ use Rattle.gx_keepers.specs.declared.keepers.Keepers.{Keepers}
 use Rattle.gx_keepers.specs.Keepers.{AreInForce}
 
 -- with one more record
-pub keep_on : (policy : PolicyData) (history : List RecordData) (a : Asked) (r : RecordData) (before after : Keepers) → IsKept policy history before
-    → next policy history (steps.Asked a) ≡ Some r → r.number ≤ day_limit → AreInForce policy (history ++ r ∷ []) after
+pub keep_on : (policy : PolicyData) (history : List RecordData) (step : Step) (r : RecordData) (before after : Keepers) → IsKept policy history before
+    → next policy history step ≡ Some r → r.number ≤ day_limit → AreInForce policy (history ++ r ∷ []) after
     → IsKept policy (history ++ r ∷ []) after
-keep_on policy history a r before after kept left fits in_force = record {
-  legal = legal_next policy history r kept.legal (record { is_next = ap (next policy history) (step_left policy history (steps.Asked a) r left) ∙ left; fits_day = record { fits = inl fits } });
-  within = omega (arith, fits, number_left policy history (steps.Asked a) r left, length-append history (r ∷ []));
+keep_on policy history step r before after kept left fits in_force = record {
+  legal = legal_next policy history r kept.legal (record { is_next = ap (next policy history) (step_left policy history step r left) ∙ left; fits_day = record { fits = inl fits } });
+  within = omega (arith, fits, number_left policy history step r left, length-append history (r ∷ []));
   plain = kept.plain;
   in_force = in_force;
 }

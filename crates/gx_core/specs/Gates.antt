@@ -1,5 +1,5 @@
 -- What a gate is, and what it answers.
-use Rattle.std.specs.Prelude.{List, filter, find, not, Option}
+use Rattle.std.specs.Prelude.{ℕ, List, filter, find, not, Option}
 use Rattle.gx_units.specs.declared.names.RuleId.{RuleId}
 use Rattle.gx_history.specs.declared.policy.PolicyData.{PolicyData}
 use Rattle.gx_history.specs.declared.policy.FileRule.{FileRule}
@@ -17,6 +17,10 @@ pub record GateData : Type 0 where
 -- the record of a request with this outcome
 abbrev pub left_by : Asked → Outcome → RecordData
 left_by a o = record { number = o.number; moment = o.moment; step = steps.Asked a; verdict = o.verdict }
+
+-- the record of a matching step with this outcome
+abbrev pub matched_by : ℕ → Outcome → RecordData
+matched_by handed o = record { number = o.number; moment = o.moment; step = steps.Matching handed; verdict = o.verdict }
 
 -- the policy less its rules that ask for figures
 abbrev pub less_figures : PolicyData → PolicyData

@@ -1,23 +1,26 @@
 //! The gate.
 
-ghost use Rattle.std.specs.Prelude.{◌≡◌, ◌+◌, max, [], length, IsTrue, IfOk, IfErr, OnErr, Some, is_some};
+ghost use Rattle.std.specs.Prelude.{◌≡◌, ◌+◌, ◌<◌, max, [], length, IsTrue, IfOk, IfErr, IfSome, OnErr, None, Some, is_some, option_map};
 ghost use Rattle.gx_history.specs.Brought.{is_brought};
 ghost use Rattle.gx_history.specs.Effects.{HasNoOrders};
 ghost use Rattle.gx_history.specs.InForce.{line_of, is_closed, is_killed};
 ghost use Rattle.gx_history.specs.Lists.{slice};
+ghost use Rattle.gx_history.specs.Matched.{AreUncrossed};
 ghost use Rattle.gx_history.specs.People.{user_in};
 ghost use Rattle.gx_history.specs.Plain.{rules_need_no_figures};
 ghost use Rattle.gx_history.specs.Showing.{is_askable};
 ghost use Rattle.gx_history.specs.Streams.{stream};
 ghost use Rattle.gx_history.specs.Verdicts.{last_moment, verdict, IsLegal};
 ghost use Rattle.gx_core.specs.declared.outcome.StepFault.TheVariants as faults;
-ghost use Rattle.gx_core.specs.Gates.{left_by};
+ghost use Rattle.gx_core.specs.Gates.{left_by, matched_by};
 ghost use Rattle.gx_core.specs.Logins.{login_answered};
+ghost use Rattle.gx_core.specs.Matches.{matches_left, matching_of, next_match, settled_gate, with_match, HasMatched};
 ghost use Rattle.gx_core.specs.Told.{ends_before, login_of, stream_of};
 ghost use Rattle.gx_core.specs.Steps.{next_of, verdict_of, with_record, EndsKills, HasEffect, IsFull, IsJudged};
 
 use crate::copies::copied;
 use crate::login::{login_answered, login_asked};
+use crate::matching::record_of_match;
 use crate::outcome::{LoginAnswer, Outcome, StepFault};
 use crate::pulling::{Pulled, pull};
 use gx_history::history::History;
@@ -26,7 +29,8 @@ use gx_history::record::{Asked, Record, RecordData, Request, Step, Verdict};
 use gx_history::slices::slice;
 use gx_keepers::apply::carry_on;
 use gx_keepers::keepers::Keepers;
-use gx_keepers::next_record::NextRecord;
+use gx_keepers::matching::carry_match;
+use gx_keepers::next_record::{NextMatch, NextRecord};
 use gx_units::{AccountName, Moment, OutOfMemory, Password, SessionName, UserName};
 use std::alloc::Global;
 use std::marker::Model;
@@ -122,6 +126,52 @@ impl Gate {
         Ok(outcome)
     }
 
+    /// Makes the next matching step, and puts its record last: the first order that waits trades with the best that rests
+    /// on the other side of its stock, or comes to rest, or ends. `None` where no order waits; that takes no memory.
+    ///
+    /// # Errors
+    ///
+    /// `DayFull` comes before `OutOfMemory`, and only where an order waits and the day has as many records as it may have.
+    pub fn match_one(&mut self, handed: Moment) -> Result<Option<Outcome>, StepFault>
+        ensures policy { self.new.policy ≡ self.old.policy }
+        ensures idle { matching_of self.old ≡ None → result ≡ Ok None }
+        ensures next { IfOk result (λ found.
+            next_match self.old handed ≡ option_map (matched_by handed) found) }
+        ensures records { IfOk result (λ found. self.new ≡ with_match self.old handed found) }
+        ensures effect { IfOk result (λ found. IfSome found (HasMatched self.old self.new handed)) }
+        ensures settles { IfOk result (λ found.
+            settled_gate self.new handed ≡ settled_gate self.old handed) }
+        ensures fewer { IfOk result (λ found. IfSome found (λ o.
+            matches_left self.new < matches_left self.old)) }
+        ensures uncrossed { IfOk result (λ found. AreUncrossed self.new.policy self.new.records) }
+        ensures unchanged { OnErr result (self.new ≡ self.old) }
+        ensures full { IsTrue (is_some (matching_of self.old)) → IsFull self.old
+            → result ≡ Err faults.DayFull }
+        ensures day_full { IfErr result (λ e. e ≡ faults.DayFull → IsFull self.old) }
+    {
+        let Some(first) = self.first_waiting() else {
+            return Ok(None);
+        };
+        if self.history.len() >= DAY_LIMIT {
+            return Err(StepFault::DayFull);
+        }
+        let outcome = self.match_outcome(&first, handed);
+        let entry = record_of_match(handed, outcome);
+        let record = Record::new(entry);
+        self.history.reserve(1)?;
+        carry_match(
+            &mut self.keepers,
+            NextMatch {
+                policy: &self.policy,
+                history: &self.history,
+                first: &first,
+                left: &entry,
+            },
+        )?;
+        self.history.push_reserved(record);
+        Ok(Some(outcome))
+    }
+
     /// How many records there are.
     pub fn length(&self) -> u64
         ensures { result ≡ length self.now.records }
@@ -129,9 +179,11 @@ impl Gate {
         self.history.len() as u64
     }
 
-    /// The records are those of a legal day under the policy: each is what its step leaves after those before it.
+    /// The records are those of a legal day under the policy: each is what its step leaves after those before it. No
+    /// buy that rests is at or above a sell that rests in its stock.
     pub fn is_legal(&self)
-        ensures { IsLegal self.now.policy self.now.records }
+        ensures legal { IsLegal self.now.policy self.now.records }
+        ensures uncrossed { AreUncrossed self.now.policy self.now.records }
     {
         // The type says so: a look at a field is enough.
         let _ = &self.history;

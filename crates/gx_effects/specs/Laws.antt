@@ -28,8 +28,8 @@ use Rattle.gx_history.specs.Orders.{Order, orders, order_under, total}
 use Rattle.gx_history.specs.Requests.{is_order}
 use Rattle.gx_history.specs.InForce.{is_killed}
 use Rattle.gx_history.specs.Lists.{IsInOrder}
-use Rattle.gx_history.specs.Matched.{FillsOrders, IsFair, RestsOrder, ExpiresOrder}
-use Rattle.gx_history.specs.Matching.{matching, crosses}
+use Rattle.gx_history.specs.Matched.{AreUncrossed, FillsOrders, IsFair, RestsOrder, ExpiresOrder}
+use Rattle.gx_history.specs.Matching.{matching}
 use Rattle.gx_history.specs.People.{account_of}
 use Rattle.gx_history.specs.Settling.{settled, AddsMatches, FillsNoneOf}
 use Rattle.gx_history.specs.Verdicts.{next, Follows, IsLegal}
@@ -181,9 +181,7 @@ RestingWhole = (policy : PolicyData) (history : List RecordData) (stock : Symbol
 
 -- in a legal history no resting buy crosses a resting sell of its stock
 abbrev pub NeverCrossed : Type 0
-NeverCrossed = (policy : PolicyData) (history : List RecordData) (stock : Symbol)
-    → IsLegal policy history
-    → AllByRecursion (λ (buy : Standing). AllByRecursion (λ (sell : Standing). IsFalse (crosses buy.order sell.order)) (resting policy history stock false)) (resting policy history stock true)
+NeverCrossed = (policy : PolicyData) (history : List RecordData) → IsLegal policy history → AreUncrossed policy history
 
 -- where nothing waits, settling changes nothing
 abbrev pub SettledWhereIdle : Type 0

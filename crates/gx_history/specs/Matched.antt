@@ -1,5 +1,6 @@
 -- What a matching step changes, and what it leaves as it was.
-use Rattle.std.specs.Prelude.{◌≡◌, ℕ, ◌-◌, Bool, true, not, ◌&&◌, ◌||◌, ◌==◌, IsTrue, IsFalse, List, [], ◌∷◌, ◌++◌, map, if◌then◌else◌, Some, ◌<◌, ◌≤◌}
+use Rattle.std.specs.Prelude.{◌≡◌, ℕ, ◌-◌, Bool, true, false, not, ◌&&◌, ◌||◌, ◌==◌, IsTrue, IsFalse, List, [], ◌∷◌, ◌++◌, map, if◌then◌else◌, Some, ◌<◌, ◌≤◌}
+use Rattle.std.specs.List.{AllByRecursion}
 use Rattle.gx_units.specs.Names.{same_stock}
 use Rattle.gx_units.specs.declared.names.Symbol.{Symbol}
 use Rattle.gx_units.specs.declared.names.UserName.{UserName}
@@ -118,3 +119,8 @@ pub record ExpiresOrder (policy : PolicyData) (before after : List RecordData) (
   pub resting_kept : (stock : Symbol) (buy : Bool) → resting policy after stock buy ≡ resting policy before stock buy
   pub in_force : KeepsInForce policy before after
   pub told : (user : UserName) → stream policy after user ≡ stream policy before user ++ map (reported r) (reports_of_expiry user first)
+
+-- No book is crossed: each buy that rests in a stock is below each sell that rests there.
+abbrev pub AreUncrossed : PolicyData → List RecordData → Type 0
+AreUncrossed policy history = (stock : Symbol)
+    → AllByRecursion (λ (buy : Standing). AllByRecursion (λ (sell : Standing). IsFalse (crosses buy.order sell.order)) (resting policy history stock false)) (resting policy history stock true)

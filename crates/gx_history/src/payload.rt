@@ -35,6 +35,7 @@ impl Request {
     {
         match Inbound::read(payload) {
             Some(Inbound::Enter(enter)) => Request::Enter(enter),
+            Some(Inbound::Cancel(cancel)) => Request::Cancel(cancel),
             _ => Request::Unreadable(Unreadable::new(payload)),
         }
     }

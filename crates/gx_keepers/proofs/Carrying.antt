@@ -9,6 +9,7 @@ use Rattle.gx_units.specs.Names.{same_account, same_user}
 use Rattle.gx_units.specs.declared.names.AccountName.{AccountName}
 use Rattle.gx_units.specs.declared.names.Token.{Token}
 use Rattle.gx_units.specs.declared.names.UserName.{UserName}
+use Rattle.gx_ouch.specs.declared.inbound.CancelOrder.{CancelOrder}
 use Rattle.gx_ouch.specs.declared.inbound.EnterOrder.{EnterOrder}
 use Rattle.gx_ouch.specs.declared.letters.CancelReason.TheVariants as cancels
 use Rattle.gx_desk.specs.declared.Action.{Action}
@@ -31,7 +32,7 @@ use Rattle.gx_history.specs.declared.record.Verdict.{Verdict}
 use Rattle.gx_history.specs.declared.record.Verdict.TheVariants as verdicts
 use Rattle.gx_history.specs.declared.report.Message.{Message}
 use Rattle.gx_history.specs.declared.report.Report.{Report}
-use Rattle.gx_history.specs.Effects.{KillsAccount, LiftsAccount, TakesEffect}
+use Rattle.gx_history.specs.Effects.{CutsOrder, KillsAccount, LiftsAccount, TakesEffect}
 use Rattle.gx_history.specs.Asking.{knows_limit, knows_names, rule_in_force}
 use Rattle.gx_history.specs.Executions.{Standing, live_orders}
 use Rattle.gx_history.specs.InForce.{changed, limit_of, rules_in_force}
@@ -51,6 +52,7 @@ use Rattle.gx_history_laws.proofs.NextReports.{stream_next}
 use Rattle.gx_history_laws.proofs.Numbers.{number_left}
 use Rattle.gx_history_laws.proofs.Order.{none_among}
 use Rattle.gx_history_laws.proofs.Runs.{step_left}
+use Rattle.gx_effects.proofs.Cutting.{cancel_takes_effect}
 use Rattle.gx_effects.proofs.Commanding.{GrantsCommand, grants_the_command, told_by_command}
 use Rattle.gx_effects.proofs.Effects.{is_told}
 use Rattle.gx_effects.proofs.Killing.{kill_takes_effect}
@@ -69,6 +71,11 @@ use Rattle.gx_orders.specs.declared.live_order.LiveOrder.{LiveOrder}
 use Rattle.gx_orders.proofs.Granted.{denials_keep, enters_more, enters_new, kills_end, others_keep}
 use Rattle.gx_orders.proofs.Telling.{ends_are_told}
 use Rattle.gx_orders.proofs.Tokens.{denied_is_new}
+use Rattle.gx_book.specs.Books.{on_each_side}
+use Rattle.gx_book.specs.Queue.{without_account}
+use Rattle.gx_market.specs.BookInForce.{book_in_force}
+use Rattle.gx_market.specs.Changes.{keeps_book}
+use Rattle.gx_market.proofs.Requested as booked
 use Rattle.gx_people.specs.Entitled.{given, people_in_force}
 use Rattle.gx_people.proofs.Keeping.{accounts_stay, next_users}
 use Rattle.gx_streams.specs.Kept.{places_in}
@@ -99,12 +106,12 @@ denied_is : (r : RecordData) (rule : RuleName) → r.verdict ≡ verdicts.Denied
 denied_is r rule denied = ap (λ (v : Verdict). cond (is_granted v) (asked r.step) None) denied
 
 -- a granted request: people and rules by its command, lines and kills by what it asks for
-by_grant : (policy : PolicyData) (history : List RecordData) (a : Asked) (r : RecordData) (before k : Keepers) (q : Request)
+pub by_grant : (policy : PolicyData) (history : List RecordData) (a : Asked) (r : RecordData) (before k : Keepers) (q : Request)
     → AreInForce policy history before → r.verdict ≡ verdicts.Granted → r.step ≡ steps.Asked a → a.request ≡ q
     → k.people ≡ option_map_or (given before.people) (action_of q) before.people → k.rules ≡ rules_with before.rules (action_of q) → k.day ≡ day_asked a q before.day
-    → k.orders ≡ orders_in_force policy (history ++ r ∷ []) → shown k.streams ≡ told_after policy (history ++ r ∷ [])
+    → k.orders ≡ orders_in_force policy (history ++ r ∷ []) → k.book ≡ book_in_force policy (history ++ r ∷ []) → shown k.streams ≡ told_after policy (history ++ r ∷ [])
     → AreInForceBut policy history r k
-by_grant policy history a r before k q kept grants step asks people_are rules_are day_is orders_are streams_are =
+by_grant policy history a r before k q kept grants step asks people_are rules_are day_is orders_are book_is streams_are =
     let is : granted r ≡ Some a = granted_is r a grants step in
     let acts : granted_action r ≡ action_of q = ap (option_and_then (λ (x : Asked). action_of x.request)) is ∙ ap action_of asks in
     record {
@@ -117,17 +124,17 @@ by_grant policy history a r before k q kept grants step asks people_are rules_ar
           ∙ ap (λ (found : Option Asked). at_moment r.moment (option_map_or (λ (x : Asked). day_asked x x.request (day_in_force policy history)) found (day_in_force policy history))) is
           ∙ ap (λ (x : Request). at_moment r.moment (day_asked a x (day_in_force policy history))) asks);
       orders = orders_are;
+      book = book_is;
       streams = streams_are;
     }
 
--- a denial: all of these as they were
-by_denial : (policy : PolicyData) (history : List RecordData) (r : RecordData) (rule : RuleName) (before k : Keepers)
-    → AreInForce policy history before → r.verdict ≡ verdicts.Denied rule
+-- where nothing is granted: all of these as they were
+pub by_no_grant : (policy : PolicyData) (history : List RecordData) (r : RecordData) (before k : Keepers)
+    → AreInForce policy history before → granted r ≡ None
     → k.people ≡ before.people → k.rules ≡ before.rules → k.day ≡ before.day
-    → k.orders ≡ orders_in_force policy (history ++ r ∷ []) → shown k.streams ≡ told_after policy (history ++ r ∷ [])
+    → k.orders ≡ orders_in_force policy (history ++ r ∷ []) → k.book ≡ book_in_force policy (history ++ r ∷ []) → shown k.streams ≡ told_after policy (history ++ r ∷ [])
     → AreInForceBut policy history r k
-by_denial policy history r rule before k kept denied people_are rules_are day_is orders_are streams_are =
-    let is : granted r ≡ None = denied_is r rule denied in
+by_no_grant policy history r before k kept is people_are rules_are day_is orders_are book_is streams_are =
     let acts : granted_action r ≡ None = ap (option_and_then (λ (x : Asked). action_of x.request)) is in
     record {
       people = people_are ∙ kept.people
@@ -137,8 +144,14 @@ by_denial policy history r rule before k kept denied people_are rules_are day_is
           ∙ sym (day_next policy history r
           ∙ ap (λ (found : Option Asked). at_moment r.moment (option_map_or (λ (x : Asked). day_asked x x.request (day_in_force policy history)) found (day_in_force policy history))) is);
       orders = orders_are;
+      book = book_is;
       streams = streams_are;
     }
+
+-- a grant that changes nothing that rests keeps the book
+pub book_stays : (policy : PolicyData) (history : List RecordData) (a : Asked) (r : RecordData) (before k : Keepers)
+    → Takes policy history a r before → r.verdict ≡ verdicts.Granted → keeps_book a.request ≡ true → k.book ≡ before.book → k.book ≡ book_in_force policy (history ++ r ∷ [])
+book_stays policy history a r before k t grants keeps book_is = book_is ∙ t.in_force.book ∙ sym (booked.others_keep policy history a r t.legal t.left keeps grants)
 
 -- no answer is sent to an officer yet, so a denial is told by its Rejected alone
 denial_told : (policy : PolicyData) (r : RecordData) (rule : RuleName) (q : Request) → reports_of_denial policy r rule q ≡ rejected policy q rule
@@ -210,11 +223,12 @@ denied_place policy history a r rule k (Some message) t places denied is =
 pub denial_goes_on : (policy : PolicyData) (history : List RecordData) (a : Asked) (r : RecordData) (rule : RuleName) (before k : Keepers) (found : Option Message)
     → Takes policy history a r before → r.verdict ≡ verdicts.Denied rule → option_to_list found ≡ rejected policy a.request rule
     → k.people ≡ before.people → k.rules ≡ before.rules → k.day ≡ before.day
-    → k.orders ≡ marking a.user (denied_token rule a.request) before.orders → k.streams ≡ with_told a.user r.moment found before.streams
+    → k.orders ≡ marking a.user (denied_token rule a.request) before.orders → k.book ≡ before.book → k.streams ≡ with_told a.user r.moment found before.streams
     → AreInForceBut policy history r k
-denial_goes_on policy history a r rule before k found t denied is people_are rules_are day_is orders_are streams_are =
-    by_denial policy history r rule before k t.in_force denied people_are rules_are day_is
+denial_goes_on policy history a r rule before k found t denied is people_are rules_are day_is orders_are book_is streams_are =
+    by_no_grant policy history r before k t.in_force (denied_is r rule denied) people_are rules_are day_is
     (orders_are ∙ ap (marking a.user (denied_token rule a.request)) t.in_force.orders ∙ sym (denials_keep policy history a r rule t.left denied))
+    (book_is ∙ t.in_force.book ∙ sym (booked.denials_keep policy history (steps.Asked a) r rule t.legal t.left denied))
     (ap shown streams_are ∙ told found is)
   where
     told : (found : Option Message) → option_to_list found ≡ rejected policy a.request rule → shown (with_told a.user r.moment found before.streams) ≡ told_after policy (history ++ r ∷ [])
@@ -261,12 +275,13 @@ pub enter_goes_on : (policy : PolicyData) (history : List RecordData) (a : Asked
     → Takes policy history a r before → r.verdict ≡ verdicts.Granted → a.request ≡ requests.Enter m → account_of policy a.user ≡ Some account
     → order ≡ waiting_order policy r a.user account m → message ≡ accepted_message order
     → k.people ≡ before.people → k.rules ≡ before.rules → k.day ≡ before.day
-    → k.orders ≡ entering order before.orders → k.streams ≡ with_told a.user r.moment (Some message) before.streams
+    → k.orders ≡ entering order before.orders → k.book ≡ before.book → k.streams ≡ with_told a.user r.moment (Some message) before.streams
     → AreInForceBut policy history r k
-enter_goes_on policy history a r m account before k order message t grants enters his order_is message_is people_are rules_are day_is orders_are streams_are =
+enter_goes_on policy history a r m account before k order message t grants enters his order_is message_is people_are rules_are day_is orders_are book_is streams_are =
     by_grant policy history a r before k (requests.Enter m) t.in_force grants (step_left policy history (steps.Asked a) r t.left) enters people_are rules_are day_is
     (orders_are ∙ ap (λ (o : LiveOrder). entering o before.orders) order_is ∙ ap (entering (waiting_order policy r a.user account m)) t.in_force.orders
     ∙ sym (enters_more policy history a r m account t.legal t.left enters grants his))
+    (book_stays policy history a r before k t grants (ap keeps_book enters) book_is)
     (ap shown (streams_are ∙ ap (λ (x : Message). with_told a.user r.moment (Some x) before.streams) (message_is ∙ ap accepted_message order_is))
     ∙ stays_by_one policy history (history ++ r ∷ []) r before.streams a.user (accepted_message (waiting_order policy r a.user account m)) t.in_force.streams
     (enter_tells policy history a r m account before t grants enters his))
@@ -274,35 +289,38 @@ enter_goes_on policy history a r m account before k order message t grants enter
 -- a granted Login
 pub login_goes_on : (policy : PolicyData) (history : List RecordData) (a : Asked) (r : RecordData) (m : Login) (before k : Keepers)
     → Takes policy history a r before → r.verdict ≡ verdicts.Granted → a.request ≡ requests.Login m
-    → k.people ≡ before.people → k.rules ≡ before.rules → k.day ≡ with_line a.user (Some a.line) before.day → k.orders ≡ before.orders → k.streams ≡ before.streams
+    → k.people ≡ before.people → k.rules ≡ before.rules → k.day ≡ with_line a.user (Some a.line) before.day → k.orders ≡ before.orders → k.book ≡ before.book → k.streams ≡ before.streams
     → AreInForceBut policy history r k
-login_goes_on policy history a r m before k t grants asks people_are rules_are day_is orders_are streams_are =
+login_goes_on policy history a r m before k t grants asks people_are rules_are day_is orders_are book_is streams_are =
     by_grant policy history a r before k (requests.Login m) t.in_force grants (step_left policy history (steps.Asked a) r t.left) asks people_are rules_are day_is
     (orders_are ∙ t.in_force.orders ∙ sym (others_keep policy history a r t.legal t.left grants (ap keeps_orders asks)))
+    (book_stays policy history a r before k t grants (ap keeps_book asks) book_is)
     (ap shown streams_are ∙ stays_by_none policy history (history ++ r ∷ []) before.streams t.in_force.streams (login_takes_effect policy history a r m t.left asks grants).told_nothing)
 
 -- a granted Logout
 pub logout_goes_on : (policy : PolicyData) (history : List RecordData) (a : Asked) (r : RecordData) (before k : Keepers)
     → Takes policy history a r before → r.verdict ≡ verdicts.Granted → a.request ≡ requests.Logout
-    → k.people ≡ before.people → k.rules ≡ before.rules → k.day ≡ with_line a.user None before.day → k.orders ≡ before.orders → k.streams ≡ before.streams
+    → k.people ≡ before.people → k.rules ≡ before.rules → k.day ≡ with_line a.user None before.day → k.orders ≡ before.orders → k.book ≡ before.book → k.streams ≡ before.streams
     → AreInForceBut policy history r k
-logout_goes_on policy history a r before k t grants asks people_are rules_are day_is orders_are streams_are =
+logout_goes_on policy history a r before k t grants asks people_are rules_are day_is orders_are book_is streams_are =
     by_grant policy history a r before k requests.Logout t.in_force grants (step_left policy history (steps.Asked a) r t.left) asks people_are rules_are day_is
     (orders_are ∙ t.in_force.orders ∙ sym (others_keep policy history a r t.legal t.left grants (ap keeps_orders asks)))
+    (book_stays policy history a r before k t grants (ap keeps_book asks) book_is)
     (ap shown streams_are ∙ stays_by_none policy history (history ++ r ∷ []) before.streams t.in_force.streams (logout_takes_effect policy history a r t.left asks grants).told_nothing)
 
 -- a granted Lift
 pub lift_goes_on : (policy : PolicyData) (history : List RecordData) (a : Asked) (r : RecordData) (c : Command) (account : AccountName) (before k : Keepers)
     → Takes policy history a r before → r.verdict ≡ verdicts.Granted → a.request ≡ requests.Command c → c.action ≡ actions.Lift account
-    → k.people ≡ before.people → k.rules ≡ before.rules → k.day ≡ with_kill account false before.day → k.orders ≡ before.orders → k.streams ≡ before.streams
+    → k.people ≡ before.people → k.rules ≡ before.rules → k.day ≡ with_kill account false before.day → k.orders ≡ before.orders → k.book ≡ before.book → k.streams ≡ before.streams
     → AreInForceBut policy history r k
-lift_goes_on policy history a r c account before k t grants asks lifts people_are rules_are day_is orders_are streams_are =
+lift_goes_on policy history a r c account before k t grants asks lifts people_are rules_are day_is orders_are book_is streams_are =
     let is : LiftsAccount policy history (history ++ r ∷ []) r a.user c account = lift_takes_effect policy history a r c account t.legal t.left asks lifts grants in
     by_grant policy history a r before k (requests.Command c) t.in_force grants (step_left policy history (steps.Asked a) r t.left) asks
     (people_are ∙ sym (ap (λ (action : Action). given before.people action) lifts))
     (rules_are ∙ sym (ap (λ (action : Action). rules_with before.rules (Some action)) lifts))
     (day_is ∙ sym (ap (λ (action : Action). day_commanded action before.day) lifts))
     (orders_are ∙ t.in_force.orders ∙ sym (others_keep policy history a r t.legal t.left grants (ap keeps_orders asks ∙ ap is_lasting lifts)))
+    (book_stays policy history a r before k t grants (ap keeps_book asks ∙ ap is_lasting lifts) book_is)
     (ap shown streams_are ∙ stays_by_none policy history (history ++ r ∷ []) before.streams t.in_force.streams (tells_nobody policy history r a.user is.told))
 
 -- what is owed to one user of the orders that a Kill ends, by the orders that are kept
@@ -349,9 +367,9 @@ kill_places policy history a r c account k t places grants asks kills user =
 pub kill_goes_on : (policy : PolicyData) (history : List RecordData) (a : Asked) (r : RecordData) (c : Command) (account : AccountName) (before k : Keepers)
     → Takes policy history a r before → r.verdict ≡ verdicts.Granted → a.request ≡ requests.Command c → c.action ≡ actions.Kill account
     → k.people ≡ before.people → k.rules ≡ before.rules → k.day ≡ with_kill account true before.day
-    → k.orders ≡ with_live (of_others account before.orders.live) before.orders → k.streams ≡ with_all_owed (owed_by_ends account r.moment before.orders.live) before.streams
+    → k.orders ≡ with_live (of_others account before.orders.live) before.orders → k.book ≡ on_each_side (without_account account) before.book → k.streams ≡ with_all_owed (owed_by_ends account r.moment before.orders.live) before.streams
     → AreInForceBut policy history r k
-kill_goes_on policy history a r c account before k t grants asks kills people_are rules_are day_is orders_are streams_are =
+kill_goes_on policy history a r c account before k t grants asks kills people_are rules_are day_is orders_are book_is streams_are =
     let owed : List (UserName × Report) = owed_by_ends account r.moment before.orders.live in
     by_grant policy history a r before k (requests.Command c) t.in_force grants (step_left policy history (steps.Asked a) r t.left) asks
     (people_are ∙ sym (ap (λ (action : Action). given before.people action) kills))
@@ -359,6 +377,8 @@ kill_goes_on policy history a r c account before k t grants asks kills people_ar
     (day_is ∙ sym (ap (λ (action : Action). day_commanded action before.day) kills))
     (orders_are ∙ ap (λ (orders : OrdersData). with_live (of_others account orders.live) orders) t.in_force.orders
     ∙ sym (kills_end policy history a r account t.legal t.left (ap action_of asks ∙ ap (λ (action : Action). Some action) kills) grants))
+    (book_is ∙ ap (on_each_side (without_account account)) t.in_force.book
+    ∙ sym (booked.kills_take policy history a r account t.legal t.left (ap action_of asks ∙ ap (λ (action : Action). Some action) kills) grants))
     (ap shown streams_are ∙ all_owed_shown before.streams owed ∙ ap (each_told (owed_to owed)) t.in_force.streams
     ∙ sym (more_told policy history (history ++ r ∷ []) (owed_to owed) (kill_tells policy history a r c account before t grants asks kills)))
 
@@ -472,12 +492,13 @@ setting_tells_nobody policy history a r c k t grants asks sets user =
 -- a granted setting
 pub setting_goes_on : (policy : PolicyData) (history : List RecordData) (a : Asked) (r : RecordData) (c : Command) (before k : Keepers)
     → Takes policy history a r before → r.verdict ≡ verdicts.Granted → a.request ≡ requests.Command c → is_setting c.action ≡ true
-    → k.people ≡ given before.people c.action → k.rules ≡ changed before.rules c.action → k.day ≡ before.day → k.orders ≡ before.orders → k.streams ≡ before.streams
+    → k.people ≡ given before.people c.action → k.rules ≡ changed before.rules c.action → k.day ≡ before.day → k.orders ≡ before.orders → k.book ≡ before.book → k.streams ≡ before.streams
     → AreInForceBut policy history r k
-setting_goes_on policy history a r c before k t grants asks sets people_are rules_are day_is orders_are streams_are =
+setting_goes_on policy history a r c before k t grants asks sets people_are rules_are day_is orders_are book_is streams_are =
     by_grant policy history a r before k (requests.Command c) t.in_force grants (step_left policy history (steps.Asked a) r t.left) asks people_are rules_are
     (day_is ∙ sym (day_stays c.action before.day sets))
     (orders_are ∙ t.in_force.orders ∙ sym (others_keep policy history a r t.legal t.left grants (ap keeps_orders asks ∙ lasts c.action sets)))
+    (book_stays policy history a r before k t grants (ap keeps_book asks ∙ lasts c.action sets) book_is)
     (ap shown streams_are
     ∙ stays_by_none policy history (history ++ r ∷ []) before.streams t.in_force.streams (setting_tells_nobody policy history a r c before t grants asks sets))
 
@@ -506,8 +527,8 @@ has_setting policy history a r c k t grants asks =
 pub no_other_request : (policy : PolicyData) (history : List RecordData) (a : Asked) (r : RecordData) (k : Keepers)
     → Takes policy history a r k → r.verdict ≡ verdicts.Granted → is_carried a.request ≡ true
     → ((m : Login) → a.request ≡ requests.Login m → ⊥) → (a.request ≡ requests.Logout → ⊥) → ((m : EnterOrder) → a.request ≡ requests.Enter m → ⊥)
-    → ((c : Command) → a.request ≡ requests.Command c → ⊥) → ⊥
-no_other_request policy history a r k t grants carried no_login no_logout no_enter no_command = by a.request refl
+    → ((m : CancelOrder) → a.request ≡ requests.Cancel m → ⊥) → ((c : Command) → a.request ≡ requests.Command c → ⊥) → ⊥
+no_other_request policy history a r k t grants carried no_login no_logout no_enter no_cancel no_command = by a.request refl
   where
     by : (q : Request) → a.request ≡ q → ⊥
     by (requests.Login m) asks = no_login m asks
@@ -515,7 +536,7 @@ no_other_request policy history a r k t grants carried no_login no_logout no_ent
     by (requests.Unreadable m) asks = let denied : true ≡ false = sym (ap is_unreadable asks) ∙ unreadable_is_denied policy history a r t.left grants in cc
     by (requests.Enter m) asks = no_enter m asks
     by (requests.Replace m) asks = let off : false ≡ true = sym (ap is_carried asks) ∙ carried in cc
-    by (requests.Cancel m) asks = let off : false ≡ true = sym (ap is_carried asks) ∙ carried in cc
+    by (requests.Cancel m) asks = no_cancel m asks
     by (requests.Command c) asks = no_command c asks
 
 -- and what is asked is granted or denied
@@ -584,7 +605,9 @@ grant_few policy history a r k t grants carried (requests.Enter m) asks none =
     let is : TakesEffect policy history (history ++ r ∷ []) r a.user m = takes_effect policy history a r m t.legal t.left asks grants in
     record { told = accepted (entered policy r a.user is.account m); tells = is.told; few = omega arith }
 grant_few policy history a r k t grants carried (requests.Replace m) asks none = let off : false ≡ true = sym (ap is_carried asks) ∙ carried in cc
-grant_few policy history a r k t grants carried (requests.Cancel m) asks none = let off : false ≡ true = sym (ap is_carried asks) ∙ carried in cc
+grant_few policy history a r k t grants carried (requests.Cancel m) asks none =
+    let is : CutsOrder policy history (history ++ r ∷ []) r a.user m = cancel_takes_effect policy history a r m t.legal t.left asks grants in
+    record { told = canceled cancels.UserRequested (is.cut.open_shares - is.left) is.cut.order; tells = is.told; few = omega arith }
 grant_few policy history a r k t grants carried (requests.Command c) asks none =
     command_few policy history a r c k t grants asks (sym (ap is_carried asks) ∙ carried) c.action refl none
 

@@ -1,5 +1,5 @@
 -- Places that are kept for what a record tells.
-use Rattle.std.proofs.Common.{◌≡◌, ℕ, ◌≤◌, arith, true, false, Bool, List, [], ◌∷◌, ◌++◌, length, length-append, refl, ◌∙◌, ap, sym, cond, map, inl}
+use Rattle.std.proofs.Common.{◌≡◌, ℕ, ◌≤◌, arith, true, false, Bool, List, [], ◌∷◌, ◌++◌, length, suc, length-append, refl, ◌∙◌, ap, sym, cond, map, inl}
 use Rattle.std.proofs.Math.Path.{subst}
 use Rattle.std.proofs.lemmas.List.{append_cancel_left, length-map}
 use Rattle.std.specs.Prelude.{Option, Some, None, is_some, option_and_then, option_map, ◌&&◌}
@@ -17,13 +17,14 @@ use Rattle.gx_history.specs.declared.policy.User.{User}
 use Rattle.gx_history.specs.declared.record.Asked.{Asked}
 use Rattle.gx_history.specs.declared.record.RecordData.{RecordData}
 use Rattle.gx_history.specs.declared.record.Request.TheVariants as requests
-use Rattle.gx_history.specs.declared.record.Step.TheVariants as steps
+use Rattle.gx_history.specs.declared.record.Step.{Step}
 use Rattle.gx_history.specs.declared.record.Verdict.TheVariants as verdicts
 use Rattle.gx_history.specs.declared.report.Message.{Message}
+use Rattle.gx_history.specs.declared.report.Report.{Report}
 use Rattle.gx_history.specs.Orders.{ends_account}
 use Rattle.gx_history.specs.People.{account_of, account_of_role, role_in, user_in}
 use Rattle.gx_history.specs.Streams.{ended, reported, reports_of, stream, to_user}
-use Rattle.gx_history.specs.Verdicts.{IsLegal, next}
+use Rattle.gx_history.specs.Verdicts.{IsLegal, day_limit, next}
 use Rattle.gx_history_laws.proofs.Judging.{both}
 use Rattle.gx_history_laws.proofs.NextReports.{legal_next, stream_next}
 use Rattle.gx_history_laws.proofs.Runs.{step_left}
@@ -36,15 +37,16 @@ use Rattle.gx_orders.specs.LiveOrders.{OrdersData, is_of_user}
 use Rattle.gx_orders.proofs.Staying.{accounts_are_theirs}
 use Rattle.gx_orders.proofs.Telling.{ends_are_few, ends_are_told}
 use Rattle.gx_streams.specs.Kept.{is_known, places_in, with_places}
-use Rattle.gx_streams.specs.Laws.{TellsOne}
+use Rattle.gx_streams.specs.Laws.{TellsAll, TellsOne}
 use Rattle.gx_streams.specs.Streams.{AllStreams, on_told}
-use Rattle.gx_streams.specs.Telling.{owed_to}
+use Rattle.gx_streams.specs.Telling.{owed_message, owed_to, shown, told_after}
 use Rattle.gx_streams.proofs.Finding.{known_are}
 use Rattle.gx_streams.proofs.OnlyKnown.{only_known}
 use Rattle.gx_streams.proofs.Places.{others_keep, places_kept}
 use Rattle.gx_keepers.specs.declared.keepers.Keepers.{Keepers}
 use Rattle.gx_keepers.specs.Ends.{owed_by_ends}
-use Rattle.gx_keepers.specs.Keepers.{HasEndPlaces, HaveEndPlaces, HavePlaces, KnowsUsers, Takes}
+use Rattle.gx_keepers.specs.Keepers.{AreInForce, HasEndPlaces, HaveEndPlaces, HavePlaces, KnowsUsers, Takes}
+use Rattle.gx_keepers.specs.Matching.{HavePlacesEach}
 use Rattle.gx_keepers.proofs.Carrying.{kill_tells, owed_is}
 
 -- places that are kept take none from anybody
@@ -153,34 +155,69 @@ kill_fits policy history a r c account k streams t grants asks kills has user =
     let few = ends_fit policy history account streams (subst (λ (live : List LiveOrder). HaveEndPlaces policy account live streams) live_is has) user in
     omega (arith, few, ap length (owed ∙ shown), length-map (ended policy history (actions.Kill account) user) (reported r))
 
+-- the day is legal with the record too
+pub legal_after : (policy : PolicyData) (history : List RecordData) (step : Step) (r : RecordData)
+    → IsLegal policy history → r.number ≤ day_limit → next policy history step ≡ Some r → IsLegal policy (history ++ r ∷ [])
+legal_after policy history step r legal fits left =
+    legal_next policy history r legal (record { is_next = ap (next policy history) (step_left policy history step r left) ∙ left; fits_day = record { fits = inl fits } })
+
+-- nothing is owed to who is not known
+stranger_fits : (policy : PolicyData) (history : List RecordData) (r : RecordData) (user : UserName) (places : ℕ)
+    → IsLegal policy (history ++ r ∷ []) → user_in policy.users user ≡ None → length (reports_of policy user (history, r)) ≤ places
+stranger_fits policy history r user places legal none =
+    let nothing : stream policy history user ++ reports_of policy user (history, r) ≡ [] = sym (stream_next policy history r user) ∙ only_known policy (history ++ r ∷ []) user legal none in
+    omega (arith, ap length nothing, length-append (stream policy history user) (reports_of policy user (history, r)))
+
 -- a record that tells one user one thing at most, where he has a place if he is known
-pub one_fits : (policy : PolicyData) (history : List RecordData) (a : Asked) (r : RecordData) (k : Keepers) (streams : AllStreams) (told : List Message)
-    → Takes policy history a r k → TellsOne policy history (history ++ r ∷ []) r a.user told → length told ≤ 1
-    → (is_known k.streams.told a.user ≡ true → 1 ≤ places_in streams.told a.user) → HavePlaces policy history r streams
-one_fits policy history a r k streams told t tells few place user = by (same_user a.user user) refl
+pub one_fits : (policy : PolicyData) (history : List RecordData) (r : RecordData) (k : Keepers) (streams : AllStreams) (receiver : UserName) (told : List Message)
+    → AreInForce policy history k → IsLegal policy (history ++ r ∷ []) → TellsOne policy history (history ++ r ∷ []) r receiver told → length told ≤ 1
+    → (is_known k.streams.told receiver ≡ true → 1 ≤ places_in streams.told receiver) → HavePlaces policy history r streams
+one_fits policy history r k streams receiver told kept legal tells few place user = by (same_user receiver user) refl
   where
-    owed : reports_of policy user (history, r) ≡ map (reported r) (to_user a.user user told)
+    owed : reports_of policy user (history, r) ≡ map (reported r) (to_user receiver user told)
     owed = append_cancel_left (stream policy history user) _ _ (sym (stream_next policy history r user) ∙ tells user)
 
-    legal_after : IsLegal policy (history ++ r ∷ [])
-    legal_after = legal_next policy history r t.legal (record { is_next = ap (next policy history) (step_left policy history (steps.Asked a) r t.left) ∙ t.left; fits_day = record { fits = inl t.fits } })
-
-    unknown : user_in policy.users user ≡ None → length (reports_of policy user (history, r)) ≤ places_in streams.told user
-    unknown none =
-        let nothing : stream policy history user ++ reports_of policy user (history, r) ≡ [] = sym (stream_next policy history r user) ∙ only_known policy (history ++ r ∷ []) user legal_after none in
-        omega (arith, ap length nothing, length-append (stream policy history user) (reports_of policy user (history, r)))
-
-    at_asker : a.user ≡ user → (found : Option User) → user_in policy.users user ≡ found → length (reports_of policy user (history, r)) ≤ places_in streams.told user
-    at_asker same None is = unknown is
-    at_asker same (Some u) is =
-        let known : is_known k.streams.told a.user ≡ true = known_are policy history k.streams t.in_force.streams a.user ∙ ap (λ (x : UserName). is_some (user_in policy.users x)) same ∙ ap is_some is in
-        let his : length (reports_of policy user (history, r)) ≤ 1 = fewer (same_user a.user user) (ap length owed) in
+    at_receiver : receiver ≡ user → (found : Option User) → user_in policy.users user ≡ found → length (reports_of policy user (history, r)) ≤ places_in streams.told user
+    at_receiver same None is = stranger_fits policy history r user _ legal is
+    at_receiver same (Some u) is =
+        let known : is_known k.streams.told receiver ≡ true = known_are policy history k.streams kept.streams receiver ∙ ap (λ (x : UserName). is_some (user_in policy.users x)) same ∙ ap is_some is in
+        let his : length (reports_of policy user (history, r)) ≤ 1 = fewer (same_user receiver user) (ap length owed) in
         subst (λ (x : UserName). length (reports_of policy user (history, r)) ≤ places_in streams.told x) same (omega (arith, his, place known))
       where
         fewer : (b : Bool) → length (reports_of policy user (history, r)) ≡ length (map (reported r) (cond b told [])) → length (reports_of policy user (history, r)) ≤ 1
         fewer true e = omega (arith, e, few, length-map told (reported r))
         fewer false e = omega (arith, e)
 
-    by : (b : Bool) → same_user a.user user ≡ b → length (reports_of policy user (history, r)) ≤ places_in streams.told user
-    by true is = at_asker (user_is a.user user is) (user_in policy.users user) refl
+    by : (b : Bool) → same_user receiver user ≡ b → length (reports_of policy user (history, r)) ≤ places_in streams.told user
+    by true is = at_receiver (user_is receiver user is) (user_in policy.users user) refl
     by false is = omega (arith, ap length (owed ∙ ap (λ b. map (reported r) (cond b told [])) is))
+
+-- as many reports for a user as he is named
+owed_count : (r : RecordData) (told : List (UserName × Message)) (user : UserName)
+    → length (owed_to (map (owed_message r) told) user) ≡ length (filter (λ (named : UserName). same_user named user) (map (λ (o : UserName × Message). o.0) told))
+owed_count r [] user = refl
+owed_count r (o ∷ os) user = at (same_user o.0 user) (owed_count r os user)
+  where
+    owed : List (UserName × Report)
+    owed = filter (λ (x : UserName × Report). same_user x.0 user) (map (owed_message r) os)
+
+    named : List UserName
+    named = filter (λ (x : UserName). same_user x user) (map (λ (x : UserName × Message). x.0) os)
+
+    at : (b : Bool) → length (map (λ (x : UserName × Report). x.1) owed) ≡ length named
+        → length (map (λ (x : UserName × Report). x.1) (cond b (owed_message r o ∷ owed) owed)) ≡ length (cond b (o.0 ∷ named) named)
+    at true same = ap (λ (n : ℕ). suc n) same
+    at false same = same
+
+-- a record that tells many, where each who is known has a place for each time that he is told
+pub all_fit : (policy : PolicyData) (history : List RecordData) (r : RecordData) (streams : AllStreams) (told : List (UserName × Message))
+    → shown streams ≡ told_after policy history → IsLegal policy (history ++ r ∷ []) → TellsAll policy history (history ++ r ∷ []) r told
+    → HavePlacesEach (map (λ (o : UserName × Message). o.0) told) streams → HavePlaces policy history r streams
+all_fit policy history r streams told shows legal tells places user = by (user_in policy.users user) refl
+  where
+    by : (found : Option User) → user_in policy.users user ≡ found → length (reports_of policy user (history, r)) ≤ places_in streams.told user
+    by None is = stranger_fits policy history r user _ legal is
+    by (Some u) is =
+        let owed : reports_of policy user (history, r) ≡ owed_to (map (owed_message r) told) user =
+        append_cancel_left (stream policy history user) _ _ (sym (stream_next policy history r user) ∙ tells user) in
+        omega (arith, places user (known_are policy history streams shows user ∙ ap is_some is), ap length owed, owed_count r told user)

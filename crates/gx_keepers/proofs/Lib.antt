@@ -1,3 +1,5 @@
 pub mod Beginning
 pub mod Carrying
+pub mod Cutting
 pub mod Keepings
+pub mod Matches

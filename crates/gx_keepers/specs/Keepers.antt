@@ -24,6 +24,7 @@ use Rattle.gx_day.specs.DayData.{at_moment}
 use Rattle.gx_day.specs.InForce.{day_in_force}
 use Rattle.gx_orders.specs.InForce.{orders_in_force}
 use Rattle.gx_people.specs.Entitled.{people_in_force}
+use Rattle.gx_market.specs.BookInForce.{book_in_force}
 use Rattle.gx_streams.specs.Telling.{shown, told_after}
 use Rattle.gx_orders.specs.declared.live_order.LiveOrder.{LiveOrder}
 use Rattle.gx_orders.specs.declared.live_order.UserToken.{UserToken}
@@ -40,6 +41,7 @@ pub record AreInForce (policy : PolicyData) (history : List RecordData) (k : Kee
   pub rules : k.rules ≡ rules_in_force policy history
   pub day : k.day ≡ day_in_force policy history
   pub orders : k.orders ≡ orders_in_force policy history
+  pub book : k.book ≡ book_in_force policy history
   pub streams : shown k.streams ≡ told_after policy history
 
 -- and after one more record
@@ -52,6 +54,7 @@ pub record AreInForceBut (policy : PolicyData) (history : List RecordData) (r : 
   pub rules : k.rules ≡ rules_in_force policy (history ++ r ∷ [])
   pub day : at_moment r.moment k.day ≡ day_in_force policy (history ++ r ∷ [])
   pub orders : k.orders ≡ orders_in_force policy (history ++ r ∷ [])
+  pub book : k.book ≡ book_in_force policy (history ++ r ∷ [])
   pub streams : shown k.streams ≡ told_after policy (history ++ r ∷ [])
 
 -- the account that an action kills

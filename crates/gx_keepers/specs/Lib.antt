@@ -1,4 +1,5 @@
 pub mod Ends
 pub mod Keepers
+pub mod Matching
 pub mod Messages
 pub mod Settings

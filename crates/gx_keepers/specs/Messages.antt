@@ -1,5 +1,10 @@
 -- What users are told of the orders that are kept.
+use Rattle.std.specs.Prelude.{ℕ}
+use Rattle.gx_ouch.specs.declared.letters.CancelReason.{CancelReason}
+use Rattle.gx_ouch.specs.declared.letters.Liquidity.{Liquidity}
 use Rattle.gx_ouch.specs.declared.outbound.Outbound.TheVariants as outbounds
+use Rattle.gx_history.specs.declared.record.Fill.{Fill}
+use Rattle.gx_history.specs.declared.record.RecordData.{RecordData}
 use Rattle.gx_history.specs.declared.report.Message.{Message}
 use Rattle.gx_history.specs.declared.report.Message.TheVariants as messages
 use Rattle.gx_orders.specs.declared.live_order.LiveOrder.{LiveOrder}
@@ -7,3 +12,11 @@ use Rattle.gx_orders.specs.declared.live_order.LiveOrder.{LiveOrder}
 -- Accepted: the order as it was asked for, with the number of its record
 abbrev pub accepted_message : LiveOrder → Message
 accepted_message o = messages.Order (outbounds.Accepted (record { token = o.token; terms = o.terms; order_reference = o.number }))
+
+-- Executed: the fill that the record makes, for the order on one side of it
+abbrev pub executed_message : RecordData → Fill → LiveOrder → Liquidity → Message
+executed_message r f o liquidity = messages.Order (outbounds.Executed (record { token = o.token; shares = f.shares; price = f.price; liquidity = liquidity; match_number = r.number }))
+
+-- Canceled: so many shares less of the order, and why
+abbrev pub canceled_message : LiveOrder → ℕ → CancelReason → Message
+canceled_message o decrement reason = messages.Order (outbounds.Canceled (record { token = o.token; decrement = decrement; reason = reason }))

@@ -3,13 +3,13 @@
 //! Each function begins with the one call that can be refused, if it makes one; nothing has changed then. What follows
 //! takes no memory: the places for reports were kept before.
 
-ghost use Rattle.std.specs.Prelude.{◌≡◌, ◌<◌, IfSome, OnOk, OnErr, IsTrue};
+ghost use Rattle.std.specs.Prelude.{◌≡◌, OnOk, OnErr, IsTrue};
 ghost use Rattle.gx_desk.specs.declared.Action.TheVariants as actions;
 ghost use Rattle.gx_history.specs.declared.record.Request.TheVariants as requests;
 ghost use Rattle.gx_history.specs.declared.record.Verdict.TheVariants as verdicts;
+ghost use Rattle.gx_market.specs.Changes.{cut_from};
 ghost use Rattle.gx_orders.specs.Changes.{waiting_order};
-ghost use Rattle.gx_streams.specs.Kept.{places_in};
-ghost use Rattle.gx_keepers.specs.Keepers.{marked_by, with_told, AreAfter, AreAfterBut, AreBefore, IsNext, IsPlaced, IsUnused};
+ghost use Rattle.gx_keepers.specs.Keepers.{marked_by, AreAfter, AreAfterBut, AreBefore, IsNext, IsPlaced, IsUnused};
 ghost use Rattle.gx_keepers.specs.Ends.{owed_by_ends, told_of_ends, HaveOwedPlaces};
 ghost use Rattle.gx_keepers.specs.Settings.{is_carried, is_carried_command};
 
@@ -17,16 +17,16 @@ use crate::keepers::Keepers;
 use crate::listed::firm_of;
 use crate::next_record::NextRecord;
 use crate::places::keep_places;
-use crate::reports::{accepted, ended, rejected};
+use crate::reports::{accepted, canceled, ended, rejected, tell};
 use crate::request::denied_token;
 use crate::settings::apply_setting;
 use gx_desk::{Action, Command};
 use gx_history::policy::Policy;
 use gx_history::record::{Asked, RecordData, Request, RuleName, Verdict};
-use gx_history::report::{Message, Report};
+use gx_history::report::Report;
 use gx_orders::live_order::LiveOrder;
 use gx_orders::orders::Orders;
-use gx_ouch::{EnterOrder, OrderTerms};
+use gx_ouch::{CancelOrder, CancelReason, EnterOrder, OrderTerms};
 use gx_streams::streams::Streams;
 use gx_units::{AccountName, Moment, OutOfMemory, UserName};
 
@@ -39,22 +39,6 @@ fn mark_denied(orders: &mut Orders, a: &Asked, rule: RuleName) -> Result<(), Out
     match denied_token(rule, &a.request) {
         Some(token) => orders.mark_used(a.user, token),
         None => Ok(()),
-    }
-}
-
-/// Tells the user, if there is something to tell.
-fn tell(streams: &mut Streams, user: UserName, moment: Moment, found: Option<Message>)
-    requires { IfSome found (λ message. 0 < places_in streams.old.told user) }
-    ensures { streams.new ≡ with_told user moment found streams.old }
-{
-    if let Some(message) = found {
-        streams.append_reserved(
-            user,
-            Report {
-                timestamp: moment,
-                message,
-            },
-        );
     }
 }
 
@@ -142,6 +126,35 @@ fn apply_enter(
     Ok(())
 }
 
+/// The shares open of the order beyond another size.
+fn cut_from(order: &LiveOrder, total: u32) -> u32
+    ensures { result ≡ cut_from order.now total }
+{
+    order
+        .open()
+        .saturating_sub(total.saturating_sub(order.done))
+}
+
+/// A granted Cancel: its order has another size, the book so many shares less of it, and its user is told. An order with
+/// nothing open is gone from both.
+fn apply_cancel(keepers: &mut Keepers, next: NextRecord<'_>, m: &CancelOrder)
+    requires takes { IsNext next keepers.old }
+    requires places { IsPlaced next keepers.old }
+    requires granted { next.left.now.verdict ≡ verdicts.Granted }
+    requires cancels { next.asked.now.request ≡ requests.Cancel m.now }
+    ensures { AreAfterBut next.entry keepers.new }
+{
+    let user = next.asked.user;
+    let Some(order) = keepers.orders.under(user, m.token) else {
+        unreachable!();
+    };
+    let fewer = cut_from(&order, m.shares);
+    keepers.orders.cut(order.number, m.shares);
+    keepers.book.reduce(order.number, fewer);
+    let message = canceled(&order, fewer, CancelReason::UserRequested);
+    tell(&mut keepers.streams, user, next.left.moment, Some(message));
+}
+
 /// Tells each user, by number, of his live orders of the account, which end now.
 fn tell_of_ends(streams: &mut Streams, orders: &Orders, account: AccountName, moment: Moment)
     requires { HaveOwedPlaces (owed_by_ends account moment orders.now.live) streams.old }
@@ -160,7 +173,7 @@ fn tell_of_ends(streams: &mut Streams, orders: &Orders, account: AccountName, mo
     }
 }
 
-/// A granted Kill: the account is killed, each of its orders ends, and their users are told.
+/// A granted Kill: the account is killed, each of its orders ends and leaves the book, and their users are told.
 fn apply_kill(keepers: &mut Keepers, next: NextRecord<'_>, c: &Command, account: AccountName)
     requires takes { IsNext next keepers.old }
     requires places { IsPlaced next keepers.old }
@@ -176,6 +189,7 @@ fn apply_kill(keepers: &mut Keepers, next: NextRecord<'_>, c: &Command, account:
         next.left.moment,
     );
     keepers.orders.end_account(account);
+    keepers.book.remove_account(account);
     keepers.day.kill(account);
 }
 
@@ -226,6 +240,10 @@ fn apply_grant(keepers: &mut Keepers, next: NextRecord<'_>) -> Result<(), OutOfM
             Ok(())
         }
         Request::Enter(m) => apply_enter(keepers, next, m),
+        Request::Cancel(m) => {
+            apply_cancel(keepers, next, m);
+            Ok(())
+        }
         Request::Command(c) => apply_command(keepers, next, c),
         _ => unreachable!(),
     }

@@ -3,6 +3,7 @@
 ghost use Rattle.std.specs.Prelude.{[], IfOk};
 ghost use Rattle.gx_keepers.specs.Keepers.{AreInForce};
 
+use gx_book::book::Book;
 use gx_day::day::Day;
 use gx_history::policy::Policy;
 use gx_orders::orders::Orders;
@@ -12,14 +13,15 @@ use gx_streams::streams::Streams;
 use gx_units::OutOfMemory;
 use std::alloc::Global;
 
-/// People, rules, lines and kills, live orders and what each user was told, as they are after the gate's records: so
-/// that no step walks these.
+/// People, rules, lines and kills, live orders, the order book and what each user was told, as they are after the gate's
+/// records: so that no step walks these.
 #[derive(Drop)]
 pub struct Keepers {
     pub people: People,
     pub rules: RuleBook,
     pub day: Day,
     pub orders: Orders,
+    pub book: Book,
     pub streams: Streams,
 }
 
@@ -34,6 +36,7 @@ impl Keepers {
             rules: RuleBook::new(alloc, policy)?,
             day: Day::new(alloc, policy)?,
             orders: Orders::new(alloc),
+            book: Book::new(alloc, policy)?,
             streams: Streams::new(alloc, policy)?,
         })
     }

@@ -1,12 +1,13 @@
 //! Every place that a record can want, made before anything changes.
 
-ghost use Rattle.std.specs.Prelude.{◌≡◌, OnOk, IsTrue};
+ghost use Rattle.std.specs.Prelude.{◌≡◌, [], ◌∷◌, OnOk, IsTrue};
 ghost use Rattle.gx_streams.specs.Telling.{shown};
 ghost use Rattle.gx_keepers.specs.Keepers.{killed_account, AreBefore, HasEndPlaces, IsNext, IsPlaced, HasPlaces, HaveEndPlaces, HaveNoFewer, KnowTheSame, KnowsUsers};
+ghost use Rattle.gx_keepers.specs.Matching.{AreBeforeMatch, HavePlacesEach, IsMatchPlaced, IsNextMatch};
 ghost use Rattle.gx_keepers.specs.Settings.{is_carried};
 
 use crate::keepers::Keepers;
-use crate::next_record::NextRecord;
+use crate::next_record::{NextMatch, NextRecord};
 use gx_desk::Action;
 use gx_history::policy::{Policy, Role, User};
 use gx_history::record::{Request, Verdict};
@@ -92,5 +93,38 @@ pub fn keep_places(keepers: &mut Keepers, next: NextRecord<'_>) -> Result<(), Ou
     match killed_account(&next.asked.request, next.left.verdict) {
         Some(account) => keep_for_ends(&mut keepers.streams, &keepers.orders, next.policy, account),
         None => keep(&mut keepers.streams, next.asked.user, 1),
+    }
+}
+
+/// Keeps a place for each of the two users, and two if they are one.
+fn keep_for_two(streams: &mut Streams, one: UserName, other: UserName) -> Result<(), OutOfMemory>
+    ensures shown { shown streams.new ≡ shown streams.old }
+    ensures known { KnowTheSame streams.old streams.new }
+    ensures places { OnOk result (HavePlacesEach (one ∷ other ∷ []) streams.new) }
+{
+    let places = if one == other { 2 } else { 1 };
+    keep(streams, one, places)?;
+    keep(streams, other, places)
+}
+
+/// Keeps a place for each report that the record of a matching step owes.
+///
+/// # Errors
+///
+/// `OutOfMemory`: some stream could not grow, and nobody was told anything.
+pub fn keep_match_places(keepers: &mut Keepers, next: NextMatch<'_>) -> Result<(), OutOfMemory>
+    requires takes { IsNextMatch next keepers.old }
+    ensures kept { AreBeforeMatch next.entry keepers.new }
+    ensures places { OnOk result (IsMatchPlaced next.entry keepers.new) }
+{
+    match next.left.verdict {
+        Verdict::Filled(f) => {
+            let Some(maker) = keepers.orders.numbered(f.maker) else {
+                unreachable!();
+            };
+            keep_for_two(&mut keepers.streams, next.first.user, maker.user)
+        }
+        Verdict::Expired(_) => keep(&mut keepers.streams, next.first.user, 1),
+        _ => Ok(()),
     }
 }

@@ -1,19 +1,24 @@
-//! What users are told: the messages of OUCH, from orders and denials.
+//! What users are told: the messages of OUCH, from orders, fills and denials.
 
-ghost use Rattle.std.specs.Prelude.{◌≡◌, option_copied, find, option_to_list};
+ghost use Rattle.std.specs.Prelude.{◌≡◌, ◌<◌, option_copied, find, option_to_list, IfSome};
 ghost use Rattle.gx_units.specs.Names.{same_rule};
 ghost use Rattle.gx_history.specs.Reasons.{kind_reason, reject_reason};
 ghost use Rattle.gx_history.specs.Streams.{rejected};
 ghost use Rattle.gx_orders.specs.Changes.{ended_message};
-ghost use Rattle.gx_keepers.specs.Messages.{accepted_message};
+ghost use Rattle.gx_streams.specs.Kept.{places_in};
+ghost use Rattle.gx_keepers.specs.Keepers.{with_told};
+ghost use Rattle.gx_keepers.specs.Messages.{accepted_message, canceled_message, executed_message};
 
 use crate::request::new_token;
 use gx_history::policy::{FileRule, Policy, RuleKind};
-use gx_history::record::{Request, RuleName};
-use gx_history::report::Message;
+use gx_history::record::{Fill, RecordData, Request, RuleName};
+use gx_history::report::{Message, Report};
 use gx_orders::live_order::LiveOrder;
-use gx_ouch::{Accepted, CancelReason, Canceled, Outbound, RejectReason, Rejected};
-use gx_units::RuleId;
+use gx_ouch::{
+    Accepted, CancelReason, Canceled, Executed, Liquidity, Outbound, RejectReason, Rejected,
+};
+use gx_streams::streams::Streams;
+use gx_units::{Moment, RuleId, UserName};
 
 fn find_rule<'a>(rules: &'a [FileRule], name: RuleId) -> Option<&'a FileRule>
     ensures { option_copied result ≡ find (λ r. same_rule r.name name) rules.now }
@@ -91,13 +96,49 @@ pub fn accepted(order: &LiveOrder) -> Message
     }))
 }
 
+/// Executed: to the user of an order on one side of the fill that the record makes.
+pub fn executed(left: &RecordData, f: Fill, order: &LiveOrder, liquidity: Liquidity) -> Message
+    ensures { result ≡ executed_message left.now f order.now liquidity }
+{
+    Message::Order(Outbound::Executed(Executed {
+        token: order.token,
+        shares: f.shares,
+        price: f.price,
+        liquidity,
+        match_number: left.number,
+    }))
+}
+
+/// Canceled: to the user of an order that has so many shares less, and why.
+pub fn canceled(order: &LiveOrder, decrement: u32, reason: CancelReason) -> Message
+    ensures { result ≡ canceled_message order.now decrement reason }
+{
+    Message::Order(Outbound::Canceled(Canceled {
+        token: order.token,
+        decrement,
+        reason,
+    }))
+}
+
 /// Canceled: to the user of an order that an officer's command ends, with the shares that were open.
 pub fn ended(order: &LiveOrder) -> Message
     ensures { result ≡ ended_message order.now }
 {
-    Message::Order(Outbound::Canceled(Canceled {
-        token: order.token,
-        decrement: order.open(),
-        reason: CancelReason::Supervisory,
-    }))
+    canceled(order, order.open(), CancelReason::Supervisory)
+}
+
+/// Tells the user, if there is something to tell.
+pub fn tell(streams: &mut Streams, user: UserName, moment: Moment, found: Option<Message>)
+    requires { IfSome found (λ message. 0 < places_in streams.old.told user) }
+    ensures { streams.new ≡ with_told user moment found streams.old }
+{
+    if let Some(message) = found {
+        streams.append_reserved(
+            user,
+            Report {
+                timestamp: moment,
+                message,
+            },
+        );
+    }
 }

@@ -1,30 +1,24 @@
--- Where an order of the book rests, and what a change of its side makes of the book.
+-- Where an order of the book rests.
 use Rattle.std.proofs.Common.{◌≡◌, ℕ, Bool, true, false, not, List, [], ◌∷◌, ◌++◌, refl, ◌∙◌, ap, sym, map, cond}
-use Rattle.std.specs.Prelude.{Option, Some, None, ◌==◌, ◌&&◌}
-use Rattle.std.specs.Option.{option_map_or}
+use Rattle.std.specs.Prelude.{Some, None, ◌==◌, ◌&&◌}
 use Rattle.std.specs.List.{find, AllByRecursion}
-use Rattle.std.proofs.lemmas.Bool.{eqb-true}
-use Rattle.gx_units.specs.Names.{same_stock}
 use Rattle.gx_units.specs.declared.names.Symbol.{Symbol}
 use Rattle.gx_history.specs.declared.policy.PolicyData.{PolicyData}
 use Rattle.gx_history.specs.declared.policy.Stock.{Stock}
 use Rattle.gx_history.specs.declared.record.RecordData.{RecordData}
-use Rattle.gx_history.specs.Book.{is_buy, is_buy_order, is_on_side, resting}
+use Rattle.gx_history.specs.Book.{is_buy_order, is_on_side, resting}
 use Rattle.gx_history.specs.Executions.{Standing, standings, standing_numbered}
 use Rattle.gx_history.specs.Orders.{Order}
 use Rattle.gx_history_laws.proofs.Numbers.{all_weaker}
-use Rattle.gx_history_laws.proofs.Order.{IsFirstSuch, first_such, some_same}
+use Rattle.gx_history_laws.proofs.Order.{some_same}
 use Rattle.gx_history_laws.proofs.Owners.{all_both}
 use Rattle.gx_effects.proofs.Entered.{all_mapped}
 use Rattle.gx_effects.proofs.Known.{RestsThere, all_resting}
-use Rattle.gx_effects.proofs.NewOrders.{found_is}
 use Rattle.gx_effects.proofs.Orderly.{IsOrderly}
 use Rattle.gx_book.specs.declared.resting.Resting.{Resting}
-use Rattle.gx_book.specs.Books.{StockOrders, all_orders, both_sides, on_side, order_in}
+use Rattle.gx_book.specs.Books.{all_orders, both_sides, order_in}
 use Rattle.gx_book.specs.Queue.{is_numbered}
 use Rattle.gx_market.specs.BookInForce.{book_in_force, rested_as, rested_in, stock_in_force}
-use Rattle.gx_market.specs.Changes.{where_it_rests}
-use Rattle.gx_market.proofs.Booked.{listed_kept, side_changed}
 use Rattle.gx_market.proofs.Lists.{stock_is_itself}
 
 pub not_true : (b : Bool) → not b ≡ true → b ≡ false
@@ -140,68 +134,3 @@ none_of_number policy history number h = none_in policy history number policy.st
 pub same_order : (policy : PolicyData) (history : List RecordData) (s x : Standing) → standing_numbered (standings policy history) s.order.number ≡ Some s
     → standing_numbered (standings policy history) x.order.number ≡ Some x → x.order.number ≡ s.order.number → x ≡ s
 same_order policy history s x found also same = some_same (sym also ∙ ap (standing_numbered (standings policy history)) same ∙ found)
-
--- on every other side the orders have other numbers
-none_elsewhere : (policy : PolicyData) (history : List RecordData) (s : Standing) → IsOrderly policy history → RestsThere policy history (own_stock s) (buys s) s
-    → (stock : Symbol) (buy : Bool) → (same_stock (own_stock s) stock && is_on_side buy s.order) ≡ false → AllByRecursion (HasOther s.order.number) (resting policy history stock buy)
-none_elsewhere policy history s orderly there stock buy elsewhere =
-    all_weaker (RestsThere policy history stock buy) (HasOther s.order.number) (λ (x : Standing) k. at x k (x.order.number == s.order.number) refl) (resting policy history stock buy)
-    (all_resting policy history stock buy orderly)
-  where
-    at : (x : Standing) → RestsThere policy history stock buy x → (b : Bool) → (x.order.number == s.order.number) ≡ b → (x.order.number == s.order.number) ≡ false
-    at x k false e = e
-    at x k true e =
-        let is : x ≡ s = same_order policy history s x there.known.is_found k.known.is_found (eqb-true x.order.number s.order.number e) in
-        let here : (same_stock (own_stock s) stock && is_on_side buy s.order) ≡ true =
-        both_are (same_stock (own_stock s) stock) (is_on_side buy s.order) (sym (ap (λ (y : Standing). same_stock (own_stock y) stock) is) ∙ k.there.of_stock)
-        (sym (ap (λ (y : Standing). is_on_side buy y.order) is) ∙ k.there.of_side) in
-        cc
-
--- a change of the sides, and the call that makes it where the order of this number rests
-pub record MakesChange (policy : PolicyData) (before after : List RecordData) (number : ℕ) (call : Resting → List Resting → List Resting) : Type 0 where
-  pub changed : List Standing → List Standing
-  pub sides : (stock : Symbol) (buy : Bool) → resting policy after stock buy ≡ changed (resting policy before stock buy)
-  pub none : (stock : Symbol) (buy : Bool) → AllByRecursion (HasOther number) (resting policy before stock buy) → changed (resting policy before stock buy) ≡ resting policy before stock buy
-  pub here : (s : Standing) → RestsThere policy before (own_stock s) (buys s) s → s.order.number ≡ number
-      → call (rested_as s) (rested_in policy before (own_stock s) (buys s)) ≡ map rested_as (changed (resting policy before (own_stock s) (buys s)))
-
-all_unchanged : (policy : PolicyData) (before after : List RecordData) (number : ℕ) (call : Resting → List Resting → List Resting) → MakesChange policy before after number call
-    → (s : Stock) → HasNone policy before number s → (buy : Bool) → rested_in policy after s.name buy ≡ rested_in policy before s.name buy
-all_unchanged policy before after number call makes s none buy = ap (map rested_as) (makes.sides s.name buy ∙ makes.none s.name buy (none buy))
-
-changed_here : (policy : PolicyData) (before after : List RecordData) (number : ℕ) (call : Resting → List Resting → List Resting) → IsOrderly policy before → MakesChange policy before after number call
-    → (s : Standing) → RestsThere policy before (own_stock s) (buys s) s → s.order.number ≡ number
-    → on_side (own_stock s) (buys s) (call (rested_as s)) (book_in_force policy before) ≡ book_in_force policy after
-changed_here policy before after number call orderly makes s there is_its =
-    side_changed policy before after (own_stock s) (buys s) (call (rested_as s))
-    (record {
-      here = makes.here s there is_its ∙ ap (map rested_as) (sym (makes.sides (own_stock s) (buys s)));
-      other_side = unchanged (own_stock s) (not (buys s)) (not_both (same_stock (own_stock s) (own_stock s)) (is_on_side (not (buys s)) s.order) (other_way (buys s) s.order there.there.of_side));
-      elsewhere = λ (stock : Symbol) (buy : Bool) differs. unchanged stock buy (ap (λ (b : Bool). b && is_on_side buy s.order) differs);
-    })
-  where
-    unchanged : (stock : Symbol) (buy : Bool) → (same_stock (own_stock s) stock && is_on_side buy s.order) ≡ false → rested_in policy after stock buy ≡ rested_in policy before stock buy
-    unchanged stock buy elsewhere =
-        ap (map rested_as)
-        (makes.sides stock buy
-        ∙ makes.none stock buy (all_weaker (HasOther s.order.number) (HasOther number) (λ (x : Standing) h. sym (ap (λ (n : ℕ). x.order.number == n) is_its) ∙ h) (resting policy before stock buy)
-        (none_elsewhere policy before s orderly there stock buy elsewhere)))
-
--- so the call makes the book after it
-pub changed_where_it_rests : (policy : PolicyData) (before after : List RecordData) (number : ℕ) (call : Resting → List Resting → List Resting) → IsOrderly policy before
-    → MakesChange policy before after number call → where_it_rests number call (book_in_force policy before) ≡ book_in_force policy after
-changed_where_it_rests policy before after number call orderly makes = at (order_in (book_in_force policy before) number) refl
-  where
-    book : List StockOrders
-    book = book_in_force policy before
-
-    at : (found : Option Resting) → order_in book number ≡ found → option_map_or (λ (r : Resting). on_side r.stock (is_buy r.side) (call r) book) found book ≡ book_in_force policy after
-    at None e =
-        listed_kept policy before after
-        (all_weaker (HasNone policy before number) (λ (s : Stock). (buy : Bool) → rested_in policy after s.name buy ≡ rested_in policy before s.name buy)
-        (all_unchanged policy before after number call makes) policy.stocks (none_of_number policy before number e))
-    at (Some r) e =
-        let home : IsHome policy before r = found_is (IsHome policy before) (is_numbered number) (all_orders book) r (all_home policy before orderly) e in
-        let such : IsFirstSuch (is_numbered number) (all_orders book) r = first_such (is_numbered number) (all_orders book) r e in
-        ap (λ (x : Resting). on_side x.stock (is_buy x.side) (call x) book) home.is
-        ∙ changed_here policy before after number call orderly makes home.order home.there (sym (ap (λ (x : Resting). x.order) home.is) ∙ eqb-true r.order number such.3)

@@ -1,7 +1,7 @@
 -- What a matching step makes of the book, and what it asks of it.
-use Rattle.std.proofs.Common.{◌≡◌, ℕ, ◌-◌, ◌≤◌, Bool, true, false, not, List, [], ◌∷◌, ◌++◌, refl, ◌∙◌, ap, sym, map, cond, arith}
+use Rattle.std.proofs.Common.{◌≡◌, ℕ, ◌-◌, ◌≤◌, Bool, true, false, not, List, [], ◌∷◌, ◌++◌, refl, ◌∙◌, ap, sym, map, arith}
 use Rattle.std.proofs.Math.Path.{subst}
-use Rattle.std.specs.Prelude.{Option, Some, None, ◌&&◌, min, nat_lt, option_map, slice_get}
+use Rattle.std.specs.Prelude.{Option, Some, None, ◌&&◌, min, option_map, slice_get}
 use Rattle.std.specs.Option.{option_map_or}
 use Rattle.std.specs.List.{AllByRecursion}
 use Rattle.std.proofs.lemmas.Bool.{eqb-true}
@@ -28,26 +28,26 @@ use Rattle.gx_effects.proofs.NewOrders.{found_is}
 use Rattle.gx_effects.proofs.Orderly.{IsOrderly, legal_is_orderly}
 use Rattle.gx_effects.proofs.Rests.{IsRest, is_rest}
 use Rattle.gx_book.specs.declared.resting.Resting.{Resting}
-use Rattle.gx_book.specs.Books.{all_orders, on_side, order_in}
+use Rattle.gx_book.specs.Books.{all_orders, on_side, order_in, with_rested}
 use Rattle.gx_book.specs.Queue.{best_reduced, is_numbered}
 use Rattle.gx_orders.specs.declared.live_order.LiveOrder.{LiveOrder}
 use Rattle.gx_orders.specs.InForce.{kept, orders_in_force}
 use Rattle.gx_orders.specs.LiveOrders.{first_waiting}
 use Rattle.gx_orders.proofs.Keeping.{IsKeptOpen, first_is}
 use Rattle.gx_market.specs.BookInForce.{book_in_force, rested_as}
-use Rattle.gx_market.specs.Changes.{book_with, lessened, rested_in_book}
+use Rattle.gx_market.specs.Changes.{book_with, lessened}
 use Rattle.gx_market.specs.Laws.{CanRest, CanTake}
 use Rattle.gx_market.specs.Meeting.{resting_of}
 use Rattle.gx_market.proofs.Booked.{book_kept, side_changed, stock_listed}
 use Rattle.gx_market.proofs.Crossing.{best_is, waiting_open}
 use Rattle.gx_market.proofs.Homes.{IsHome, all_home, not_both, other_way, same_order}
 use Rattle.gx_market.proofs.Listed.{waiting_are_listed}
-use Rattle.gx_market.proofs.Lists.{stock_is}
+use Rattle.gx_market.proofs.Lists.{append_mapped, stock_is}
 use Rattle.gx_market.proofs.Requested.{book_by}
-use Rattle.gx_market.proofs.Sides.{lowered_first}
+use Rattle.gx_market.proofs.Sides.{lowered_is, still}
 
 -- the first that waits, as it is kept
-first_is_kept : (policy : PolicyData) (history : List RecordData) (s : Standing) (others : List Standing) (o : LiveOrder) → incoming policy history ≡ s ∷ others
+pub first_is_kept : (policy : PolicyData) (history : List RecordData) (s : Standing) (others : List Standing) (o : LiveOrder) → incoming policy history ≡ s ∷ others
     → first_waiting (orders_in_force policy history).live ≡ Some o → o ≡ kept policy history s
 first_is_kept policy history s others o comes waits =
     some_same (sym waits ∙ first_is policy history ∙ ap (λ (ss : List Standing). option_map (kept policy history) (slice_get ss 0)) comes)
@@ -61,10 +61,6 @@ pub fills_take : (policy : PolicyData) (history : List RecordData) (handed : ℕ
     → r.verdict ≡ verdicts.Filled f → book_in_force policy (history ++ r ∷ []) ≡ lessened f.maker f.shares (book_in_force policy history)
 fills_take policy history handed r f legal left fills = book_by policy history (steps.Matching handed) r (verdicts.Filled f) legal left fills
 
-front : {X : Type 0} (b : Bool) (x : X) (xs : List X) → cond b (x ∷ xs) xs ≡ cond b (x ∷ []) [] ++ xs
-front true x xs = refl
-front false x xs = refl
-
 -- a fill takes its shares off the best on the side against the taker
 book_filled : (policy : PolicyData) (history : List RecordData) (r : RecordData) (f : Fill) → IsOrderly policy history → (is : FillsOrders policy history (history ++ r ∷ []) r f)
     → on_side is.taker.order.terms.stock (not (is_buy is.taker.order.terms.side)) (best_reduced f.shares) (book_in_force policy history) ≡ book_in_force policy (history ++ r ∷ [])
@@ -73,8 +69,8 @@ book_filled policy history r f orderly is =
     (record {
       here =
           ap (λ (ss : List Standing). best_reduced f.shares (map rested_as ss)) is.is_best
-          ∙ lowered_first f.shares is.maker is.behind
-          ∙ ap (map rested_as) (front (nat_lt 0 (is.maker.open_shares - f.shares)) (record { order = is.maker.order; open_shares = is.maker.open_shares - f.shares }) is.behind)
+          ∙ ap (λ xs. xs ++ map rested_as is.behind) (lowered_is f.shares is.maker)
+          ∙ append_mapped rested_as (still is.maker (is.maker.open_shares - f.shares)) is.behind
           ∙ ap (map rested_as) (sym is.resting_left);
       other_side = ap (map rested_as) (is.resting_kept stock (not buy) (not_both (same_stock is.maker.order.terms.stock stock) (is_on_side (not buy) is.maker.order) (other_way buy is.maker.order there.there.of_side)));
       elsewhere = λ (other : Symbol) (side : Bool) differs.
@@ -185,17 +181,17 @@ rests_are_of_first policy history handed r number o legal left rests waits =
 
 pub rests_are_put : (policy : PolicyData) (history : List RecordData) (handed : ℕ) (r : RecordData) (number : ℕ) (o : LiveOrder) → IsLegal policy history
     → next policy history (steps.Matching handed) ≡ Some r → r.verdict ≡ verdicts.Rested number → first_waiting (orders_in_force policy history).live ≡ Some o
-    → book_in_force policy (history ++ r ∷ []) ≡ rested_in_book (resting_of o) (book_in_force policy history)
+    → book_in_force policy (history ++ r ∷ []) ≡ with_rested (resting_of o) (book_in_force policy history)
 rests_are_put policy history handed r number o legal left rests waits =
     put (is_rest policy history handed r number (legal_is_orderly policy history legal) left rests)
   where
-    put : IsRest policy history r number → book_in_force policy (history ++ r ∷ []) ≡ rested_in_book (resting_of o) (book_in_force policy history)
+    put : IsRest policy history r number → book_in_force policy (history ++ r ∷ []) ≡ with_rested (resting_of o) (book_in_force policy history)
     put is =
         book_by policy history (steps.Matching handed) r (verdicts.Rested number) legal left rests
         ∙ ap (λ (c : Change). book_with c (book_in_force policy history))
         (ap (λ (n : ℕ). option_map_or Rests (standing_numbered (live_orders policy history) n) Nothing) is.has_number
         ∙ ap (λ (found : Option Standing). option_map_or Rests found Nothing) (live_found policy history is.first is.first_waits.known is.first_waits.lives))
-        ∙ ap (λ (x : Resting). rested_in_book x (book_in_force policy history))
+        ∙ ap (λ (x : Resting). with_rested x (book_in_force policy history))
         (sym (ap resting_of (first_is_kept policy history is.first is.waiting o is.comes_first waits) ∙ rested_is policy history is.first opened.0))
       where
         opened : IsKeptOpen policy history is.first

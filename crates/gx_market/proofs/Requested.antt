@@ -1,5 +1,5 @@
 -- What a request makes of the book.
-use Rattle.std.proofs.Common.{◌≡◌, ℕ, ◌-◌, Bool, true, List, [], ◌∷◌, ◌++◌, refl, ◌∙◌, ap, sym, map}
+use Rattle.std.proofs.Common.{◌≡◌, ℕ, ◌-◌, ◌<◌, Bool, true, List, [], ◌∷◌, ◌++◌, refl, ◌∙◌, ap, sym, map, cond, arith}
 use Rattle.std.specs.Prelude.{Option, Some, None, option_map, ◌&&◌}
 use Rattle.std.specs.Option.{option_map_or}
 use Rattle.std.proofs.lemmas.Bool.{eqb-true}
@@ -10,7 +10,6 @@ use Rattle.gx_ouch.specs.declared.inbound.ReplaceOrder.{ReplaceOrder}
 use Rattle.gx_desk.specs.declared.Action.{Action}
 use Rattle.gx_desk.specs.declared.Action.TheVariants as actions
 use Rattle.gx_history.specs.declared.policy.PolicyData.{PolicyData}
-use Rattle.gx_history.specs.declared.policy.Stock.{Stock}
 use Rattle.gx_history.specs.declared.record.Asked.{Asked}
 use Rattle.gx_history.specs.declared.record.RecordData.{RecordData}
 use Rattle.gx_history.specs.declared.record.Request.{Request}
@@ -20,33 +19,33 @@ use Rattle.gx_history.specs.declared.record.Step.{Step}
 use Rattle.gx_history.specs.declared.record.Step.TheVariants as steps
 use Rattle.gx_history.specs.declared.record.Verdict.{Verdict}
 use Rattle.gx_history.specs.declared.record.Verdict.TheVariants as verdicts
-use Rattle.gx_history.specs.Book.{is_buy}
-use Rattle.gx_history.specs.Effects.{CutsOrder, ReplacesOrder, replacement, whole_order}
+use Rattle.gx_history.specs.Book.{has_rested}
+use Rattle.gx_history.specs.Effects.{CutsOrder, ReplacesOrder, replacement, shares_left, whole_order}
 use Rattle.gx_history.specs.Executions.{Standing, done, executions, is_live, live_orders, standing_under}
+use Rattle.gx_history.specs.Orders.{total}
 use Rattle.gx_history.specs.People.{account_of}
 use Rattle.gx_history.specs.Requests.{action_of}
 use Rattle.gx_history.specs.Verdicts.{next, IsLegal}
-use Rattle.gx_history_laws.proofs.Order.{IsFirstSuch, first_such, some_same}
+use Rattle.gx_history_laws.proofs.Order.{some_same}
 use Rattle.gx_history_laws.proofs.Owners.{last_such_is}
 use Rattle.gx_history_laws.proofs.Runs.{step_left}
-use Rattle.gx_effects.specs.OneMore.{Change, Nothing, Adds, Leaves, Replaces, EndsAll, change_by, change_by_request, change_of}
+use Rattle.gx_effects.specs.OneMore.{Change, Nothing, Adds, Replaces, EndsAll, change_by, change_by_request, change_of}
 use Rattle.gx_effects.proofs.Cutting.{cancel_takes_effect}
 use Rattle.gx_effects.proofs.Known.{IsKnown, live_known}
-use Rattle.gx_effects.proofs.NewOrders.{found_is}
 use Rattle.gx_effects.proofs.Orderly.{IsOrderly, legal_is_orderly}
 use Rattle.gx_effects.proofs.Replacing.{replace_takes_effect}
-use Rattle.gx_book.specs.declared.resting.Resting.{Resting}
-use Rattle.gx_book.specs.Books.{StockOrders, all_orders, empty_book, on_each_side, on_side, order_in, without_orders}
-use Rattle.gx_book.specs.Queue.{is_numbered, reduced, without_account}
+use Rattle.gx_book.specs.Books.{StockOrders, on_each_side}
+use Rattle.gx_book.specs.Queue.{lowered, no_orders, without_account}
 use Rattle.gx_orders.specs.declared.live_order.LiveOrder.{LiveOrder}
 use Rattle.gx_orders.specs.Changes.{is_lasting}
 use Rattle.gx_orders.specs.InForce.{kept, orders_in_force}
 use Rattle.gx_orders.specs.LiveOrders.{order_under}
 use Rattle.gx_orders.proofs.Keeping.{IsKeptOpen, open_is, under_is}
-use Rattle.gx_market.specs.BookInForce.{book_in_force, rested_as, stock_in_force}
-use Rattle.gx_market.specs.Changes.{book_with, cut_from, keeps_book, lessened, removed, where_it_rests}
-use Rattle.gx_market.proofs.Changing.{book_goes_on}
-use Rattle.gx_market.proofs.Homes.{IsHome, all_home, same_order}
+use Rattle.gx_market.specs.BookInForce.{book_in_force, rested_as}
+use Rattle.gx_market.specs.Changes.{book_with, cut_from, keeps_book, lessened, removed}
+use Rattle.gx_market.proofs.Changing.{book_goes_on, changed_at}
+use Rattle.gx_market.proofs.Homes.{same_order}
+use Rattle.gx_market.proofs.Sides.{IsChanged, lowered_is, still}
 
 -- the change, by its verdict and its step
 change_is : (policy : PolicyData) (history : List RecordData) (step : Step) (r : RecordData) (v : Verdict) → next policy history step ≡ Some r → r.verdict ≡ v
@@ -98,24 +97,6 @@ pub others_keep : (policy : PolicyData) (history : List RecordData) (a : Asked) 
     → r.verdict ≡ verdicts.Granted → book_in_force policy (history ++ r ∷ []) ≡ book_in_force policy history
 others_keep policy history a r legal left keeps granted = others_stay policy history a r legal left granted a.request refl keeps
 
--- two calls that are the same for every order of this number
-same_calls : (policy : PolicyData) (history : List RecordData) (number : ℕ) (one other : Resting → List Resting → List Resting) → IsOrderly policy history
-    → ((s : Standing) → IsKnown policy history s → s.order.number ≡ number → one (rested_as s) ≡ other (rested_as s))
-    → where_it_rests number one (book_in_force policy history) ≡ where_it_rests number other (book_in_force policy history)
-same_calls policy history number one other orderly same = at (order_in (book_in_force policy history) number) refl
-  where
-    book : List StockOrders
-    book = book_in_force policy history
-
-    at : (found : Option Resting) → order_in book number ≡ found
-        → option_map_or (λ (r : Resting). on_side r.stock (is_buy r.side) (one r) book) found book ≡ option_map_or (λ (r : Resting). on_side r.stock (is_buy r.side) (other r) book) found book
-    at None e = refl
-    at (Some r) e =
-        let home : IsHome policy history r = found_is (IsHome policy history) (is_numbered number) (all_orders book) r (all_home policy history orderly) e in
-        let such : IsFirstSuch (is_numbered number) (all_orders book) r = first_such (is_numbered number) (all_orders book) r e in
-        ap (λ (change : List Resting → List Resting). on_side r.stock (is_buy r.side) change book)
-        (ap one home.is ∙ same home.order home.there.known (sym (ap (λ (x : Resting). x.order) home.is) ∙ eqb-true r.order number such.3) ∙ ap other (sym home.is))
-
 -- the order that a request names, as it is kept
 named_is_kept : (policy : PolicyData) (history : List RecordData) (found : Option Standing) (s : Standing) (o : LiveOrder) → found ≡ Some s → option_map (kept policy history) found ≡ Some o
     → o ≡ kept policy history s
@@ -131,21 +112,15 @@ cancels_take policy history a r m o legal left asks granted named =
     orderly : IsOrderly policy history
     orderly = legal_is_orderly policy history legal
 
-    gone : Standing → ℕ
-    gone s = done (executions policy history) s.order
-
     cut_by : CutsOrder policy history (history ++ r ∷ []) r a.user m → book_in_force policy (history ++ r ∷ []) ≡ lessened o.number (cut_from o m.shares) (book_in_force policy history)
     cut_by t =
-        book_granted policy history a r (requests.Cancel m) legal left granted asks
-        ∙ ap (λ (found : Option Standing). book_with (option_map_or (λ (cut : Standing). Leaves cut.order.number (m.shares - gone cut)) found Nothing) (book_in_force policy history)) t.is_named
-        ∙ same_calls policy history t.cut.order.number (λ (x : Resting). reduced t.cut.order.number (x.shares - (m.shares - gone t.cut)))
-        (λ (x : Resting). reduced t.cut.order.number (cut_from (kept policy history t.cut) m.shares)) orderly
-        (λ (s : Standing) known same.
-        ap (λ (x : Standing). reduced t.cut.order.number (x.open_shares - (m.shares - gone t.cut))) (same_order policy history t.cut s its.0.is_found known.is_found same)
-        ∙ ap (λ (n : ℕ). reduced t.cut.order.number (n - (m.shares - gone t.cut))) its.1.0)
+        sym (changed_at policy history (history ++ r ∷ []) (shares_left t.cut.order.number t.left) t.cut.order.number (lowered fewer) orderly one t.resting_cut)
         ∙ ap (λ (x : LiveOrder). lessened x.number (cut_from x m.shares) (book_in_force policy history))
         (sym (named_is_kept policy history (standing_under (live_orders policy history) a.user m.token) t.cut o t.is_named (under_is policy history a.user m.token ∙ named)))
       where
+        fewer : ℕ
+        fewer = cut_from (kept policy history t.cut) m.shares
+
         under : Standing → Bool
         under s = same_user s.order.user a.user && same_token s.order.token m.token
 
@@ -154,6 +129,21 @@ cancels_take policy history a r m o legal left asks granted named =
           (last_such_is (λ (s : Standing). IsKnown policy history s × (is_live s ≡ true)) under (live_orders policy history) t.cut (live_known policy history orderly) t.is_named).0,
           last_such_is (IsKeptOpen policy history) under (live_orders policy history) t.cut (open_is policy history) t.is_named,
         )
+
+        less : (left asked now open_now : ℕ) → left ≡ asked → left < now → open_now ≡ now → now - (open_now - asked) ≡ left
+        less left asked now open_now e h k = omega arith
+
+        one : (s : Standing) → IsKnown policy history s → has_rested history s ≡ true → is_live s ≡ true → IsChanged (shares_left t.cut.order.number t.left) t.cut.order.number (lowered fewer) s
+        one s known has_come lives = record {
+          lives = lives;
+          here = λ e.
+              lowered_is fewer s
+              ∙ ap (λ (n : ℕ). map rested_as (still s n))
+              (ap (λ (x : Standing). x.open_shares - fewer) (same_order policy history t.cut s its.0.is_found known.is_found (eqb-true s.order.number t.cut.order.number e))
+              ∙ less t.left (m.shares - done (executions policy history) t.cut.order) t.cut.open_shares (total history t.cut.order - done (executions policy history) t.cut.order) t.is_left t.is_less (sym its.1.0)
+              ∙ sym (ap (λ (b : Bool). cond b t.left s.open_shares) e));
+          others = λ e. ap (λ (b : Bool). cond b t.left s.open_shares) e;
+        }
 
 pub replaces_take : (policy : PolicyData) (history : List RecordData) (a : Asked) (r : RecordData) (m : ReplaceOrder) (o : LiveOrder) → IsLegal policy history
     → next policy history (steps.Asked a) ≡ Some r → a.request ≡ requests.Replace m → r.verdict ≡ verdicts.Granted
@@ -185,14 +175,7 @@ pub kills_take : (policy : PolicyData) (history : List RecordData) (a : Asked) (
     → book_in_force policy (history ++ r ∷ []) ≡ on_each_side (without_account account) (book_in_force policy history)
 kills_take policy history a r account legal left acts granted = ends_by policy history a r (actions.Kill account) legal left granted a.request refl acts
 
-all_out : (policy : PolicyData) (history : List RecordData) (ss : List Stock) → on_each_side (λ orders. []) (map (stock_in_force policy history) ss) ≡ map without_orders ss
-all_out policy history [] = refl
-all_out policy history (s ∷ ss) = ap (λ (xs : List StockOrders). without_orders s ∷ xs) (all_out policy history ss)
-
-book_out : (policy : PolicyData) (history : List RecordData) → on_each_side (λ orders. []) (book_in_force policy history) ≡ empty_book policy
-unfolding book_in_force
-book_out policy history = all_out policy history policy.stocks
-
 pub closes_take : (policy : PolicyData) (history : List RecordData) (a : Asked) (r : RecordData) → IsLegal policy history → next policy history (steps.Asked a) ≡ Some r
-    → action_of a.request ≡ Some actions.CloseDay → r.verdict ≡ verdicts.Granted → book_in_force policy (history ++ r ∷ []) ≡ empty_book policy
-closes_take policy history a r legal left acts granted = ends_by policy history a r actions.CloseDay legal left granted a.request refl acts ∙ book_out policy history
+    → action_of a.request ≡ Some actions.CloseDay → r.verdict ≡ verdicts.Granted
+    → book_in_force policy (history ++ r ∷ []) ≡ on_each_side no_orders (book_in_force policy history)
+closes_take policy history a r legal left acts granted = ends_by policy history a r actions.CloseDay legal left granted a.request refl acts

@@ -20,13 +20,13 @@ use Rattle.gx_history.specs.Requests.{action_of}
 use Rattle.gx_history.specs.Verdicts.{IsLegal, next}
 use Rattle.gx_effects.specs.OneMore.{change_of}
 use Rattle.gx_book.specs.declared.resting.Resting.{Resting}
-use Rattle.gx_book.specs.Books.{StockOrders, all_orders, empty_book, is_sound_book, on_each_side, on_side, order_in}
-use Rattle.gx_book.specs.Queue.{best_reduced, without_account}
+use Rattle.gx_book.specs.Books.{StockOrders, all_orders, empty_book, is_sound_book, on_each_side, on_side, order_in, with_rested}
+use Rattle.gx_book.specs.Queue.{best_reduced, no_orders, without_account}
 use Rattle.gx_orders.specs.declared.live_order.LiveOrder.{LiveOrder}
 use Rattle.gx_orders.specs.InForce.{orders_in_force}
 use Rattle.gx_orders.specs.LiveOrders.{first_waiting, order_numbered, order_under}
 use Rattle.gx_market.specs.BookInForce.{book_in_force, is_listed}
-use Rattle.gx_market.specs.Changes.{book_with, cut_from, keeps_book, lessened, removed, rested_in_book}
+use Rattle.gx_market.specs.Changes.{book_with, cut_from, keeps_book, lessened, removed}
 use Rattle.gx_market.specs.Meeting.{best_against, match_record, next_met, resting_of}
 
 -- before any record nothing rests
@@ -75,7 +75,7 @@ KillsTakeOut = (policy : PolicyData) (history : List RecordData) (a : Asked) (r 
 abbrev pub ClosesTakeOut : Type 0
 ClosesTakeOut = (policy : PolicyData) (history : List RecordData) (a : Asked) (r : RecordData)
     → IsLegal policy history → next policy history (steps.Asked a) ≡ Some r → action_of a.request ≡ Some actions.CloseDay → r.verdict ≡ verdicts.Granted
-    → book_in_force policy (history ++ r ∷ []) ≡ empty_book policy
+    → book_in_force policy (history ++ r ∷ []) ≡ on_each_side no_orders (book_in_force policy history)
 
 -- a fill takes its shares off the maker
 abbrev pub FillsTakeShares : Type 0
@@ -111,7 +111,7 @@ abbrev pub RestsArePut : Type 0
 RestsArePut = (policy : PolicyData) (history : List RecordData) (handed : ℕ) (r : RecordData) (number : ℕ) (o : LiveOrder)
     → IsLegal policy history → next policy history (steps.Matching handed) ≡ Some r → r.verdict ≡ verdicts.Rested number
     → first_waiting (orders_in_force policy history).live ≡ Some o
-    → book_in_force policy (history ++ r ∷ []) ≡ rested_in_book (resting_of o) (book_in_force policy history)
+    → book_in_force policy (history ++ r ∷ []) ≡ with_rested (resting_of o) (book_in_force policy history)
 
 -- an order can be put to rest: it does not rest yet, has shares, and is in a listed stock
 pub record CanRest (book : List StockOrders) (added : Resting) : Type 0 where

@@ -1,5 +1,5 @@
 -- What a line of a script means.
-use Rattle.std.specs.Prelude.{ℕ, ◌-◌, Bool, ◌||◌, ◌==◌, nat_lt, if◌then◌else◌, List, length, take, codes, bytes_eq, slice_index, Option, Some, None, option_map, IsTrue}
+use Rattle.std.specs.Prelude.{ℕ, ◌-◌, Bool, ◌&&◌, ◌||◌, ◌==◌, nat_lt, if◌then◌else◌, List, length, take, codes, bytes_eq, slice_index, Option, Some, None, option_map, IsTrue}
 use Rattle.gx_units.specs.declared.names.AccountName.{AccountName}
 use Rattle.gx_desk.specs.declared.Tag.{Tag}
 use Rattle.gx_ouch.specs.declared.inbound.EnterOrder.{EnterOrder}
@@ -7,10 +7,10 @@ use Rattle.gx_history.specs.Brought.{is_brought}
 use Rattle.gx_history.specs.Payloads.{request_of}
 use Rattle.gx_history.specs.Showing.{has_its_first}
 use Rattle.gx_script.specs.declared.line.ScriptStep.{ScriptStep}
-use Rattle.gx_script.specs.declared.line.ScriptStep.TheVariants.{Login, Logout, Enter, Kill, Lift, Raw}
+use Rattle.gx_script.specs.declared.line.ScriptStep.TheVariants.{Login, Logout, Enter, Cancel, Kill, Lift, Raw}
 use Rattle.gx_script.specs.declared.line.ScriptLine.{ScriptLine}
-use Rattle.gx_script.specs.declared.line.ScriptLine.TheVariants.{Skipped, Step, Stream}
-use Rattle.gx_script.specs.Words.{◌>>=◌, words_of, first, alone, itself, is_empty, name_of, user_of, number_of, byte_of, bytes_of}
+use Rattle.gx_script.specs.declared.line.ScriptLine.TheVariants.{Skipped, Step, Match, Settle, Stream}
+use Rattle.gx_script.specs.Words.{◌>>=◌, words_of, first, alone, is_done, itself, is_empty, name_of, user_of, number_of, byte_of, bytes_of}
 
 -- `PASSWORD NUMBER`: the first report wanted, 0 for the last one
 unfoldable pub login_form : List (List ℕ) → Option ScriptStep
@@ -48,6 +48,13 @@ enter_form words = do
   time_in_force ← first (number_of 32) price.1
   alone (Enter (plain_order token.0 side.0 shares.0 stock.0 price.0 time_in_force.0)) time_in_force.1
 
+-- `TOKEN SHARES`: the shares are the new size of the order
+unfoldable pub cancel_form : List (List ℕ) → Option ScriptStep
+cancel_form words = do
+  token ← first (name_of 14) words
+  shares ← first (number_of 32) token.1
+  alone (Cancel (record { token = record { bytes = token.0 }; shares = shares.0 })) shares.1
+
 -- `TAG ACCOUNT`
 unfoldable pub account_form : List (List ℕ) → Option (Tag × AccountName)
 account_form words = do
@@ -67,19 +74,28 @@ step_form name words =
     if bytes_eq name (codes "login") then login_form words
     else (if bytes_eq name (codes "logout") then alone Logout words
     else (if bytes_eq name (codes "enter") then enter_form words
+    else (if bytes_eq name (codes "cancel") then cancel_form words
     else (if bytes_eq name (codes "kill") then option_map (λ named. Kill named.0 named.1) (account_form words)
     else (if bytes_eq name (codes "lift") then option_map (λ named. Lift named.0 named.1) (account_form words)
     else (if bytes_eq name (codes "raw") then raw_form words
-    else None)))))
+    else None))))))
 
--- `M USER ..`, M being the first word: what the user asks for at the moment M
+-- `USER ..`, USER being the first word: what the user asks for at this moment
+unfoldable pub asked_line : ℕ → List ℕ → List (List ℕ) → Option ScriptLine
+asked_line moment word words = do
+  user ← user_of word
+  name ← first itself words
+  step ← step_form name.0 name.1
+  Some (Step moment user step)
+
+-- `M match`, `M settle` or `M USER ..`, M being the first word; a user of either name is one where more words follow
 unfoldable pub step_line : List ℕ → List (List ℕ) → Option ScriptLine
 step_line word words = do
   moment ← number_of 64 word
-  user ← first user_of words
-  name ← first itself user.1
-  step ← step_form name.0 name.1
-  Some (Step moment user.0 step)
+  name ← first itself words
+  if is_done name.1 && bytes_eq name.0 (codes "match") then Some (Match moment)
+      else (if is_done name.1 && bytes_eq name.0 (codes "settle") then Some (Settle moment)
+      else asked_line moment name.0 name.1)
 
 -- `stream USER`, without its first word
 unfoldable pub stream_line : List (List ℕ) → Option ScriptLine
@@ -118,10 +134,13 @@ IsAskable (Raw request) = IsTrue (is_brought request) × IsTrue (has_its_first r
 IsAskable (Login given wanted) = Unit {0}
 IsAskable Logout = Unit {0}
 IsAskable (Enter order) = Unit {0}
+IsAskable (Cancel order) = Unit {0}
 IsAskable (Kill tag account) = Unit {0}
 IsAskable (Lift tag account) = Unit {0}
 
 abbrev pub IsAskableLine : ScriptLine → Type 0
 IsAskableLine (Step moment user step) = IsAskable step
 IsAskableLine Skipped = Unit {0}
+IsAskableLine (Match moment) = Unit {0}
+IsAskableLine (Settle moment) = Unit {0}
 IsAskableLine (Stream user) = Unit {0}

@@ -1,18 +1,18 @@
 //! Lines of a script.
 
-ghost use Rattle.std.specs.Prelude.{◌≡◌, ◌≢◌, ◌≤◌, ◌∷◌, [], length, bytes_eq, IsTrue, IfOk, IfSome, MatchResult, option_map};
+ghost use Rattle.std.specs.Prelude.{◌≡◌, ◌≢◌, ◌≤◌, ◌∷◌, [], length, bytes_eq, ◌&&◌, IsTrue, IfOk, IfSome, MatchResult, option_map};
 ghost use Rattle.std.specs.Result.{result_ok};
 ghost use Rattle.gx_history.specs.Brought.{is_brought};
 ghost use Rattle.gx_history.specs.Payloads.{request_of};
 ghost use Rattle.gx_history.specs.Showing.{has_its_first};
-ghost use Rattle.gx_script.specs.Words.{Takes, alone, name_of, user_of, number_of, byte_of, bytes_of, itself};
-ghost use Rattle.gx_script.specs.ScriptLines.{login_form, plain_order, enter_form, account_form, raw_form, step_form, step_line, stream_line, line_of_words, without_cr, is_too_long, is_skipped, line_of, IsAskable, IsAskableLine};
+ghost use Rattle.gx_script.specs.Words.{Takes, alone, is_done, name_of, user_of, number_of, byte_of, bytes_of, itself};
+ghost use Rattle.gx_script.specs.ScriptLines.{login_form, plain_order, enter_form, cancel_form, account_form, raw_form, step_form, asked_line, step_line, stream_line, line_of_words, without_cr, is_too_long, is_skipped, line_of, IsAskable, IsAskableLine};
 
 use crate::words::{Words, byte, name, number32, number64};
 use crate::wrong::{Wanted, Wrong};
 use gx_desk::Tag;
 use gx_history::record::Request;
-use gx_ouch::EnterOrder;
+use gx_ouch::{CancelOrder, EnterOrder};
 use gx_units::{AccountName, Firm, Password, Symbol, Token, UserName};
 
 /// What a line of a script asks for in a user's name.
@@ -24,6 +24,8 @@ pub enum ScriptStep {
     Logout,
     /// `enter TOKEN SIDE SHARES STOCK PRICE TIF`.
     Enter(EnterOrder),
+    /// `cancel TOKEN SHARES`: the shares are the new size of the order, what is executed of it included.
+    Cancel(CancelOrder),
     /// `kill TAG ACCOUNT`.
     Kill(Tag, AccountName),
     /// `lift TAG ACCOUNT`.
@@ -39,6 +41,10 @@ pub enum ScriptLine {
     Skipped,
     /// `M USER ..`: a step at a moment, by a user, whose name is in upper case.
     Step(u64, UserName, ScriptStep),
+    /// `M match`: one matching step at a moment.
+    Match(u64),
+    /// `M settle`: matching steps at a moment until no order waits.
+    Settle(u64),
     /// `stream USER`: the reports that the user is owed.
     Stream(UserName),
 }
@@ -66,11 +72,19 @@ fn take_name<const N: usize>(words: &mut Words, wants: Wanted) -> Result<[u8; N]
     wanted(words, name(word), wants)
 }
 
+/// The user of this name, in upper case.
+fn user(word: &[u8]) -> Option<UserName>
+    ensures { result ≡ user_of word.now }
+{
+    let bytes = name(word)?;
+    Some(UserName { bytes }.folded())
+}
+
 fn take_user(words: &mut Words) -> Result<UserName, Wrong>
     ensures { Takes user_of words.old words.new result }
 {
-    let bytes = take_name(words, Wanted::User)?;
-    Ok(UserName { bytes }.folded())
+    let word = take_word(words, Wanted::User)?;
+    wanted(words, user(word), Wanted::User)
 }
 
 fn take_number64(words: &mut Words, wants: Wanted) -> Result<u64, Wrong>
@@ -147,6 +161,20 @@ fn enter_form(words: &mut Words) -> Result<ScriptStep, Wrong>
     }))
 }
 
+#[tactic(auto, unfolding(crate::specs::ScriptLines::cancel_form))]
+fn cancel_form(words: &mut Words) -> Result<ScriptStep, Wrong>
+    ensures meaning { result_ok result ≡ cancel_form words.old }
+    ensures askable { IfOk result IsAskable }
+{
+    let token = take_name(words, Wanted::Token)?;
+    let shares = take_number32(words, Wanted::Shares)?;
+    end(words)?;
+    Ok(ScriptStep::Cancel(CancelOrder {
+        token: Token { bytes: token },
+        shares,
+    }))
+}
+
 /// The tag and the account of a command.
 #[tactic(auto, unfolding(crate::specs::ScriptLines::account_form))]
 fn account_form(words: &mut Words) -> Result<(Tag, AccountName), Wrong>
@@ -209,6 +237,9 @@ fn step_form(form: &[u8], words: &mut Words) -> Result<ScriptStep, Wrong>
     if is(form, b"enter") {
         return enter_form(words);
     }
+    if is(form, b"cancel") {
+        return cancel_form(words);
+    }
     if is(form, b"kill") {
         let (tag, account) = account_form(words)?;
         return Ok(ScriptStep::Kill(tag, account));
@@ -223,16 +254,39 @@ fn step_form(form: &[u8], words: &mut Words) -> Result<ScriptStep, Wrong>
     wanted(words, None, Wanted::Form)
 }
 
+/// What the user of this name asks for at the moment.
+#[tactic(auto, unfolding(crate::specs::ScriptLines::asked_line))]
+fn asked_line(moment: u64, name: &[u8], words: &mut Words) -> Result<ScriptLine, Wrong>
+    ensures meaning { result_ok result ≡ asked_line moment name.now words.old }
+    ensures askable { IfOk result IsAskableLine }
+{
+    let user = wanted(words, user(name), Wanted::User)?;
+    let form = take_word(words, Wanted::Form)?;
+    let step = step_form(form, words)?;
+    Ok(ScriptLine::Step(moment, user, step))
+}
+
+/// Whether the word is this one, and the last of its line.
+fn is_last(word: &[u8], name: &[u8], words: &Words) -> bool
+    ensures { result ≡ (is_done words.now && bytes_eq word.now name.now) }
+{
+    words.is_done() && is(word, name)
+}
+
 #[tactic(auto, unfolding(crate::specs::ScriptLines::step_line))]
 fn step_line(moment: &[u8], words: &mut Words) -> Result<ScriptLine, Wrong>
     ensures meaning { result_ok result ≡ step_line moment.now words.old }
     ensures askable { IfOk result IsAskableLine }
 {
     let moment = wanted(words, number64(moment), Wanted::Moment)?;
-    let user = take_user(words)?;
-    let form = take_word(words, Wanted::Form)?;
-    let step = step_form(form, words)?;
-    Ok(ScriptLine::Step(moment, user, step))
+    let word = take_word(words, Wanted::User)?;
+    if is_last(word, b"match", words) {
+        return Ok(ScriptLine::Match(moment));
+    }
+    if is_last(word, b"settle", words) {
+        return Ok(ScriptLine::Settle(moment));
+    }
+    asked_line(moment, word, words)
 }
 
 #[tactic(auto, unfolding(crate::specs::ScriptLines::stream_line))]

@@ -2,5 +2,6 @@ pub mod Doing
 pub mod ScriptCuts
 pub mod Texts
 pub mod ScriptRuns
+pub mod Settling
 pub mod ScriptEnds
 pub mod Opened

@@ -24,16 +24,16 @@ use Rattle.gx_session.specs.Devices.{IsFront}
 use Rattle.gx_session.specs.Events.{asks_step, is_over}
 use Rattle.gx_session.specs.Happenings.{Happening}
 use Rattle.gx_session.specs.Happenings as happens
-use Rattle.gx_session.specs.Piping.{who, IsTaken, IsUndone, IsGivenUp, IsPullGivenUp, IsOfSending, IsOfStep, IfFullIsClosed, IsAt, IsMade, IsWithin, IsLeaving, StopsAt, IsCutShort, Follows, Broken, IsFault, LoggedOut, IsAfterFault}
+use Rattle.gx_session.specs.Piping.{who, IsTaken, IsUndone, IsGivenUp, IsPullGivenUp, IsOfSending, IsOfStep, IsOfMatching, IfFullIsClosed, IsMatchedInPart, IsAt, matched_of, IsMade, IsWithin, IsLeaving, StopsAt, IsCutShort, Follows, Broken, IsFault, LoggedOut, IsAfterFault}
 use Rattle.gx_session.specs.Steps.{asked_by, stepped}
 use Rattle.gx_session.specs.Table.{SessionData, row_in, turn}
-use Rattle.gx_session.specs.Transcript.{Run, with_text, silent, and_then, acted, is_on, on_event, ticked, answered, pulled, handled, on_packet, opened, run_of, finished}
+use Rattle.gx_session.specs.Transcript.{Run, with_text, silent, and_then, acted, is_on, on_event, ticked, answered, matched, pulled, handled, on_packet, opened, run_of, finished}
 use Rattle.gx_session.proofs.Runs.{Stands, fold_from}
-use Rattle.gx_session.proofs.Turning.{front_behind, front_longer}
+use Rattle.gx_session.proofs.Turning.{taken_behind, front_behind, front_longer}
 
 module _ (At : GateData → Connection → Type 0) where
   within_after : (t : List ℕ) (run : Run) (more : List ClientPacket) (text : List ℕ) (fault : PipeFault) → IsWithin run more text fault At → IsWithin (with_text t run) more text fault At
-  within_after t run more text fault w = record { packet = w.packet; others = w.others; next = w.next; made = w.made; cause = w.cause; rest = w.rest; front = w.front }
+  within_after t run more text fault w = record { packet = w.packet; others = w.others; next = w.next; made = w.made; rest = w.rest; front = w.front }
 
   stops_after : (fault : PipeFault) (t : List ℕ) (run : Run) (more : List ClientPacket) (text : List ℕ) → StopsAt fault run more text At → StopsAt fault (with_text t run) more text At
   stops_after OutOfMemory t run more text (inl b) = inl b
@@ -110,12 +110,14 @@ module _ (At : GateData → Connection → Type 0) where
       }
 
 module _ (At Then : GateData → Connection → Type 0) (leads : (gate : GateData) (connection : Connection) → At gate connection → Then gate connection) where
-  made_leads : (run : Run) (packet : ClientPacket) → IsMade run packet At → IsMade run packet Then
-  made_leads run packet (inl at) = inl (leads _ _ at)
-  made_leads run packet (inr at) = inr (leads _ _ at)
+  made_leads : (run : Run) (packet : ClientPacket) (text : List ℕ) (fault : PipeFault) → IsMade run packet text fault At → IsMade run packet text fault Then
+  made_leads run packet text fault (inl at) = inl (at.0, leads _ _ at.1)
+  made_leads run packet text fault (inr (inl m)) = inr (inl (record { now = m.now; in_part = m.in_part; is_at = leads _ _ m.is_at; answer = m.answer }))
+  made_leads run packet text fault (inr (inr (inl at))) = inr (inr (inl (at.0, leads _ _ at.1)))
+  made_leads run packet text fault (inr (inr (inr at))) = inr (inr (inr (at.0, leads _ _ at.1)))
 
   within_leads : (run : Run) (more : List ClientPacket) (text : List ℕ) (fault : PipeFault) → IsWithin run more text fault At → IsWithin run more text fault Then
-  within_leads run more text fault w = record { packet = w.packet; others = w.others; next = w.next; made = made_leads run w.packet w.made; cause = w.cause; rest = w.rest; front = w.front }
+  within_leads run more text fault w = record { packet = w.packet; others = w.others; next = w.next; made = made_leads run w.packet text fault w.made; rest = w.rest; front = w.front }
 
   stops_lead : (fault : PipeFault) (run : Run) (more : List ClientPacket) (text : List ℕ) → StopsAt fault run more text At → StopsAt fault run more text Then
   stops_lead OutOfMemory run more text (inl b) = inl (b.0, leads _ _ b.1)
@@ -137,16 +139,51 @@ module _ (At Then : GateData → Connection → Type 0) (leads : (gate : GateDat
 
 -- The first packet was cut short.
 
+abbrev MayStop : (fault : PipeFault) → Type 0
+MayStop OutOfMemory = Unit {0}
+MayStop WriteFailed = Unit {0}
+MayStop DayFull = Unit {0}
+MayStop ReadFailed = ⊥
+MayStop Endless = ⊥
+
+of_sending : (fault : PipeFault) → IsOfSending fault → MayStop fault
+of_sending OutOfMemory k = tt
+of_sending WriteFailed k = tt
+of_sending ReadFailed k = absurd k
+of_sending DayFull k = absurd k
+of_sending Endless k = absurd k
+
+of_matching : (gate : GateData) (fault : PipeFault) → IsOfMatching fault gate → MayStop fault
+of_matching gate OutOfMemory k = tt
+of_matching gate WriteFailed k = absurd k
+of_matching gate ReadFailed k = absurd k
+of_matching gate DayFull k = tt
+of_matching gate Endless k = absurd k
+
+of_pulling : (gate : GateData) (fault : PipeFault) → IfFullIsClosed fault gate → MayStop fault
+of_pulling gate OutOfMemory k = tt
+of_pulling gate WriteFailed k = tt
+of_pulling gate ReadFailed k = absurd k
+of_pulling gate DayFull k = tt
+of_pulling gate Endless k = absurd k
+
 module _ (gate : GateData) (c : Connection) (packet : ClientPacket) (going : is_over c.session.phase ≡ false) where
   abbrev pub row : Run
   row = answered gate (ticked c) packet c.coming
 
-  handled_is : handled gate c packet ≡ and_then row (λ g k. pulled g k c.coming)
-  unfolding handled
-  handled_is = ap (λ b. cond b (silent gate c) (and_then row (λ g k. pulled g k c.coming))) going
+  abbrev pub settled_row : GateData
+  settled_row = (matched row.gate row.connection c.coming).gate
 
-  text_is : (handled gate c packet).text ≡ row.text ++ (pulled row.gate row.connection c.coming).text
-  text_is = ap (λ (r : Run). r.text) handled_is
+  abbrev pub reports : Run
+  reports = pulled settled_row row.connection c.coming
+
+  handled_is : handled gate c packet ≡ with_text row.text reports
+  unfolding handled matched
+  handled_is = ap (λ b. cond b (silent gate c) (and_then row (λ g k. and_then (matched g k c.coming) (λ h l. pulled h l c.coming)))) going
+
+  matched_is : matched_of (silent gate c) packet ≡ record { gate = settled_row; connection = row.connection; text = row.text }
+  unfolding matched
+  matched_is = ap (λ t. record { gate = settled_row; connection = row.connection; text = t }) (append-nil row.text)
 
   undone : (fault : PipeFault) (now : GateData) (state : Connection) (output left : Option (List ℕ)) (others : List ClientPacket) → IsUndone gate (ticked c) fault now state output left → IsCutShort (silent gate c) (packet ∷ others) output left fault (IsAt now state)
   undone fault now state output left others u =
@@ -159,47 +196,70 @@ module _ (gate : GateData) (c : Connection) (packet : ClientPacket) (going : is_
       stops ReadFailed k = absurd k
       stops Endless k = absurd k
 
-  within : (fault : PipeFault) (now : GateData) (state : Connection) (output left : Option (List ℕ)) (others : List ClientPacket) → IsMade (silent gate c) packet (IsAt now state) → IfFullIsClosed fault row.gate → IsFront output left (handled gate c packet).text → IsCutShort (silent gate c) (packet ∷ others) output left fault (IsAt now state)
-  within fault now state output left others made cause f =
-      record { packets = []; more = packet ∷ others; split = refl; text = f.front; written = f.written; stop = stops fault cause }
+  within : (fault : PipeFault) (now : GateData) (state : Connection) (output left : Option (List ℕ)) (others : List ClientPacket) → MayStop fault → (f : IsFront output left (handled gate c packet).text) → IsMade (silent gate c) packet f.front fault (IsAt now state) → IsCutShort (silent gate c) (packet ∷ others) output left fault (IsAt now state)
+  within fault now state output left others may f made =
+      record { packets = []; more = packet ∷ others; split = refl; text = f.front; written = f.written; stop = stops fault may made }
     where
-      there : (e : PipeFault) → IfFullIsClosed e row.gate → IsWithin (silent gate c) (packet ∷ others) f.front e (IsAt now state)
-      there e k = record { packet = packet; others = others; next = refl; made = made; cause = k; rest = f.rest; front = f.whole }
+      there : (e : PipeFault) → IsMade (silent gate c) packet f.front e (IsAt now state) → IsWithin (silent gate c) (packet ∷ others) f.front e (IsAt now state)
+      there e m = record { packet = packet; others = others; next = refl; made = m; rest = f.rest; front = f.whole }
 
-      stops : (e : PipeFault) → IfFullIsClosed e row.gate → StopsAt e (silent gate c) (packet ∷ others) f.front (IsAt now state)
-      stops OutOfMemory k = inr (there OutOfMemory k)
-      stops WriteFailed k = inr (there WriteFailed k)
-      stops DayFull k = inr (there DayFull k)
-      stops ReadFailed k = absurd k
-      stops Endless k = absurd k
+      stops : (e : PipeFault) → MayStop e → IsMade (silent gate c) packet f.front e (IsAt now state) → StopsAt e (silent gate c) (packet ∷ others) f.front (IsAt now state)
+      stops OutOfMemory k m = inr (there OutOfMemory m)
+      stops WriteFailed k m = inr (there WriteFailed m)
+      stops DayFull k m = inr (there DayFull m)
+      stops ReadFailed k m = absurd k
+      stops Endless k m = absurd k
 
-  of_sending : (g : GateData) (fault : PipeFault) → IsOfSending fault → IfFullIsClosed fault g
-  of_sending g OutOfMemory k = tt
-  of_sending g WriteFailed k = tt
-  of_sending g ReadFailed k = absurd k
-  of_sending g DayFull k = absurd k
-  of_sending g Endless k = absurd k
-
-  pulled_at : {output mid : Option (List ℕ)} (then : GateData) (on : Connection) → IsTaken row then on output mid → pulled then on c.coming ≡ pulled row.gate row.connection c.coming
-  pulled_at then on t = ap (λ g. pulled g on c.coming) t.gate ∙ ap (λ k. pulled row.gate k c.coming) t.connection
+  whole_text : (text : List ℕ) → text ≡ row.text ++ reports.text → text ≡ (handled gate c packet).text
+  whole_text text e = e ∙ sym (ap (λ (r : Run). r.text) handled_is)
 
   pub answer_cut : (fault : PipeFault) (now : GateData) (state : Connection) (output left : Option (List ℕ)) → IsGivenUp gate (ticked c) row fault now state output left → (others : List ClientPacket) → IsCutShort (silent gate c) (packet ∷ others) output left fault (IsAt now state)
   answer_cut fault now state output left (inl u) others = undone fault now state output left others u
   answer_cut fault now state output left (inr u) others =
-      within fault now state output left others (inl (u.gate, u.user)) (of_sending row.gate fault u.cause)
-      (subst (IsFront output left) (sym text_is) (front_longer row.text (pulled row.gate row.connection c.coming).text output left u.text))
+      within fault now state output left others (of_sending fault u.cause)
+      (subst (IsFront output left) (whole_text _ refl) (front_longer row.text reports.text output left u.text))
+      (inl (u.cause, (u.gate, u.user)))
 
-  pub pull_cut : (fault : PipeFault) (then now : GateData) (on state : Connection) (output mid left : Option (List ℕ)) → IsTaken row then on output mid → IsPullGivenUp then on c.coming fault now state mid left → (others : List ClientPacket) → IsCutShort (silent gate c) (packet ∷ others) output left fault (IsAt now state)
-  pull_cut fault then now on state output mid left t (inl u) others =
-      within fault now state output left others
-      (inl (u.gate_is ∙ t.gate, u.user ∙ ap who t.connection))
-      (subst (IfFullIsClosed fault) t.gate u.cause)
-      (subst (IsFront output left) (sym (text_is ∙ ap (λ (r : Run). row.text ++ r.text) (sym (pulled_at then on t)))) (front_behind row.text (pulled then on c.coming).text output mid left t.text u.text))
-  pull_cut fault then now on state output mid left t (inr u) others =
-      within fault now state output left others
-      (inr (u.gate ∙ (ap (λ (r : Run). r.gate) (pulled_at then on t) ∙ sym (ap (λ (r : Run). r.gate) handled_is)), u.user ∙ (ap (λ (r : Run). who r.connection) (pulled_at then on t) ∙ sym (ap (λ (r : Run). who r.connection) handled_is))))
-      (of_sending row.gate fault u.cause)
-      (subst (IsFront output left) (sym (text_is ∙ ap (λ (r : Run). row.text ++ r.text) (sym (pulled_at then on t)))) (front_behind row.text (pulled then on c.coming).text output mid left t.text u.text))
+  -- the packet was answered, and a matching step refused
+  pub match_cut : (fault : PipeFault) (then now : GateData) (on : Connection) (output left : Option (List ℕ)) → IsTaken row then on output left → IsMatchedInPart then on c.coming fault now → (others : List ClientPacket) → IsCutShort (silent gate c) (packet ∷ others) output left fault (IsAt now on)
+  match_cut fault then now on output left t part others =
+      let here : IsMatchedInPart row.gate row.connection c.coming fault now = subst (λ k. IsMatchedInPart row.gate k c.coming fault now) t.connection (subst (λ g. IsMatchedInPart g on c.coming fault now) t.gate part) in
+      within fault now on output left others (of_matching now fault part.cause)
+      (record { front = row.text; rest = reports.text; written = t.text; whole = sym (whole_text _ refl) })
+      (inr (inl (record { now = now; in_part = here; is_at = (refl, ap who t.connection); answer = refl })))
+
+  -- the packet was answered, and its matching steps made
+  module _ (met then : GateData) (on : Connection) (output mid : Option (List ℕ)) (t : IsTaken row met on output mid) (settled : then ≡ (matched met on c.coming).gate) where
+    gate_is : then ≡ settled_row
+    gate_is = settled ∙ (ap (λ g. (matched g on c.coming).gate) t.gate ∙ ap (λ k. (matched row.gate k c.coming).gate) t.connection)
+
+    pulled_at : pulled then on c.coming ≡ reports
+    pulled_at = ap (λ g. pulled g on c.coming) gate_is ∙ ap (λ k. pulled settled_row k c.coming) t.connection
+
+    pulled_is : handled gate c packet ≡ with_text row.text (pulled then on c.coming)
+    pulled_is = handled_is ∙ ap (with_text row.text) (sym pulled_at)
+
+    pub take_done : (now : GateData) (state : Connection) (left : Option (List ℕ)) → IsTaken (pulled then on c.coming) now state mid left → IsTaken (handled gate c packet) now state output left
+    take_done now state left p =
+        subst (λ r. IsTaken r now state output left) (sym pulled_is) (taken_behind row.text (pulled then on c.coming) now state output mid left t.text p)
+
+    front_is : (left : Option (List ℕ)) → IsFront mid left (pulled then on c.coming).text → IsFront output left (handled gate c packet).text
+    front_is left f =
+        subst (IsFront output left) (sym (ap (λ (r : Run). r.text) pulled_is)) (front_behind row.text (pulled then on c.coming).text output mid left t.text f)
+
+    pub pull_cut : (fault : PipeFault) (now : GateData) (state : Connection) (left : Option (List ℕ)) → IsPullGivenUp then on c.coming fault now state mid left → (others : List ClientPacket) → IsCutShort (silent gate c) (packet ∷ others) output left fault (IsAt now state)
+    pull_cut fault now state left (inl u) others =
+        within fault now state output left others (of_pulling then fault u.cause) (front_is left u.text)
+        (inr (inr (inl (
+          subst (IfFullIsClosed fault) (gate_is ∙ sym (ap (λ (r : Run). r.gate) matched_is)) u.cause,
+          (u.gate_is ∙ (gate_is ∙ sym (ap (λ (r : Run). r.gate) matched_is)), u.user ∙ (ap who t.connection ∙ sym (ap (λ (r : Run). who r.connection) matched_is))),
+        ))))
+    pull_cut fault now state left (inr u) others =
+        within fault now state output left others (of_sending fault u.cause) (front_is left u.text)
+        (inr (inr (inr (
+          u.cause,
+          (u.gate ∙ sym (ap (λ (r : Run). r.gate) pulled_is), u.user ∙ sym (ap (λ (r : Run). who r.connection) pulled_is)),
+        ))))
 
 -- the packet at this place was cut short
 pub item_cut : (gate : GateData) (connection : Connection) (packets : List ClientPacket) (i : ℕ) (packet : ClientPacket) → i < length packets → packet ≡ get_or packets i packet → (then : GateData) (state : Connection) (output mid left : Option (List ℕ)) (fault : PipeFault) (now : GateData) (after : Connection) → IsTaken (fold on_packet (silent gate connection) (take i packets)) then state output mid → ((others : List ClientPacket) → IsCutShort (silent then state) (packet ∷ others) mid left fault (IsAt now after)) → IsCutShort (silent gate connection) packets output left fault (IsAt now after)

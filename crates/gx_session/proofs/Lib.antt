@@ -5,3 +5,4 @@ pub mod Turning
 pub mod Runs
 pub mod Faults
 pub mod Serving
+pub mod NoneWaits

@@ -16,7 +16,7 @@ use Rattle.gx_session.specs.Happenings as happens
 use Rattle.gx_session.specs.Table.{SessionData, row_in, turn}
 use Rattle.gx_session.specs.declared.session.Phase.{Phase}
 use Rattle.gx_session.specs.declared.session.Phase.TheVariants.{Fresh, Waiting, On, Abandoned, Done}
-use Rattle.gx_session.specs.Transcript.{Run, and_then, control_text, on_event, answered, pulled, ticked, with_text, silent, handled, on_packet, opened, opened_at, run_of, finished, pipe, is_ended}
+use Rattle.gx_session.specs.Transcript.{Run, and_then, control_text, on_event, answered, matched, pulled, ticked, with_text, silent, handled, on_packet, opened, opened_at, run_of, finished, pipe, is_ended}
 use Rattle.gx_session.specs.Piping.{IsTaken, Follows, Exchanged, IsTranscript, IsPipe}
 
 -- text that stands before stays before
@@ -144,7 +144,7 @@ ended input left output written before first gate gate' connection feeder s f wh
 on_done : (run : Run) (p : ClientPacket) → is_over run.connection.session.phase ≡ true → on_packet run p ≡ run
 unfolding handled
 on_done run p h =
-    ap (λ b. with_text run.text (cond b (silent run.gate run.connection) (and_then (answered run.gate (ticked run.connection) p run.connection.coming) (λ g c. pulled g c run.connection.coming)))) h
+    ap (λ b. with_text run.text (cond b (silent run.gate run.connection) (and_then (answered run.gate (ticked run.connection) p run.connection.coming) (λ g c. and_then (matched g c run.connection.coming) (λ g c. pulled g c run.connection.coming))))) h
     ∙ ap (λ t. record { gate = run.gate; connection = run.connection; text = t }) (append-nil run.text)
 
 fold_done : (ps : List ClientPacket) (run : Run) → is_over run.connection.session.phase ≡ true → fold on_packet run ps ≡ run

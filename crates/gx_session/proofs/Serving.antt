@@ -1,7 +1,7 @@
 -- What a connection was sent: the session table keeps it from packet to packet.
-use Rattle.std.proofs.Common.{◌≡◌, ℕ, ◌+◌, ◌-◌, ◌≤◌, max, Bool, true, false, cond, not, ◌&&◌, ◌==◌, nat_le, List, [], ◌∷◌, ◌++◌, length, drop, Option, Some, refl, sym, ap, ◌∙◌, subst, append-nil, append_assoc, arith, length-append, length-drop}
+use Rattle.std.proofs.Common.{◌≡◌, ℕ, ◌+◌, ◌-◌, ◌≤◌, max, Bool, true, false, cond, not, ◌&&◌, ◌==◌, nat_le, List, [], ◌∷◌, ◌++◌, length, drop, Option, None, Some, refl, sym, ap, ◌∙◌, subst, append-nil, append_assoc, arith, length-append, length-drop}
 use Rattle.std.specs.Prelude.{fold}
-use Rattle.std.specs.List.{flat_map}
+use Rattle.std.specs.List.{flat_map, AllByRecursion}
 use Rattle.std.specs.Option.{option_map_or}
 use Rattle.std.proofs.lemmas.Bool.Decides.{nat_tests}
 use Rattle.std.proofs.lemmas.List.{drop-append-le, drop_at}
@@ -28,6 +28,7 @@ use Rattle.gx_history.specs.declared.report.Report.{Report}
 use Rattle.gx_history.specs.Asking.{facts}
 use Rattle.gx_history.specs.Logins.{first_wanted}
 use Rattle.gx_history.specs.Payloads.{request_of}
+use Rattle.gx_history.specs.Requests.{asked}
 use Rattle.gx_history.specs.RuleNames.{rules_before}
 use Rattle.gx_history.specs.Rules.{forbids}
 use Rattle.gx_history.specs.Streams.{stream, reports_of}
@@ -35,7 +36,10 @@ use Rattle.gx_history.specs.Verdicts.{next, verdict, facts_now, moment_of}
 use Rattle.gx_history_laws.proofs.Granting.{granted_passes_before, left_by_request}
 use Rattle.gx_history_laws.proofs.NextReports.{stream_next}
 use Rattle.gx_history_laws.proofs.Order.{none_among}
+use Rattle.gx_history_laws.proofs.Owners.{all_both}
+use Rattle.gx_effects.proofs.Settling.{settled_adds}
 use Rattle.gx_core.specs.Gates.{GateData}
+use Rattle.gx_core.specs.Matches.{settled_gate}
 use Rattle.gx_core.specs.Logins.{login_answered}
 use Rattle.gx_core.specs.declared.outcome.LoginAnswer.{LoginAnswer}
 use Rattle.gx_core.specs.declared.outcome.LoginAnswer.TheVariants as answers
@@ -44,10 +48,10 @@ use Rattle.gx_session.specs.declared.connection.Connection.{Connection}
 use Rattle.gx_session.specs.declared.session.Phase.{Phase}
 use Rattle.gx_session.specs.declared.session.Phase.TheVariants.{Fresh, Waiting, On, Abandoned, Done}
 use Rattle.gx_session.specs.Happenings as happens
-use Rattle.gx_session.specs.Serving.{owed, IsServed, Serves}
+use Rattle.gx_session.specs.Serving.{owed, IsServed, HasOnlyMatched, Serves}
 use Rattle.gx_session.specs.Steps.{asked_by, stepped, login_asked_at, login_told}
 use Rattle.gx_session.specs.Table.{turn}
-use Rattle.gx_session.specs.Transcript.{Run, with_text, on_event, first_told, logged_in, answered, report_packet, reports_text, sent, pulled, handled, on_packet, opened, run_of, later}
+use Rattle.gx_session.specs.Transcript.{Run, with_text, on_event, first_told, logged_in, answered, report_packet, reports_text, sent, matched, pulled, handled, on_packet, opened, run_of, later}
 
 -- reports that come one after the other are spelled one after the other
 spelled_on : (xs ys : List Report) → flat_map report_packet (xs ++ ys) ≡ flat_map report_packet xs ++ flat_map report_packet ys
@@ -75,6 +79,46 @@ stream_on gate a user = (
   ap (λ (o : Option RecordData). stream gate.policy (option_map_or (λ (x : RecordData). gate.records ++ x ∷ []) o gate.records) (folded_user user)) (left_is gate a)
       ∙ stream_next gate.policy gate.records (left_of gate a) (folded_user user),
 )
+
+-- records add reports behind those that are there
+stream_grows : (policy : PolicyData) (history more : List RecordData) (user : UserName) → (reports : List Report) × (stream policy (history ++ more) user ≡ stream policy history user ++ reports)
+stream_grows policy history [] user = ([], ap (λ h. stream policy h user) (append-nil history) ∙ sym (append-nil (stream policy history user)))
+stream_grows policy history (r ∷ more) user =
+    let rest = stream_grows policy (history ++ r ∷ []) more user in
+    let news = reports_of policy user (history, r) in (
+      news ++ rest.0,
+      ap (λ h. stream policy h user) (sym (append_assoc history (r ∷ []) more))
+          ∙ (rest.1 ∙ (ap (λ s. s ++ rest.0) (stream_next policy history r user) ∙ append_assoc (stream policy history user) news rest.0)),
+    )
+
+-- matching steps add reports behind those that are there
+settled_on : (gate : GateData) (moment : ℕ) (user : UserName) → (more : List Report) × (owed (settled_gate gate moment) user ≡ owed gate user ++ more)
+settled_on gate moment user =
+    let adds = settled_adds gate.policy gate.records moment in
+    let grown = stream_grows gate.policy gate.records adds.more (folded_user user) in
+    (grown.0, ap (λ h. stream gate.policy h (folded_user user)) adds.goes_on ∙ grown.1)
+
+-- and so do a step and the matching steps that follow it
+step_settled_on : (gate : GateData) (a : Asked) (moment : ℕ) (user : UserName) → (more : List Report) × (owed (settled_gate (stepped gate a) moment) user ≡ owed gate user ++ more)
+step_settled_on gate a moment user =
+    let one = stream_on gate a user in
+    let rest = settled_on (stepped gate a) moment user in
+    (one.0 ++ rest.0, rest.1 ∙ (ap (λ s. s ++ rest.0) one.1 ∙ append_assoc (owed gate user) one.0 rest.0))
+
+-- matching steps ask for nothing
+ask_nothing : (moment : ℕ) (rs : List RecordData) → AllByRecursion (λ (r : RecordData). r.step ≡ steps.Matching moment) rs → AllByRecursion (λ (r : RecordData). asked r.step ≡ None) rs
+ask_nothing moment [] h = tt
+ask_nothing moment (r ∷ rs) h = (ap asked h.0, ask_nothing moment rs h.1)
+
+only_matched : (before gate : GateData) (moment : ℕ) → HasOnlyMatched before gate → HasOnlyMatched before (settled_gate gate moment)
+only_matched before gate moment h =
+    let adds = settled_adds gate.policy gate.records moment in
+    record {
+      policy_kept = h.policy_kept;
+      more = h.more ++ adds.more;
+      goes_on = adds.goes_on ∙ (ap (λ (rs : List RecordData). rs ++ adds.more) h.goes_on ∙ append_assoc before.records h.more adds.more);
+      are_matches = all_both (λ (r : RecordData). asked r.step ≡ None) h.more adds.more h.are_matches (ask_nothing moment adds.more adds.are_matches);
+    }
 
 -- what was sent, once more reports were sent behind it
 served_more : (gate gate' : GateData) (text : List ℕ) (user : UserName) (next : ℕ) (more : List Report) → IsServed gate text user next
@@ -242,34 +286,43 @@ login_run gate heard spoke login coming moment answer =
 after_login : (before gate : GateData) (text : List ℕ) (heard spoke : ℕ) (login : LoginRequest) (coming moment : ℕ) → text ≡ [] → (answer : LoginAnswer)
     → login_told gate moment login ≡ answer
     → let run = login_run (stepped gate (login_asked_at gate moment login)) heard spoke login coming moment answer in
-    ServesRun before (with_text text (with_text run.text (pulled run.gate run.connection moment)))
-unfolding on_event turn pulled
+    ServesRun before (with_text text (with_text run.text (pulled (matched run.gate run.connection moment).gate run.connection moment)))
+unfolding on_event turn matched pulled
 after_login before gate text heard spoke login coming moment none (answers.Accepted name from) e =
+    let asks = login_asked_at gate moment login in
+    let now = settled_gate (stepped gate asks) moment in
     let k = accepted_is gate moment login name from e in
-    after_pull before (stepped gate (login_asked_at gate moment login)) text (server_bytes (server.Accepted name from)) heard (max spoke moment) login.user from coming moment
-    (served_first (stepped gate (login_asked_at gate moment login)) text login.user name from none k.named k.counts_from_one k.is_there)
+    let more = settled_on (stepped gate asks) moment login.user in
+    let longer : length (owed now login.user) ≡ length (owed (stepped gate asks) login.user) + length more.0 = ap length more.1 ∙ length-append (owed (stepped gate asks) login.user) more.0 in
+    after_pull before now text (server_bytes (server.Accepted name from)) heard (max spoke moment) login.user from coming moment
+    (served_first now text login.user name from none k.named k.counts_from_one (omega (arith, longer, k.is_there)))
 after_login before gate text heard spoke login coming moment none (answers.Rejected reason) e = tt
 
 -- what was sent by one packet more
 serves_next : (before gate : GateData) (text : List ℕ) (phase : Phase) (heard spoke : ℕ) (user : UserName) (number coming : ℕ) (packet : ClientPacket) → Serves before gate text user number phase
     → ServesRun before (on_packet (record { gate = gate; connection = record { session = record { phase = phase; heard = heard; sent = spoke }; user = user; next = number; coming = coming }; text = text }) packet)
-unfolding handled answered on_event turn logged_in pulled
+unfolding handled answered on_event turn logged_in matched pulled
 serves_next before gate text Fresh heard spoke user number coming (client.Login login) h =
     after_login before gate text (max heard coming) spoke login (later coming) coming h.1 _ refl
 serves_next before gate text Fresh heard spoke user number coming (client.Data payload) h = tt
 serves_next before gate text Fresh heard spoke user number coming client.Logout h = tt
-serves_next before gate text Fresh heard spoke user number coming client.Heartbeat h = (h.0, append-nil text ∙ h.1)
-serves_next before gate text Fresh heard spoke user number coming client.Debug h = (h.0, append-nil text ∙ h.1)
+serves_next before gate text Fresh heard spoke user number coming client.Heartbeat h = (only_matched before gate coming h.0, append-nil text ∙ h.1)
+serves_next before gate text Fresh heard spoke user number coming client.Debug h = (only_matched before gate coming h.0, append-nil text ∙ h.1)
 serves_next before gate text On heard spoke user number coming (client.Data payload) h =
     let a = asked_by user (request_of payload) coming in
-    let more = stream_on gate a user in
-    after_pull before (stepped gate a) text [] (max heard coming) spoke user number (later coming) coming (served_more gate (stepped gate a) text user number more.0 h refl more.1)
+    let more = step_settled_on gate a coming user in
+    after_pull before (settled_gate (stepped gate a) coming) text [] (max heard coming) spoke user number (later coming) coming
+    (served_more gate (settled_gate (stepped gate a) coming) text user number more.0 h refl more.1)
 serves_next before gate text On heard spoke user number coming (client.Login login) h = tt
 serves_next before gate text On heard spoke user number coming client.Logout h = tt
 serves_next before gate text On heard spoke user number coming client.Heartbeat h =
-    after_pull before gate text [] (max heard coming) spoke user number (later coming) coming (served_more gate gate text user number [] h refl (sym (append-nil (owed gate user))))
+    let more = settled_on gate coming user in
+    after_pull before (settled_gate gate coming) text [] (max heard coming) spoke user number (later coming) coming
+    (served_more gate (settled_gate gate coming) text user number more.0 h refl more.1)
 serves_next before gate text On heard spoke user number coming client.Debug h =
-    after_pull before gate text [] (max heard coming) spoke user number (later coming) coming (served_more gate gate text user number [] h refl (sym (append-nil (owed gate user))))
+    let more = settled_on gate coming user in
+    after_pull before (settled_gate gate coming) text [] (max heard coming) spoke user number (later coming) coming
+    (served_more gate (settled_gate gate coming) text user number more.0 h refl more.1)
 serves_next before gate text Waiting heard spoke user number coming packet h = absurd h
 serves_next before gate text Abandoned heard spoke user number coming packet h = absurd h
 serves_next before gate text Done heard spoke user number coming packet h = tt
@@ -282,7 +335,9 @@ serves_all before (packet ∷ packets) run h =
 
 run_serves : (gate : GateData) (first : ℕ) (bytes : List ℕ) → ServesRun gate (run_of gate first bytes)
 unfolding run_of
-run_serves gate first bytes = serves_all gate (packets_of bytes).packets (opened gate first) (refl, refl)
+run_serves gate first bytes =
+    let nothing : HasOnlyMatched gate gate = record { policy_kept = refl; more = []; goes_on = sym (append-nil gate.records); are_matches = tt } in
+    serves_all gate (packets_of bytes).packets (opened gate first) (nothing, refl)
 
 pub served_in : (gate : GateData) (first : ℕ) (bytes : List ℕ) (phase : Phase) → (run_of gate first bytes).connection.session.phase ≡ phase
     → let run = run_of gate first bytes in Serves gate run.gate run.text run.connection.user run.connection.next phase

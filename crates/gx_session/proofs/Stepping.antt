@@ -1,5 +1,5 @@
--- What a step and a pull make of a gate.
-use Rattle.std.proofs.Common.{◌≡◌, ℕ, ◌<◌, List, [], ◌∷◌, ◌++◌, length, take, Option, Some, refl, sym, ap, ◌∙◌, arith, length-take}
+-- What a step, matching steps and a pull make of a gate.
+use Rattle.std.proofs.Common.{◌≡◌, ℕ, ◌<◌, false, is_some, List, [], ◌∷◌, ◌++◌, length, take, Option, None, Some, option_map, refl, sym, ap, ◌∙◌, arith, length-take}
 use Rattle.std.specs.Option.{option_map_or}
 use Rattle.std.proofs.lemmas.List.{take_all}
 use Rattle.gx_units.specs.Spelling.{folded_user}
@@ -12,7 +12,9 @@ use Rattle.gx_history.specs.declared.record.Verdict.{Verdict}
 use Rattle.gx_history.specs.declared.policy.PolicyData.{PolicyData}
 use Rattle.gx_history.specs.Verdicts.{next, verdict, after_step}
 use Rattle.gx_history_laws.proofs.Granting.{verdict_of_next}
-use Rattle.gx_core.specs.Gates.{GateData, left_by}
+use Rattle.gx_effects.proofs.Settling.{settled_idle}
+use Rattle.gx_core.specs.Gates.{GateData, left_by, matched_by}
+use Rattle.gx_core.specs.Matches.{next_match, with_match, settled_gate, IsSettling}
 use Rattle.gx_core.specs.Logins.{login_answered}
 use Rattle.gx_core.specs.declared.outcome.LoginAnswer.{LoginAnswer}
 use Rattle.gx_core.specs.declared.outcome.Outcome.{Outcome}
@@ -49,3 +51,10 @@ told_is gate moment login after a o user answer asked p n r u e =
 -- fewer than were asked for are all
 pub all_taken : {X : Type 0} (xs : List X) (most : ℕ) → length (take most xs) < most → take most xs ≡ xs
 all_taken xs most h = take_all most xs (omega (arith, h, length-take most xs))
+
+-- where no step more is to be made, all are
+pub settled_here : (before now after : GateData) (moment : ℕ) (found : Option Outcome) → is_some found ≡ false → IsSettling before moment now
+    → next_match now moment ≡ option_map (matched_by moment) found → after ≡ with_match now moment found → after ≡ settled_gate before moment
+settled_here before now after moment None none s left e =
+    e ∙ (sym (ap (λ (rs : List RecordData). record { policy = now.policy; records = rs }) (settled_idle now.policy now.records moment left)) ∙ s.goes_on)
+settled_here before now after moment (Some o) none s left e = cc

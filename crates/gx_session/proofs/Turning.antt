@@ -107,7 +107,7 @@ pull_asks_at_the_end session count ended moment h = row_pulled session.phase cou
 
 -- Text behind text.
 
-taken_behind : (text : List ℕ) (run : Run) (now : GateData) (state : Connection) (output mid left : Option (List ℕ)) → Appends output mid text → IsTaken run now state mid left → IsTaken (with_text text run) now state output left
+pub taken_behind : (text : List ℕ) (run : Run) (now : GateData) (state : Connection) (output mid left : Option (List ℕ)) → Appends output mid text → IsTaken run now state mid left → IsTaken (with_text text run) now state output left
 taken_behind text run now state output mid left w t = record { gate = t.gate; connection = t.connection; text = Appends-trans output mid left text run.text w t.text }
 
 pub front_behind : (text more : List ℕ) (output mid left : Option (List ℕ)) → Appends output mid text → IsFront mid left more → IsFront output left (text ++ more)

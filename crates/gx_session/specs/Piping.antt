@@ -1,5 +1,5 @@
 -- What a connection did to a reader, a writer and a gate.
-use Rattle.std.specs.Prelude.{◌≡◌, ℕ, ◌+◌, ◌≤◌, max, Bool, true, ◌⊎◌, if◌then◌else◌, IsTrue, is_some, List, [], ◌∷◌, ◌++◌, fold, length, Option, Some, None}
+use Rattle.std.specs.Prelude.{◌≡◌, ℕ, ◌+◌, ◌≤◌, max, Bool, true, ◌⊎◌, if◌then◌else◌, IsTrue, IsFalse, is_some, List, [], ◌∷◌, ◌++◌, fold, length, Option, Some, None}
 use Rattle.std.specs.Io.KnownBytes.{Consumes, Appends, IsAtEnd}
 use Rattle.gx_units.specs.declared.names.UserName.{UserName}
 use Rattle.gx_soup.specs.declared.packet.ClientPacket.{ClientPacket}
@@ -9,16 +9,18 @@ use Rattle.gx_history.specs.InForce.{is_closed}
 use Rattle.gx_history.specs.declared.report.Report.{Report}
 use Rattle.gx_history.specs.declared.record.Request.TheVariants as requests
 use Rattle.gx_core.specs.Gates.{GateData}
+use Rattle.gx_core.specs.Matches.{matching_of, IsSettling}
+use Rattle.gx_core.specs.Steps.{IsFull}
 use Rattle.gx_session.specs.declared.connection.Connection.{Connection}
 use Rattle.gx_session.specs.declared.fault.PipeFault.{PipeFault}
 use Rattle.gx_session.specs.declared.fault.PipeFault.TheVariants as faults
 use Rattle.gx_session.specs.Devices.{IsFront}
-use Rattle.gx_session.specs.Events.{asks_step}
+use Rattle.gx_session.specs.Events.{asks_step, is_over}
 use Rattle.gx_session.specs.Happenings.{Happening}
 use Rattle.gx_session.specs.Happenings as happens
 use Rattle.gx_session.specs.Steps.{asked_by, stepped}
 use Rattle.gx_session.specs.Table.{turn}
-use Rattle.gx_session.specs.Transcript.{Run, silent, unsent, is_on, ticked, on_event, answered, pulled, handled, on_packet, opened, run_of, pipe, is_ended}
+use Rattle.gx_session.specs.Transcript.{Run, silent, and_then, unsent, is_on, ticked, on_event, answered, matched, pulled, handled, on_packet, opened, run_of, pipe, is_ended}
 
 -- the user who is logged in
 abbrev pub who : Connection → Option UserName
@@ -92,6 +94,21 @@ IsPullGivenUp gate connection moment fault now state output left =
     IsPartlySent gate connection (pulled gate connection moment) fault now state output left
     ⊎ IsUnsent (pulled gate connection moment) fault now state output left
 
+-- a fault of a matching step: a growth was refused, or the day is full
+abbrev pub IsOfMatching : PipeFault → GateData → Type 0
+IsOfMatching faults.OutOfMemory gate = Unit {0}
+IsOfMatching faults.WriteFailed gate = ⊥
+IsOfMatching faults.ReadFailed gate = ⊥
+IsOfMatching faults.DayFull gate = IsFull gate
+IsOfMatching faults.Endless gate = ⊥
+
+-- some of the matching steps of this moment were made, and the next one, for an order that waits, was refused
+pub record IsMatchedInPart (gate : GateData) (connection : Connection) (moment : ℕ) (fault : PipeFault) (now : GateData) : Type 0 where
+  pub goes_on : IsFalse (is_over connection.session.phase)
+  pub matches : IsSettling gate moment now
+  pub waits : IsTrue (is_some (matching_of now))
+  pub cause : IsOfMatching fault now
+
 -- a pull gives all that is there: the reports, the number behind them, and whether the day is closed
 pub record GivesAll (gate : GateData) (c : Connection) (reports : List Report) (next : ℕ) (ended : Bool) : Type 0 where
   pub reports_are : reports ≡ unsent gate c
@@ -116,22 +133,36 @@ IsAt now state gate connection = (now ≡ gate) × (who state ≡ who connection
 abbrev pub IsBetween : Run → List ℕ → (GateData → Connection → Type 0) → Type 0
 IsBetween run text At = (text ≡ []) × At run.gate run.connection
 
--- the next packet, and what the session table asks for at it; no reports yet
+-- the next packet, and what the session table asks for at it; no matching steps yet
 abbrev pub row_of : Run → ClientPacket → Run
 row_of run packet = answered run.gate (ticked run.connection) packet run.connection.coming
 
--- the next packet's row of the session table is done, perhaps with the end of the day's session behind it
-abbrev pub IsMade : Run → ClientPacket → (GateData → Connection → Type 0) → Type 0
-IsMade run packet At =
-    At (row_of run packet).gate (row_of run packet).connection ⊎ At (on_packet run packet).gate (on_packet run packet).connection
+-- the next packet's row of the session table, and the matching steps that follow it; no reports yet
+abbrev pub matched_of : Run → ClientPacket → Run
+matched_of run packet = and_then (row_of run packet) (λ g c. matched g c run.connection.coming)
 
--- the next packet's step is made, and a front of its answer written
+-- the row of a packet is done and answered, and some of the matching steps of its moment are made
+pub record IsMatching (row : Run) (moment : ℕ) (text : List ℕ) (fault : PipeFault) (At : GateData → Connection → Type 0) : Type 0 where
+  pub now : GateData
+  pub in_part : IsMatchedInPart row.gate row.connection moment fault now
+  pub is_at : At now row.connection
+  pub answer : text ≡ row.text
+
+-- the next packet's row of the session table is done; or some of the matching steps that follow; or all of these; or also the
+-- end of the day's session behind them
+abbrev pub IsMade : Run → ClientPacket → List ℕ → PipeFault → (GateData → Connection → Type 0) → Type 0
+IsMade run packet text fault At =
+    (IsOfSending fault × At (row_of run packet).gate (row_of run packet).connection)
+    ⊎ (IsMatching (row_of run packet) run.connection.coming text fault At
+    ⊎ ((IfFullIsClosed fault (matched_of run packet).gate × At (matched_of run packet).gate (matched_of run packet).connection)
+    ⊎ (IsOfSending fault × At (on_packet run packet).gate (on_packet run packet).connection)))
+
+-- the next packet's steps are made in part, and a front of its answer written
 pub record IsWithin (run : Run) (more : List ClientPacket) (text : List ℕ) (fault : PipeFault) (At : GateData → Connection → Type 0) : Type 0 where
   pub packet : ClientPacket
   pub others : List ClientPacket
   pub next : more ≡ packet ∷ others
-  pub made : IsMade run packet At
-  pub cause : IfFullIsClosed fault (row_of run packet).gate
+  pub made : IsMade run packet text fault At
   pub rest : List ℕ
   pub front : (handled run.gate run.connection packet).text ≡ text ++ rest
 
@@ -141,7 +172,8 @@ StopsAt faults.ReadFailed run more text At = (more ≡ []) × IsBetween run text
 StopsAt faults.Endless run more text At = (more ≡ []) × IsBetween run text At
 StopsAt fault run more text At = IsBetween run text At ⊎ IsWithin run more text fault At
 
--- The first of the packets were taken and answered whole; of the next one perhaps a step and a front of its answer.
+-- The first of the packets were taken and answered whole; of the next one perhaps some steps and a front of its
+-- answer.
 pub record IsCutShort (start : Run) (all : List ClientPacket) (output left : Option (List ℕ)) (fault : PipeFault) (At : GateData → Connection → Type 0) : Type 0 where
   pub packets : List ClientPacket
   pub more : List ClientPacket
@@ -206,6 +238,6 @@ LoggedOut after gate connection =
     (after ≡ gate) ⊎ ((user : UserName) × (moment : ℕ) × (who connection ≡ Some user) × (after ≡ stepped gate (asked_by user requests.Logout moment)))
 
 -- After a fault: of the packets of the bytes read, the first were taken and answered whole, and of the next one perhaps
--- a step and a front of its answer; the gate is that of these packets, perhaps with the user's logout.
+-- some steps and a front of its answer; the gate is that of these packets, perhaps with the user's logout.
 abbrev pub IsAfterFault : (input left output written : Option (List ℕ)) → GateData → ℕ → GateData → PipeFault → Type 0
 IsAfterFault input left output written before first after fault = IsFault input left output written before first fault (LoggedOut after)

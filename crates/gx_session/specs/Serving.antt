@@ -1,10 +1,13 @@
 -- What a connection was sent, in other words than the session table's.
-use Rattle.std.specs.Prelude.{◌≡◌, ℕ, ◌+◌, ◌-◌, ◌≤◌, List, [], ◌++◌, length, drop}
+use Rattle.std.specs.Prelude.{◌≡◌, ℕ, ◌+◌, ◌-◌, ◌≤◌, None, List, [], ◌++◌, length, drop}
+use Rattle.std.specs.List.{AllByRecursion}
 use Rattle.gx_units.specs.Spelling.{folded_user}
 use Rattle.gx_units.specs.declared.names.UserName.{UserName}
 use Rattle.gx_soup.specs.declared.packet.ServerPacket.TheVariants as server
 use Rattle.gx_soup.specs.Writing.{server_bytes}
+use Rattle.gx_history.specs.declared.record.RecordData.{RecordData}
 use Rattle.gx_history.specs.declared.report.Report.{Report}
+use Rattle.gx_history.specs.Requests.{asked}
 use Rattle.gx_history.specs.Streams.{stream}
 use Rattle.gx_core.specs.Gates.{GateData}
 use Rattle.gx_session.specs.declared.session.Phase.{Phase}
@@ -24,17 +27,24 @@ pub record IsServed (gate : GateData) (text : List ℕ) (user : UserName) (next 
   pub is_available : from ≤ length (owed gate user) + 1
   pub follows : next ≡ length (owed gate user) + 1
 
--- by how far the session has come: nothing is written, and no step made, before a login is answered
+-- the policy is the same, and the records after those of before are all of matching steps
+pub record HasOnlyMatched (before now : GateData) : Type 0 where
+  pub policy_kept : now.policy ≡ before.policy
+  pub more : List RecordData
+  pub goes_on : now.records ≡ before.records ++ more
+  pub are_matches : AllByRecursion (λ (r : RecordData). asked r.step ≡ None) more
+
+-- by how far the session has come: nothing is written, and no step but matching steps made, before a login is answered
 abbrev pub Serves : GateData → GateData → List ℕ → UserName → ℕ → Phase → Type 0
-Serves before gate text user next Fresh = (gate ≡ before) × (text ≡ [])
+Serves before gate text user next Fresh = HasOnlyMatched before gate × (text ≡ [])
 Serves before gate text user next Waiting = ⊥
 Serves before gate text user next On = IsServed gate text user next
 Serves before gate text user next Abandoned = ⊥
 Serves before gate text user next Done = Unit {0}
 
--- no step was made, and nothing written
+-- no step was made but matching steps, and nothing written
 abbrev pub IsSilent : GateData → Run → Type 0
-IsSilent before run = (run.gate ≡ before) × (run.text ≡ [])
+IsSilent before run = HasOnlyMatched before run.gate × (run.text ≡ [])
 
 -- the user of the run was sent his stream from the number that he asked for
 abbrev pub WasServed : Run → Type 0

@@ -15,6 +15,7 @@ use Rattle.gx_history.specs.InForce.{is_closed}
 use Rattle.gx_history.specs.ReportBytes.{report_bytes}
 use Rattle.gx_history.specs.Streams.{stream}
 use Rattle.gx_core.specs.Gates.{GateData}
+use Rattle.gx_core.specs.Matches.{settled_gate}
 use Rattle.gx_core.specs.declared.outcome.LoginAnswer.{LoginAnswer}
 use Rattle.gx_core.specs.declared.outcome.LoginAnswer.TheVariants as answers
 use Rattle.gx_session.specs.declared.connection.Connection.{Connection}
@@ -104,6 +105,10 @@ answered gate connection packet moment =
     and_then (on_event gate connection (happens.Packet packet) moment) (λ g c.
     with_login g c moment (login_in packet (turn connection.session (happens.Packet packet) moment).reply.next))
 
+-- matching steps until no order waits; none once the session is over
+unfoldable pub matched : GateData → Connection → ℕ → Run
+matched gate connection moment = silent (if is_over connection.session.phase then gate else settled_gate gate moment) connection
+
 -- a report in a Sequenced Data packet
 abbrev pub report_packet : Report → List ℕ
 report_packet report = server_bytes (server.Sequenced (report_bytes report))
@@ -141,11 +146,13 @@ later moment = min (moment + 1) (2 ^ 64 - 1)
 abbrev pub ticked : Connection → Connection
 ticked connection = record connection { coming = later connection.coming }
 
--- a packet at its moment: the session is told of it, and then reports are sent; nothing once the session is over
+-- a packet at its moment: the session is told of it, orders are matched until none waits, and then reports are sent;
+-- nothing once the session is over
 unfoldable pub handled : GateData → Connection → ClientPacket → Run
 handled gate connection packet =
     if is_over connection.session.phase then silent gate connection
-    else and_then (answered gate (ticked connection) packet connection.coming) (λ g c. pulled g c connection.coming)
+    else and_then (answered gate (ticked connection) packet connection.coming) (λ g c.
+    and_then (matched g c connection.coming) (λ g c. pulled g c connection.coming))
 
 abbrev pub on_packet : Run → ClientPacket → Run
 on_packet run packet = and_then run (λ g c. handled g c packet)

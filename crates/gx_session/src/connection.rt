@@ -1,18 +1,21 @@
 //! A connection: what happens to its session, done to the gate and to the writer.
 
-ghost use Rattle.std.specs.Prelude.{◌≡◌, ◌-◌, ◌^◌, ◌<◌, ◌≤◌, List, ◌∷◌, length, IfOk, IfErr, OnOk, OnErr, IsTrue};
+ghost use Rattle.std.specs.Prelude.{◌≡◌, ◌-◌, ◌^◌, ◌<◌, ◌≤◌, List, ◌∷◌, length, is_some, IfOk, IfErr, OnOk, OnErr, IsTrue};
 ghost use Rattle.std.specs.Io.KnownBytes.{Appends};
+ghost use Rattle.gx_core.specs.Matches.{matching_of, settled_gate, IsSettling};
 ghost use Rattle.gx_soup.specs.declared.packet.ClientPacket.{ClientPacket};
 ghost use Rattle.gx_session.specs.declared.session.Phase.TheVariants.{Waiting};
 ghost use Rattle.gx_session.specs.Devices.{IsFront, IsToldFull, IsToldRightly, IsFinite, IsBlamed};
+ghost use Rattle.gx_session.specs.Devices.{fault_of_step};
 ghost use Rattle.gx_session.specs.Events.{CanAsk, asks_step, is_over};
 ghost use Rattle.gx_session.specs.Happenings.{happening};
 ghost use Rattle.gx_session.specs.Piping.{IsTaken, IsGivenUp};
 ghost use Rattle.gx_session.specs.Piping.{IsTurnGivenUp, IsPullGivenUp, IsAt};
-ghost use Rattle.gx_session.specs.Piping.{GivesAll, IsCutShort, IsLeaving};
+ghost use Rattle.gx_session.specs.Piping.{GivesAll, IsCutShort, IsLeaving, IsMatchedInPart};
 ghost use Rattle.gx_session.specs.Table.{turn};
 ghost use Rattle.gx_session.specs.Transcript.{acted, control_bytes, silent, on_event, logged_in, answered};
-ghost use Rattle.gx_session.specs.Transcript.{pulled, is_on, handled, opened_at, finished, first_told};
+ghost use Rattle.gx_session.specs.Transcript.{matched, pulled, is_on, handled, opened_at};
+ghost use Rattle.gx_session.specs.Transcript.{finished, first_told};
 
 use crate::asking::{asked, count_of, login_step};
 use crate::counted::Counted;
@@ -80,6 +83,20 @@ fn send<W: Write>(alloc: Global, control: Control, writer: &mut Counted<W>) -> R
     };
     let bytes = encode(alloc, &packet)?;
     write_whole(writer, bytes.as_slice())?;
+    Ok(())
+}
+
+/// Makes matching steps at this moment until no order waits.
+///
+/// A refused step ends it. Those before it stand, and an order still waits.
+fn settle(gate: &mut Gate, moment: u64) -> Result<(), StepFault>
+    ensures ok { OnOk result (gate.new ≡ settled_gate gate.old moment) }
+    ensures err { OnErr result (IsSettling gate.old moment gate.new) }
+    ensures waits { OnErr result (IsTrue (is_some (matching_of gate.new))) }
+    ensures grows { length gate.old.records ≤ length gate.new.records }
+    ensures full { IfErr result (IsToldFull gate.new) }
+{
+    while gate.match_one(moment)?.is_some() {}
     Ok(())
 }
 
@@ -189,6 +206,20 @@ impl Connection {
         }
     }
 
+    /// Makes the matching steps that follow a packet; none once the session is over.
+    #[tactic(auto, unfolding(crate::specs::Transcript::matched))]
+    fn match_orders(&self, gate: &mut Gate, moment: u64) -> Result<(), StepFault>
+        ensures ok { OnOk result (gate.new ≡ (matched gate.old self.now moment).gate) }
+        ensures err { IfErr result (λ refused. IsMatchedInPart
+            gate.old self.now moment (fault_of_step refused) gate.new) }
+        ensures full { IfErr result (IsToldFull gate.new) }
+    {
+        if self.is_over() {
+            return Ok(());
+        }
+        settle(gate, moment)
+    }
+
     /// All reports that are there.
     fn reports(&self, gate: &Gate) -> Result<Pulled, OutOfMemory>
         ensures all { IfOk result (λ p. GivesAll gate.now self.now p.reports p.next p.ended) }
@@ -229,8 +260,8 @@ impl Connection {
         Ok(())
     }
 
-    /// Takes a packet at its moment: tells the session of it, and then sends reports.
-    /// Nothing once the session is over.
+    /// Takes a packet at its moment: tells the session of it, makes matching steps until no order
+    /// waits, and then sends reports. Nothing once the session is over.
     #[tactic(auto, unfolding(crate::specs::Transcript::handled))]
     pub(crate) fn take<W: Write>(
         &mut self,
@@ -257,6 +288,7 @@ impl Connection {
         let moment = self.coming;
         self.coming = moment.saturating_add(1);
         self.answer(alloc, gate, packet, moment, writer)?;
+        self.match_orders(gate, moment)?;
         self.pull(alloc, gate, moment, writer)
     }
 

@@ -1,8 +1,11 @@
 //! Laws of the session table and of the transcript: what was meant, in other words.
 
-ghost use Rattle.std.specs.Prelude.{◌≡◌, ℕ, ◌≤◌, List, ◌++◌, count_by, IsTrue};
+ghost use Rattle.std.specs.Prelude.{◌≡◌, ℕ, ◌<◌, ◌≤◌, length, List, ◌++◌, None, count_by, IsTrue, IsFalse};
 ghost use Rattle.std.specs.List.{list_all};
+ghost use Rattle.gx_soup.specs.Packets.{packets_of};
+ghost use Rattle.gx_history.specs.Verdicts.{IsLegal};
 ghost use Rattle.gx_core.specs.Gates.{GateData};
+ghost use Rattle.gx_core.specs.Matches.{matching_of};
 ghost use Rattle.gx_session.specs.declared.session.Phase.TheVariants.{Fresh, On};
 ghost use Rattle.gx_session.specs.Serving.{WasServed, IsSilent};
 ghost use Rattle.gx_session.specs.Transcript.{run_of, pipe, is_ended};
@@ -43,11 +46,20 @@ pub fn no_logout_without_a_login()
         ≤ count_by (λ (h : Timed). is_acceptance h.event) hs }
 {}
 
-/// Before a login is answered nothing is written and no step is made.
+/// Before a login is answered nothing is written, and no step is made but matching steps: each record that is there then
+/// and was not before is of one.
 pub fn silent_before_login()
     ensures { (gate : GateData) (first : ℕ) (bytes : List ℕ)
         → (run_of gate first bytes).connection.session.phase ≡ Fresh
         → IsSilent gate (run_of gate first bytes) }
+{}
+
+/// After each packet that leaves the session alive no order waits to be matched.
+pub fn no_order_waits()
+    ensures { (gate : GateData) (first : ℕ) (bytes : List ℕ) → IsLegal gate.policy gate.records
+        → 0 < length (packets_of bytes).packets
+        → IsFalse (is_over (run_of gate first bytes).connection.session.phase)
+        → matching_of (run_of gate first bytes).gate ≡ None }
 {}
 
 /// A user who is logged in was sent Login Accepted with a number, and then all reports of his stream from that number

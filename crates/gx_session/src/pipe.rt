@@ -130,9 +130,11 @@ fn told<'a>(fault: PipeFault) -> Event<'a>
 
 /// Runs a connection to its end: SoupBinTCP packets in, the steps that the session table asks for on the
 /// gate, SoupBinTCP packets out. The k-th packet comes at the moment `first + k - 1`, on line 1. Each packet
-/// is answered before the next is taken.
+/// is answered before the next is taken; then, unless the session is over, orders are matched at its moment
+/// until none waits, and the reports that are there are sent.
 ///
-/// After a fault a user who is on is logged out, where memory allows.
+/// A refused matching step ends the run as any refused step does. After a fault a user who is on is logged out,
+/// where memory allows.
 pub fn run_pipe<R: Read, W: Write>(
     alloc: Global,
     gate: &mut Gate,

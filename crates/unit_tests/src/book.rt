@@ -81,8 +81,40 @@ fn bests(alloc: Global) -> Result<[(u64, u32); 5], OutOfMemory> {
     Ok([first, second, third, fourth, best(&book)])
 }
 
+/// Puts five orders of one price to rest, not in the order of their numbers.
+fn put_late(book: &mut Book) -> Result<(), OutOfMemory> {
+    buy(book, 5, ALFA, 10_000, 60)?;
+    buy(book, 3, BETA, 10_000, 100)?;
+    buy(book, 7, ALFA, 10_000, 10)?;
+    buy(book, 4, BETA, 10_000, 5)?;
+    buy(book, 8, ALFA, 10_000, 1)
+}
+
+/// The best of five orders of one price after each change, in the order in which they came and not of their numbers:
+/// 5 goes whole, 3 keeps 40 of 100 and its place, 3 goes, 4 and 7 are taken out.
+fn bests_by_arrival(alloc: Global) -> Result<[(u64, u32); 5], OutOfMemory> {
+    let mut book = book(alloc)?;
+    put_late(&mut book)?;
+    let first = best(&book);
+    book.reduce(5, 60);
+    let second = best(&book);
+    book.reduce(3, 60);
+    let third = best(&book);
+    book.reduce(3, 40);
+    let fourth = best(&book);
+    book.remove(4);
+    book.remove(7);
+    Ok([first, second, third, fourth, best(&book)])
+}
+
 #[test]
 fn the_best_is_found(rt: HostRuntime) -> Result<(), Fail> {
     assert!(rt; bests(rt.alloc())? == [(9, 5), (3, 60), (3, 20), (5, 100), (0, 0)]);
+    Ok(())
+}
+
+#[test]
+fn the_earlier_comes_first(rt: HostRuntime) -> Result<(), Fail> {
+    assert!(rt; bests_by_arrival(rt.alloc())? == [(5, 60), (3, 100), (3, 40), (7, 10), (8, 1)]);
     Ok(())
 }

@@ -2,7 +2,7 @@
 
 use gx_history::record::{Fill, RuleName, Verdict};
 use gx_history::report::{Message, Report};
-use gx_ouch::{Outbound, RejectReason, Rejected};
+use gx_ouch::{CancelOrder, Outbound, RejectReason, Rejected};
 use gx_script::{
     ScriptLine, ScriptStep, Wanted, Wrong, append, append_number, is_too_long, outcome_line,
     refused_line, report_lines, with_number,
@@ -36,6 +36,26 @@ fn lines_that_ask(rt: HostRuntime) {
     assert!(rt; read("1 ALICE login apple 0") == Ok(login));
 }
 
+/// A line of exactly a moment and `match` is a matching step; with more words it is a step of a user of that name.
+#[test]
+fn lines_that_match(rt: HostRuntime) {
+    let cancel = ScriptStep::Cancel(CancelOrder {
+        token: Token {
+            bytes: *b"A1            ",
+        },
+        shares: 40,
+    });
+    let user = UserName { bytes: *b"MATCH " };
+    let logout = ScriptLine::Step(3, user, ScriptStep::Logout);
+    let found = [
+        read("3 match") == Ok(ScriptLine::Match(3)),
+        read("3 settle\r") == Ok(ScriptLine::Settle(3)),
+        read("3 match logout") == Ok(logout),
+        read("8 ALICE cancel A1 40") == Ok(ScriptLine::Step(8, ALICE, cancel)),
+    ];
+    assert!(rt; found == [true; 4]);
+}
+
 #[test]
 fn bad_lines(rt: HostRuntime) {
     let lines = [
@@ -52,8 +72,11 @@ fn bad_lines(rt: HostRuntime) {
         "1 ALICE enter A1 B 4294967296 TEST 1 0",
         "1 ALICE raw 4",
         "1 ALICE raw 4g",
-        "1 ALICE cancel A1 0",
-        "1 match",
+        "1 ALICE cancel A1",
+        "1 ALICE cancel A1 4294967296",
+        "1 ALICE replace A1 A2 1 10 0",
+        "1 match 2",
+        "1 Settle",
         "stream",
     ];
     for line in lines {

@@ -9,5 +9,6 @@ returns-clause-ok c =
       rules = but.rules;
       day = c.set_moment.ensures ∙ but.day;
       orders = but.orders;
+      book = but.book;
       streams = but.streams;
     }

@@ -39,4 +39,4 @@ returns-clause-ok c =
     (account_is c.args.next.policy.now c.args.next.history.now.records c.args.keepers.now c.args.next.asked.now.user c.account_of.result c.requires.takes.in_force c.account_of.ensures ∙ c.in-Some.is)
     c.order_of-order.ensures c.accepted.ensures refl refl refl
     (λ i. record { live = c.in_ok-enter.ensures.live i; used = c.in_ok-enter.ensures.used i })
-    c.tell.ensures
+    refl c.tell.ensures

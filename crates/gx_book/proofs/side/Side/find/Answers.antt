@@ -8,5 +8,5 @@ returns-in_err-level c =
 
 pub returns : goal.returns
 returns c =
-    c.find_in.ensures
+    c.find.ensures
     ∙ (holds c.self.inside.levels.entries c.args.self.now c.args.number c.args.rank c.in_ok-level.level.now c.self.view_is c.self.invariant c.len.ensures.ordered c.requires.ranked c.in_ok-level.ensures.value).same

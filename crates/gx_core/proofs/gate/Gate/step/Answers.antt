@@ -3,6 +3,7 @@ use Rattle.std.proofs.Math.Path.{subst}
 use Rattle.gx_units.specs.declared.names.AccountName.{AccountName}
 use Rattle.gx_history.specs.declared.record.RecordData.{RecordData}
 use Rattle.gx_history.specs.declared.record.RuleName.{RuleName}
+use Rattle.gx_history.specs.declared.record.Step.TheVariants as steps
 use Rattle.gx_history.specs.InForce.{is_killed}
 use Rattle.gx_history_laws.proofs.Granting.{denied_names_first, granted_exactly}
 use Rattle.gx_effects.proofs.Lifting.{kill_ends_by_lift}
@@ -21,7 +22,7 @@ invariant_of-self-2 c =
     (c.push_reserved.ensures.records
     ∙ ap (λ (records : List RecordData). records ++ c.new-record.result ∷ []) c.reserve.ensures.records
     ∙ ap (λ (r : RecordData). c.self.inside.history.records ++ r ∷ []) (c.new-record.ensures ∙ c.record_of-entry.ensures)))
-    (keep_on c.self.inside.policy c.self.inside.history.records c.args.a (left_by c.args.a c.outcome_of-outcome.result) c.self.inside.keepers c.carry_on.new.keepers c.self.invariant
+    (keep_on c.self.inside.policy c.self.inside.history.records (steps.Asked c.args.a) (left_by c.args.a c.outcome_of-outcome.result) c.self.inside.keepers c.carry_on.new.keepers c.self.invariant
     (ap (λ (g : GateData). next_of g c.args.a) c.self.view_is ∙ c.outcome_of-outcome.ensures.next) c.outcome_of-outcome.ensures.fits
     (subst (λ (records : List RecordData). AreInForce c.self.inside.policy records c.carry_on.new.keepers)
     (ap (λ (records : List RecordData). records ++ c.record_of-entry.result ∷ []) c.reserve.ensures.records

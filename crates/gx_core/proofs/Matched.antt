@@ -1,0 +1,124 @@
+-- What a matching step makes of a gate.
+use Rattle.std.proofs.Common.{◌≡◌, ℕ, ◌+◌, arith, true, false, length, List, [], ◌∷◌, ◌++◌, refl, ◌∙◌, ap, sym}
+use Rattle.std.proofs.lemmas.Bool.{lt-ltb}
+use Rattle.std.specs.Prelude.{None, Some, option_map, ◌&&◌}
+use Rattle.gx_history.specs.declared.policy.PolicyData.{PolicyData}
+use Rattle.gx_history.specs.declared.record.RecordData.{RecordData}
+use Rattle.gx_history.specs.declared.record.Step.{Step}
+use Rattle.gx_history.specs.declared.record.Step.TheVariants as steps
+use Rattle.gx_history.specs.declared.record.Verdict.{Verdict}
+use Rattle.gx_history.specs.declared.record.Verdict.TheVariants as verdicts
+use Rattle.gx_history.specs.Matched.{AreUncrossed}
+use Rattle.gx_history.specs.Matching.{matching}
+use Rattle.gx_history.specs.Requests.{is_judged}
+use Rattle.gx_history.specs.Showing.{is_showable, is_verdict_of}
+use Rattle.gx_history.specs.Verdicts.{IsLegal, moment_of, next, step_verdict}
+use Rattle.gx_history_laws.proofs.Numbers.{number_left}
+use Rattle.gx_history_laws.proofs.Runs.{step_left}
+use Rattle.gx_effects.proofs.Expiries.{end_takes_effect}
+use Rattle.gx_effects.proofs.Fills.{fill_takes_effect}
+use Rattle.gx_effects.proofs.NeverCrossed.{never_crossed}
+use Rattle.gx_effects.proofs.Orderly.{legal_is_orderly}
+use Rattle.gx_effects.proofs.Rests.{rest_takes_effect}
+use Rattle.gx_effects.proofs.Settling.{not_judged, settled_step}
+use Rattle.gx_book.specs.Books.{StockOrders}
+use Rattle.gx_market.proofs.Crossing.{matching_is_met, next_record_is_met}
+use Rattle.gx_market.specs.Meeting.{best_against, match_record, met, next_met}
+use Rattle.gx_orders.specs.declared.live_order.LiveOrder.{LiveOrder}
+use Rattle.gx_orders.specs.InForce.{orders_in_force}
+use Rattle.gx_orders.specs.LiveOrders.{OrdersData, first_waiting}
+use Rattle.gx_keepers.specs.declared.keepers.Keepers.{Keepers}
+use Rattle.gx_core.specs.Gates.{GateData, matched_by}
+use Rattle.gx_core.specs.Kept.{IsKept}
+use Rattle.gx_core.specs.Matches.{MatchEffect, settled_gate}
+
+-- the first that waits, against the best that rests on the other side, as they are kept
+met_by_kept : (policy : PolicyData) (history : List RecordData) (k : Keepers) → IsKept policy history k → next_met k.orders k.book ≡ matching policy history
+met_by_kept policy history k kept =
+    ap (λ (orders : OrdersData). next_met orders k.book) kept.in_force.orders
+    ∙ ap (λ (book : List StockOrders). next_met (orders_in_force policy history) book) kept.in_force.book
+    ∙ matching_is_met policy history kept.legal
+
+-- where no order waits there is nothing to match
+pub nothing_is_met : (policy : PolicyData) (history : List RecordData) (k : Keepers) → IsKept policy history k → first_waiting k.orders.live ≡ None → matching policy history ≡ None
+nothing_is_met policy history k kept none =
+    sym (met_by_kept policy history k kept) ∙ ap (option_map (λ (o : LiveOrder). met o (best_against k.book o))) none
+
+pub nothing_is_next : (policy : PolicyData) (history : List RecordData) (handed : ℕ) (k : Keepers) → IsKept policy history k → first_waiting k.orders.live ≡ None
+    → next policy history (steps.Matching handed) ≡ None
+unfolding next step_verdict
+nothing_is_next policy history handed k kept none = ap (option_map (match_record history handed)) (nothing_is_met policy history k kept none)
+
+-- else it is the first that waits
+pub first_is_met : (policy : PolicyData) (history : List RecordData) (k : Keepers) (first : LiveOrder) → IsKept policy history k → first_waiting k.orders.live ≡ Some first
+    → matching policy history ≡ Some (met first (best_against k.book first))
+first_is_met policy history k first kept waits =
+    sym (met_by_kept policy history k kept) ∙ ap (option_map (λ (o : LiveOrder). met o (best_against k.book o))) waits
+
+-- and this is the record
+pub first_is_next : (policy : PolicyData) (history : List RecordData) (k : Keepers) (first : LiveOrder) (handed : ℕ) → IsKept policy history k → first_waiting k.orders.live ≡ Some first
+    → next policy history (steps.Matching handed) ≡ Some (match_record history handed (met first (best_against k.book first)))
+first_is_next policy history k first handed kept waits =
+    next_record_is_met policy history handed kept.legal
+    ∙ ap (option_map (match_record history handed)) (matching_is_met policy history kept.legal ∙ first_is_met policy history k first kept waits)
+
+-- the first that waits is the one that is kept
+pub first_is_known : (policy : PolicyData) (history : List RecordData) (k : Keepers) → IsKept policy history k
+    → first_waiting k.orders.live ≡ first_waiting (orders_in_force policy history).live
+first_is_known policy history k kept = ap (λ (orders : OrdersData). first_waiting orders.live) kept.in_force.orders
+
+-- the record that a matching step leaves, by its parts
+pub match_in_parts : (policy : PolicyData) (history : List RecordData) (handed number moment : ℕ) (v : Verdict)
+    → number ≡ length history + 1 → moment ≡ moment_of history (steps.Matching handed) → matching policy history ≡ Some v
+    → next policy history (steps.Matching handed) ≡ Some (matched_by handed (record { number = number; moment = moment; verdict = v }))
+unfolding next step_verdict
+match_in_parts policy history handed number moment v number_is moment_is matches =
+    ap (option_map (match_record history handed)) matches
+    ∙ ap (λ (n : ℕ). Some (matched_by handed (record { number = n; moment = moment_of history (steps.Matching handed); verdict = v }))) (sym number_is)
+    ∙ ap (λ (m : ℕ). Some (matched_by handed (record { number = number; moment = m; verdict = v }))) (sym moment_is)
+
+-- what is matched can be shown
+pub match_is_shown : (policy : PolicyData) (history : List RecordData) (handed : ℕ) (r : RecordData) → next policy history (steps.Matching handed) ≡ Some r → is_showable r ≡ true
+match_is_shown policy history handed r left =
+    ap (λ b. b && is_verdict_of r.step r.verdict) (lt-ltb 0 r.number (omega (arith, number_left policy history (steps.Matching handed) r left)))
+    ∙ ap (λ (s : Step). is_verdict_of s r.verdict) (step_left policy history (steps.Matching handed) r left)
+    ∙ by r.verdict refl
+  where
+    never : (v : Verdict) → r.verdict ≡ v → is_judged v ≡ true → ⊥
+    never v is judged = let clash : false ≡ true = sym (not_judged policy history handed r left) ∙ ap is_judged is ∙ judged in cc
+
+    by : (v : Verdict) → r.verdict ≡ v → is_verdict_of (steps.Matching handed) v ≡ true
+    by verdicts.Granted is = absurd (never verdicts.Granted is refl)
+    by (verdicts.Denied rule) is = absurd (never (verdicts.Denied rule) is refl)
+    by (verdicts.Filled f) is = refl
+    by (verdicts.Rested number) is = refl
+    by (verdicts.Expired number) is = refl
+
+-- what the record changes, by its verdict
+pub match_effect_of : (policy : PolicyData) (history : List RecordData) (handed : ℕ) (r : RecordData)
+    → IsLegal policy history → next policy history (steps.Matching handed) ≡ Some r → MatchEffect policy history (history ++ r ∷ []) r r.verdict
+match_effect_of policy history handed r legal left = by r.verdict refl
+  where
+    never : (v : Verdict) → r.verdict ≡ v → is_judged v ≡ true → ⊥
+    never v is judged = let clash : false ≡ true = sym (not_judged policy history handed r left) ∙ ap is_judged is ∙ judged in cc
+
+    by : (v : Verdict) → r.verdict ≡ v → MatchEffect policy history (history ++ r ∷ []) r v
+    by verdicts.Granted is = never verdicts.Granted is refl
+    by (verdicts.Denied rule) is = never (verdicts.Denied rule) is refl
+    by (verdicts.Filled f) is = fill_takes_effect policy history handed r f (legal_is_orderly policy history legal) left is
+    by (verdicts.Rested number) is = rest_takes_effect policy history handed r number (legal_is_orderly policy history legal) left is
+    by (verdicts.Expired number) is = end_takes_effect policy history handed r number (legal_is_orderly policy history legal) left is
+
+-- the steps that are left come to the same
+pub settles_on : (policy : PolicyData) (history : List RecordData) (handed : ℕ) (r : RecordData)
+    → IsLegal policy history → next policy history (steps.Matching handed) ≡ Some r
+    → settled_gate (record { policy = policy; records = history ++ r ∷ [] }) handed ≡ settled_gate (record { policy = policy; records = history }) handed
+settles_on policy history handed r legal left =
+    ap (λ (records : List RecordData). the_gate policy records) (sym (settled_step policy history handed r (legal_is_orderly policy history legal) left))
+  where
+    the_gate : PolicyData → List RecordData → GateData
+    the_gate p records = record { policy = p; records = records }
+
+-- no book is crossed
+pub never_crossed_now : (policy : PolicyData) (history : List RecordData) → IsLegal policy history → AreUncrossed policy history
+never_crossed_now policy history legal = λ stock. never_crossed policy history stock legal

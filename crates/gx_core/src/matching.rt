@@ -1,0 +1,53 @@
+//! What a matching step comes to, by what the gate keeps of its records.
+
+ghost use Rattle.std.specs.Prelude.{◌≡◌, ◌≤◌, ◌<◌, length, IsTrue, Some};
+ghost use Rattle.gx_history.specs.Showing.{is_showable};
+ghost use Rattle.gx_history.specs.Verdicts.{day_limit};
+ghost use Rattle.gx_core.specs.Gates.{matched_by};
+ghost use Rattle.gx_core.specs.Matches.{first_of, matching_of, next_match};
+
+use crate::gate::Gate;
+use crate::outcome::Outcome;
+use gx_history::record::{RecordData, Step};
+use gx_market::meeting::{best_against, met};
+use gx_orders::live_order::LiveOrder;
+use gx_units::Moment;
+
+/// The record of a matching step with this outcome.
+pub(crate) fn record_of_match(handed: Moment, outcome: Outcome) -> RecordData
+    ensures { result ≡ matched_by handed outcome }
+{
+    RecordData {
+        number: outcome.number,
+        moment: outcome.moment,
+        step: Step::Matching(handed),
+        verdict: outcome.verdict,
+    }
+}
+
+impl Gate {
+    /// The first order that waits to be matched.
+    #[tactic(auto, using(crate::proofs::Matched::first_is_known))]
+    pub(crate) fn first_waiting(&self) -> Option<LiveOrder>
+        ensures { result ≡ first_of self.now }
+    {
+        self.keepers.orders.first_waiting()
+    }
+
+    /// The number, the moment and the verdict of the record of a matching step, where this order is the first that waits.
+    #[tactic(auto, using(crate::proofs::Matched::match_in_parts))]
+    pub(crate) fn match_outcome(&self, first: &LiveOrder, handed: Moment) -> Outcome
+        requires waits { first_of self.now ≡ Some first.now }
+        requires room { length self.now.records < day_limit }
+        ensures next { next_match self.now handed ≡ Some (matched_by handed result) }
+        ensures verdict { matching_of self.now ≡ Some result.verdict }
+        ensures shown { IsTrue (is_showable (matched_by handed result)) }
+        ensures fits { result.number ≤ day_limit }
+    {
+        Outcome {
+            number: self.length() + 1,
+            moment: handed.max(self.last_moment()),
+            verdict: met(first, best_against(&self.keepers.book, first)),
+        }
+    }
+}

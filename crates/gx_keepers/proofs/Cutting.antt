@@ -1,0 +1,106 @@
+-- What a granted Cancel makes of the keepers.
+use Rattle.std.proofs.Common.{◌≡◌, ℕ, ◌-◌, ◌<◌, true, List, [], ◌∷◌, ◌++◌, ◌∙◌, ap, sym, map}
+use Rattle.std.specs.Prelude.{Option, Some, ◌&&◌, is_some, option_map}
+use Rattle.gx_units.specs.Names.{same_token, same_user}
+use Rattle.gx_ouch.specs.declared.inbound.CancelOrder.{CancelOrder}
+use Rattle.gx_ouch.specs.declared.letters.CancelReason.TheVariants as cancels
+use Rattle.gx_ouch.specs.declared.outbound.Outbound.TheVariants as outbounds
+use Rattle.gx_history.specs.declared.policy.PolicyData.{PolicyData}
+use Rattle.gx_history.specs.declared.record.Asked.{Asked}
+use Rattle.gx_history.specs.declared.record.RecordData.{RecordData}
+use Rattle.gx_history.specs.declared.record.Request.TheVariants as requests
+use Rattle.gx_history.specs.declared.record.Step.TheVariants as steps
+use Rattle.gx_history.specs.declared.record.Verdict.TheVariants as verdicts
+use Rattle.gx_history.specs.declared.report.Message.{Message}
+use Rattle.gx_history.specs.declared.report.Message.TheVariants as messages
+use Rattle.gx_history.specs.declared.report.Report.{Report}
+use Rattle.gx_history.specs.Effects.{CutsOrder}
+use Rattle.gx_history.specs.Executions.{Standing, done, executions, live_orders}
+use Rattle.gx_history.specs.Streams.{reported, stream, to_user}
+use Rattle.gx_history_laws.proofs.Granting.{verdict_of_next}
+use Rattle.gx_history_laws.proofs.Order.{some_same}
+use Rattle.gx_history_laws.proofs.Owners.{last_such_is}
+use Rattle.gx_history_laws.proofs.Runs.{step_left}
+use Rattle.gx_effects.proofs.Cutting.{cancel_takes_effect}
+use Rattle.gx_book.specs.Books.{on_each_side}
+use Rattle.gx_book.specs.Queue.{reduced}
+use Rattle.gx_orders.specs.declared.live_order.LiveOrder.{LiveOrder}
+use Rattle.gx_orders.specs.Changes.{with_live}
+use Rattle.gx_orders.specs.InForce.{kept, orders_in_force}
+use Rattle.gx_orders.specs.LiveOrders.{OrdersData, cut_at, order_under}
+use Rattle.gx_orders.proofs.Cutting.{cancels_name_one, cuts_one}
+use Rattle.gx_orders.proofs.Keeping.{IsKeptOpen, open_is, under_is}
+use Rattle.gx_market.specs.Changes.{cut_from}
+use Rattle.gx_market.proofs.Requested.{cancels_take}
+use Rattle.gx_streams.specs.Kept.{places_in}
+use Rattle.gx_streams.specs.Laws.{TellsOne}
+use Rattle.gx_streams.specs.Telling.{shown}
+use Rattle.gx_streams.proofs.Telling.{stays_by_one}
+use Rattle.gx_keepers.specs.declared.keepers.Keepers.{Keepers}
+use Rattle.gx_keepers.specs.Keepers.{AreInForceBut, HavePlaces, Takes, with_told}
+use Rattle.gx_keepers.specs.Messages.{canceled_message}
+use Rattle.gx_keepers.proofs.Carrying.{by_grant, has_place}
+
+-- a granted Cancel names a live order
+pub cut_is_there : (policy : PolicyData) (history : List RecordData) (a : Asked) (r : RecordData) (m : CancelOrder) (k : Keepers) (found : Option LiveOrder)
+    → Takes policy history a r k → r.verdict ≡ verdicts.Granted → a.request ≡ requests.Cancel m → found ≡ order_under k.orders.live a.user m.token → is_some found ≡ true
+cut_is_there policy history a r m k found t grants asks is =
+    ap is_some (is ∙ ap (λ (d : OrdersData). order_under d.live a.user m.token) t.in_force.orders)
+    ∙ cancels_name_one policy history a m t.legal asks (sym (verdict_of_next policy history a r t.left) ∙ grants)
+
+-- as definitions say
+names_it : (policy : PolicyData) (history : List RecordData) (a : Asked) (r : RecordData) (m : CancelOrder) (k : Keepers) (o : LiveOrder)
+    → Takes policy history a r k → order_under k.orders.live a.user m.token ≡ Some o → order_under (orders_in_force policy history).live a.user m.token ≡ Some o
+names_it policy history a r m k o t found = sym (ap (λ (d : OrdersData). order_under d.live a.user m.token) t.in_force.orders) ∙ found
+
+-- what its user is told
+abbrev pub cut_message : LiveOrder → ℕ → Message
+cut_message o total = canceled_message o (cut_from o total) cancels.UserRequested
+
+pub cancel_tells : (policy : PolicyData) (history : List RecordData) (a : Asked) (r : RecordData) (m : CancelOrder) (k : Keepers) (o : LiveOrder)
+    → Takes policy history a r k → r.verdict ≡ verdicts.Granted → a.request ≡ requests.Cancel m → order_under k.orders.live a.user m.token ≡ Some o
+    → TellsOne policy history (history ++ r ∷ []) r a.user (cut_message o m.shares ∷ [])
+cancel_tells policy history a r m k o t grants asks found = tells (cancel_takes_effect policy history a r m t.legal t.left asks grants)
+  where
+    tells : CutsOrder policy history (history ++ r ∷ []) r a.user m → TellsOne policy history (history ++ r ∷ []) r a.user (cut_message o m.shares ∷ [])
+    tells is user =
+        is.told user
+        ∙ ap (λ (n : ℕ). told_so (is.cut.open_shares - n)) is.is_left
+        ∙ ap (λ (n : ℕ). told_so (n - (m.shares - done (executions policy history) is.cut.order))) opened.0
+        ∙ ap (λ (x : LiveOrder). stream policy history user ++ map (reported r) (to_user a.user user (cut_message x m.shares ∷ []))) (sym it)
+      where
+        told_so : ℕ → List Report
+        told_so n =
+            stream policy history user
+            ++ map (reported r) (to_user a.user user (messages.Order (outbounds.Canceled (record { token = is.cut.order.token; decrement = n; reason = cancels.UserRequested })) ∷ []))
+
+        opened : IsKeptOpen policy history is.cut
+        opened =
+            last_such_is (IsKeptOpen policy history) (λ (s : Standing). same_user s.order.user a.user && same_token s.order.token m.token) (live_orders policy history) is.cut (open_is policy history) is.is_named
+
+        it : o ≡ kept policy history is.cut
+        it = some_same (sym (names_it policy history a r m k o t found) ∙ sym (under_is policy history a.user m.token) ∙ ap (option_map (kept policy history)) is.is_named)
+
+pub cancel_has_place : (policy : PolicyData) (history : List RecordData) (a : Asked) (r : RecordData) (m : CancelOrder) (k : Keepers) (o : LiveOrder)
+    → Takes policy history a r k → HavePlaces policy history r k.streams → r.verdict ≡ verdicts.Granted → a.request ≡ requests.Cancel m
+    → order_under k.orders.live a.user m.token ≡ Some o → 0 < places_in k.streams.told a.user
+cancel_has_place policy history a r m k o t places grants asks found =
+    has_place policy history r k.streams a.user (cut_message o m.shares) places (cancel_tells policy history a r m k o t grants asks found)
+
+-- a granted Cancel
+pub cancel_goes_on : (policy : PolicyData) (history : List RecordData) (a : Asked) (r : RecordData) (m : CancelOrder) (before k : Keepers) (o : LiveOrder) (fewer : ℕ) (message : Message)
+    → Takes policy history a r before → r.verdict ≡ verdicts.Granted → a.request ≡ requests.Cancel m → order_under before.orders.live a.user m.token ≡ Some o
+    → fewer ≡ cut_from o m.shares → message ≡ canceled_message o fewer cancels.UserRequested
+    → k.people ≡ before.people → k.rules ≡ before.rules → k.day ≡ before.day
+    → k.orders ≡ with_live (cut_at o.number m.shares before.orders.live) before.orders → k.book ≡ on_each_side (reduced o.number fewer) before.book
+    → k.streams ≡ with_told a.user r.moment (Some message) before.streams
+    → AreInForceBut policy history r k
+cancel_goes_on policy history a r m before k o fewer message t grants asks found fewer_is message_is people_are rules_are day_is orders_are book_is streams_are =
+    by_grant policy history a r before k (requests.Cancel m) t.in_force grants (step_left policy history (steps.Asked a) r t.left) asks people_are rules_are day_is
+    (orders_are ∙ ap (λ (d : OrdersData). with_live (cut_at o.number m.shares d.live) d) t.in_force.orders
+    ∙ sym (cuts_one policy history a r m o t.legal t.left asks grants (names_it policy history a r m before o t found)))
+    (book_is ∙ ap (λ (n : ℕ). on_each_side (reduced o.number n) before.book) fewer_is ∙ ap (on_each_side (reduced o.number (cut_from o m.shares))) t.in_force.book
+    ∙ sym (cancels_take policy history a r m o t.legal t.left asks grants (names_it policy history a r m before o t found)))
+    (ap shown (streams_are
+    ∙ ap (λ (x : Message). with_told a.user r.moment (Some x) before.streams) (message_is ∙ ap (λ (n : ℕ). canceled_message o n cancels.UserRequested) fewer_is))
+    ∙ stays_by_one policy history (history ++ r ∷ []) r before.streams a.user (cut_message o m.shares) t.in_force.streams (cancel_tells policy history a r m before o t grants asks found))

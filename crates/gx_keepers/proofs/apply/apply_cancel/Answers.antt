@@ -1,0 +1,23 @@
+use Rattle.std.proofs.Common.{◌≡◌, true, false, refl, ◌∙◌, ap, sym}
+use Rattle.std.specs.Prelude.{is_some}
+use Rattle.gx_keepers.proofs.Cutting.{cancel_goes_on, cancel_has_place, cut_is_there}
+use Rattle.gx_keepers.proofs.apply.apply_cancel.Goals as goal
+
+pub unreachable-requires : goal.unreachable-requires
+unreachable-requires c =
+    let known : is_some c.under.result ≡ true =
+    cut_is_there c.args.next.policy.now c.args.next.history.now.records c.args.next.asked.now c.args.next.left.now c.args.m.now c.args.keepers.now c.under.result
+    c.requires.takes c.requires.granted c.requires.cancels c.under.ensures in
+    let none : false ≡ true = sym (ap is_some c.in_default.is) ∙ known in
+    cc
+
+pub tell-requires : goal.tell-requires
+tell-requires c =
+    cancel_has_place c.args.next.policy.now c.args.next.history.now.records c.args.next.asked.now c.args.next.left.now c.args.m.now c.args.keepers.now c.in-Some.order
+    c.requires.takes c.requires.places c.requires.granted c.requires.cancels (sym c.under.ensures ∙ c.in-Some.is)
+
+pub returns : goal.returns
+returns c =
+    cancel_goes_on c.args.next.policy.now c.args.next.history.now.records c.args.next.asked.now c.args.next.left.now c.args.m.now c.args.keepers.now _ c.in-Some.order c.cut_from-fewer.result c.canceled-message.result
+    c.requires.takes c.requires.granted c.requires.cancels (sym c.under.ensures ∙ c.in-Some.is) c.cut_from-fewer.ensures c.canceled-message.ensures refl refl refl
+    (λ i. record { live = c.cut.ensures.live i; used = c.cut.ensures.used i }) c.reduce.ensures c.tell.ensures

@@ -1,0 +1,129 @@
+//! What each matching step does to the keepers.
+//!
+//! The one call that can be refused, at a rest, comes first; nothing has changed then. What follows takes no memory: the
+//! places for reports were kept before.
+
+ghost use Rattle.std.specs.Prelude.{◌≡◌, OnOk, OnErr};
+ghost use Rattle.gx_history.specs.declared.record.Verdict.TheVariants as verdicts;
+ghost use Rattle.gx_keepers.specs.Matching.{AreAfterMatch, AreAfterMatchBut, AreBeforeMatch, IsMatchPlaced, IsNextMatch};
+
+use crate::keepers::Keepers;
+use crate::next_record::NextMatch;
+use crate::places::keep_match_places;
+use crate::reports::{canceled, executed, tell};
+use gx_history::record::{Fill, Verdict};
+use gx_market::meeting::{opposite, resting_of};
+use gx_ouch::{CancelReason, Liquidity};
+use gx_units::OutOfMemory;
+
+/// A fill: both orders execute its shares, the best in the book has so many less, and both users are told, first the one
+/// whose order came in.
+fn apply_fill(keepers: &mut Keepers, next: NextMatch<'_>, f: Fill)
+    requires takes { IsNextMatch next keepers.old }
+    requires places { IsMatchPlaced next keepers.old }
+    requires fills { next.left.now.verdict ≡ verdicts.Filled f }
+    ensures { AreAfterMatchBut next.entry keepers.new }
+{
+    let Some(maker) = keepers.orders.numbered(f.maker) else {
+        unreachable!();
+    };
+    let taker = next.first;
+    keepers.orders.fill(f.taker, f.shares);
+    keepers.orders.fill(f.maker, f.shares);
+    let against = opposite(taker.terms.side);
+    keepers
+        .book
+        .take_from_best(taker.terms.stock, against, f.shares);
+    let to_taker = executed(next.left, f, taker, Liquidity::Removed);
+    let to_maker = executed(next.left, f, &maker, Liquidity::Added);
+    tell(
+        &mut keepers.streams,
+        taker.user,
+        next.left.moment,
+        Some(to_taker),
+    );
+    tell(
+        &mut keepers.streams,
+        maker.user,
+        next.left.moment,
+        Some(to_maker),
+    );
+}
+
+/// An order that meets nothing and comes to rest: it stands in the book, and waits no more.
+fn apply_rest(keepers: &mut Keepers, next: NextMatch<'_>, number: u64) -> Result<(), OutOfMemory>
+    requires takes { IsNextMatch next keepers.old }
+    requires rests { next.left.now.verdict ≡ verdicts.Rested number }
+    ensures ok { OnOk result (AreAfterMatchBut next.entry keepers.new) }
+    ensures err { OnErr result (AreBeforeMatch next.entry keepers.new) }
+{
+    keepers.book.rest(resting_of(next.first))?;
+    keepers.orders.rest(number);
+    Ok(())
+}
+
+/// An order that meets nothing and may not rest: it ends, and its user is told what was open.
+fn apply_expiry(keepers: &mut Keepers, next: NextMatch<'_>, number: u64)
+    requires takes { IsNextMatch next keepers.old }
+    requires places { IsMatchPlaced next keepers.old }
+    requires expires { next.left.now.verdict ≡ verdicts.Expired number }
+    ensures { AreAfterMatchBut next.entry keepers.new }
+{
+    keepers.orders.end(number);
+    let order = next.first;
+    let message = canceled(order, order.open(), CancelReason::ImmediateOrCancel);
+    tell(
+        &mut keepers.streams,
+        order.user,
+        next.left.moment,
+        Some(message),
+    );
+}
+
+/// What the step does, but that the day has its moment.
+fn apply_outcome(keepers: &mut Keepers, next: NextMatch<'_>) -> Result<(), OutOfMemory>
+    requires takes { IsNextMatch next keepers.old }
+    requires places { IsMatchPlaced next keepers.old }
+    ensures ok { OnOk result (AreAfterMatchBut next.entry keepers.new) }
+    ensures err { OnErr result (AreBeforeMatch next.entry keepers.new) }
+{
+    match next.left.verdict {
+        Verdict::Filled(f) => {
+            apply_fill(keepers, next, f);
+            Ok(())
+        }
+        Verdict::Rested(number) => apply_rest(keepers, next, number),
+        Verdict::Expired(number) => {
+            apply_expiry(keepers, next, number);
+            Ok(())
+        }
+        _ => unreachable!(),
+    }
+}
+
+/// What the step does; an `OutOfMemory` comes before anything has changed.
+fn apply_match(keepers: &mut Keepers, next: NextMatch<'_>) -> Result<(), OutOfMemory>
+    requires takes { IsNextMatch next keepers.old }
+    requires places { IsMatchPlaced next keepers.old }
+    ensures ok { OnOk result (AreAfterMatch next.entry keepers.new) }
+    ensures err { OnErr result (AreBeforeMatch next.entry keepers.new) }
+{
+    apply_outcome(keepers, next)?;
+    keepers.day.set_moment(next.left.moment);
+    Ok(())
+}
+
+/// Keeps a place for each report that the step's record owes, and carries the keepers on by it.
+///
+/// # Errors
+///
+/// `OutOfMemory` where a stream, or the book at a rest, finds no memory; then they are as they were, but for places that
+/// were kept.
+pub fn carry_match(keepers: &mut Keepers, next: NextMatch<'_>) -> Result<(), OutOfMemory>
+    requires takes { IsNextMatch next keepers.old }
+    ensures ok { OnOk result (AreAfterMatch next.entry keepers.new) }
+    ensures err { OnErr result (AreBeforeMatch next.entry keepers.new) }
+{
+    keep_match_places(keepers, next)?;
+    apply_match(keepers, next)
+}

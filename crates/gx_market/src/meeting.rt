@@ -1,0 +1,78 @@
+//! The next execution: the first order that waits, against the best that rests on the other side of its stock.
+
+ghost use Rattle.std.specs.Prelude.{◌≡◌, not};
+ghost use Rattle.gx_history.specs.Book.{is_buy};
+ghost use Rattle.gx_market.specs.Meeting.{best_against, meets, met, resting_of, unmet};
+
+use gx_book::book::Book;
+use gx_book::resting::{Resting, is_buy};
+use gx_history::record::{Fill, Verdict};
+use gx_orders::live_order::LiveOrder;
+
+/// The time in force of an order that does not rest.
+const IMMEDIATE_OR_CANCEL: u32 = 0;
+
+/// The best that rests on the other side of the order's stock.
+pub fn best_against(book: &Book, order: &LiveOrder) -> Option<Resting>
+    ensures { result ≡ best_against book.now order.now }
+{
+    book.best(order.terms.stock, opposite(order.terms.side))
+}
+
+/// What becomes of an order that waits, over the best on the other side: a fill at the price of the one that rests
+/// where they meet; else it comes to rest, or ends where it is immediate-or-cancel.
+pub fn met(order: &LiveOrder, best: Option<Resting>) -> Verdict
+    ensures { result ≡ met order.now best }
+{
+    match best {
+        Some(best) if meets(order, &best) => Verdict::Filled(Fill {
+            taker: order.number,
+            maker: best.order,
+            shares: order.open().min(best.shares),
+            price: best.price,
+        }),
+        _ => unmet(order),
+    }
+}
+
+/// What the book holds of the order where it comes to rest.
+pub fn resting_of(order: &LiveOrder) -> Resting
+    ensures { result ≡ resting_of order.now }
+{
+    Resting {
+        order: order.number,
+        account: order.account,
+        user: order.user,
+        side: order.terms.side,
+        stock: order.terms.stock,
+        price: order.terms.price,
+        shares: order.open(),
+    }
+}
+
+/// A side that an order of this side trades with.
+pub fn opposite(side: u8) -> u8
+    ensures { is_buy result ≡ not (is_buy side) }
+{
+    if is_buy(side) { b'S' } else { b'B' }
+}
+
+fn meets(order: &LiveOrder, best: &Resting) -> bool
+    ensures { result ≡ meets order.now best.now }
+{
+    if is_buy(order.terms.side) {
+        best.price <= order.terms.price
+    } else {
+        order.terms.price <= best.price
+    }
+}
+
+fn unmet(order: &LiveOrder) -> Verdict
+    ensures { result ≡ unmet order.now }
+{
+    if order.terms.time_in_force == IMMEDIATE_OR_CANCEL {
+        Verdict::Expired(order.number)
+    } else {
+        Verdict::Rested(order.number)
+    }
+}
