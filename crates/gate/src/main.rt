@@ -20,6 +20,7 @@ const SCRIPT_LINES: &str = "Lines:
   M USER login PASSWORD NUMBER                        log in; NUMBER is the first report wanted, 0 for the last
   M USER logout                                       log out
   M USER enter TOKEN SIDE SHARES STOCK PRICE TIF      enter an order
+  M USER replace OLD NEW SHARES PRICE TIF             an order in the place of another
   M USER cancel TOKEN SHARES                          cut an order to a new size; 0 ends it
   M USER kill TAG ACCOUNT                             kill an account (officers)
   M USER lift TAG ACCOUNT                             lift a kill (officers)

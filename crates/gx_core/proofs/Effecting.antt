@@ -21,6 +21,7 @@ use Rattle.gx_effects.proofs.Effects.{is_told}
 use Rattle.gx_effects.proofs.Killing.{kill_takes_effect}
 use Rattle.gx_effects.proofs.Lifting.{lift_takes_effect}
 use Rattle.gx_effects.proofs.Lines.{login_takes_effect, logout_takes_effect}
+use Rattle.gx_effects.proofs.Replacing.{replace_takes_effect}
 use Rattle.gx_effects.proofs.Taking.{takes_effect}
 use Rattle.gx_core.specs.Steps.{CommandEffect, GrantEffect, VerdictEffect}
 use Rattle.gx_keepers.proofs.Carrying.{unreadable_is_denied}
@@ -49,7 +50,7 @@ by_grant policy history a r legal left granted brought requests.Logout asks = lo
 by_grant policy history a r legal left granted brought (requests.Unreadable m) asks =
     let denied : true ≡ false = sym (ap is_unreadable asks) ∙ unreadable_is_denied policy history a r left granted in cc
 by_grant policy history a r legal left granted brought (requests.Enter m) asks = takes_effect policy history a r m legal left asks granted
-by_grant policy history a r legal left granted brought (requests.Replace m) asks = let off : false ≡ true = sym (ap is_brought asks) ∙ brought in cc
+by_grant policy history a r legal left granted brought (requests.Replace m) asks = replace_takes_effect policy history a r m legal left asks granted
 by_grant policy history a r legal left granted brought (requests.Cancel m) asks = cancel_takes_effect policy history a r m legal left asks granted
 by_grant policy history a r legal left granted brought (requests.Command c) asks = by_command policy history a r c legal left asks granted brought c.action refl
 

@@ -11,7 +11,7 @@ is_command_brought (actions.Kill account) = true
 is_command_brought (actions.Lift account) = true
 is_command_brought other = false
 
--- Login, Logout, Unreadable, Enter, Cancel, Kill and Lift so far; then Replace, and the other commands.
+-- Login, Logout, Unreadable, the three messages of OUCH, Kill and Lift so far; then the other commands.
 abbrev pub is_brought : Request → Bool
 is_brought (requests.Login m) = true
 is_brought requests.Logout = true
@@ -19,11 +19,12 @@ is_brought (requests.Unreadable m) = true
 is_brought (requests.Enter m) = true
 is_brought (requests.Command c) = is_command_brought c.action
 is_brought (requests.Cancel m) = true
-is_brought (requests.Replace m) = false
+is_brought (requests.Replace m) = true
 
--- The messages that are read from a payload: so far Enter Order and Cancel Order. Any other payload is unreadable.
+-- The messages that are read from a payload: so far Enter, Replace and Cancel Order. Any other payload is unreadable.
 abbrev pub is_read : Request → Bool
 is_read (requests.Enter m) = true
+is_read (requests.Replace m) = true
 is_read (requests.Cancel m) = true
 is_read other = false
 

@@ -10,6 +10,7 @@ use Rattle.gx_units.specs.declared.names.AccountName.{AccountName}
 use Rattle.gx_units.specs.declared.names.Token.{Token}
 use Rattle.gx_units.specs.declared.names.UserName.{UserName}
 use Rattle.gx_ouch.specs.declared.inbound.CancelOrder.{CancelOrder}
+use Rattle.gx_ouch.specs.declared.inbound.ReplaceOrder.{ReplaceOrder}
 use Rattle.gx_ouch.specs.declared.inbound.EnterOrder.{EnterOrder}
 use Rattle.gx_ouch.specs.declared.letters.CancelReason.TheVariants as cancels
 use Rattle.gx_desk.specs.declared.Action.{Action}
@@ -32,7 +33,7 @@ use Rattle.gx_history.specs.declared.record.Verdict.{Verdict}
 use Rattle.gx_history.specs.declared.record.Verdict.TheVariants as verdicts
 use Rattle.gx_history.specs.declared.report.Message.{Message}
 use Rattle.gx_history.specs.declared.report.Report.{Report}
-use Rattle.gx_history.specs.Effects.{CutsOrder, KillsAccount, LiftsAccount, TakesEffect}
+use Rattle.gx_history.specs.Effects.{CutsOrder, KillsAccount, LiftsAccount, ReplacesOrder, TakesEffect, replacement}
 use Rattle.gx_history.specs.Asking.{knows_limit, knows_names, rule_in_force}
 use Rattle.gx_history.specs.Executions.{Standing, live_orders}
 use Rattle.gx_history.specs.InForce.{changed, limit_of, rules_in_force}
@@ -42,7 +43,7 @@ use Rattle.gx_history.specs.Reasons.{denial_code}
 use Rattle.gx_history.specs.Requests.{action_of, asked, granted, granted_action, is_granted, is_judged, is_unreadable}
 use Rattle.gx_history.specs.RuleNames.{rules_before}
 use Rattle.gx_history.specs.Rules.{forbids}
-use Rattle.gx_history.specs.Streams.{accepted, answer, canceled, day_end, ended, rejected, reported, reports_of, reports_of_denial, stream, to_user}
+use Rattle.gx_history.specs.Streams.{accepted, answer, canceled, day_end, ended, rejected, replaced, reported, reports_of, reports_of_denial, stream, to_user}
 use Rattle.gx_history.specs.Verdicts.{facts_now, next}
 use Rattle.gx_history_laws.proofs.Adding.{user_is_itself}
 use Rattle.gx_history_laws.proofs.Judging.{both}
@@ -58,6 +59,7 @@ use Rattle.gx_effects.proofs.Effects.{is_told}
 use Rattle.gx_effects.proofs.Killing.{kill_takes_effect}
 use Rattle.gx_effects.proofs.Lifting.{lift_takes_effect}
 use Rattle.gx_effects.proofs.Lines.{login_takes_effect, logout_takes_effect}
+use Rattle.gx_effects.proofs.Replacing.{replace_takes_effect}
 use Rattle.gx_effects.proofs.Taking.{takes_effect}
 use Rattle.gx_day.specs.DayData.{DayData, at_moment, with_kill, with_line}
 use Rattle.gx_day.specs.InForce.{day_asked, day_commanded, day_in_force}
@@ -527,15 +529,15 @@ has_setting policy history a r c k t grants asks =
 pub no_other_request : (policy : PolicyData) (history : List RecordData) (a : Asked) (r : RecordData) (k : Keepers)
     → Takes policy history a r k → r.verdict ≡ verdicts.Granted → is_carried a.request ≡ true
     → ((m : Login) → a.request ≡ requests.Login m → ⊥) → (a.request ≡ requests.Logout → ⊥) → ((m : EnterOrder) → a.request ≡ requests.Enter m → ⊥)
-    → ((m : CancelOrder) → a.request ≡ requests.Cancel m → ⊥) → ((c : Command) → a.request ≡ requests.Command c → ⊥) → ⊥
-no_other_request policy history a r k t grants carried no_login no_logout no_enter no_cancel no_command = by a.request refl
+    → ((m : ReplaceOrder) → a.request ≡ requests.Replace m → ⊥) → ((m : CancelOrder) → a.request ≡ requests.Cancel m → ⊥) → ((c : Command) → a.request ≡ requests.Command c → ⊥) → ⊥
+no_other_request policy history a r k t grants carried no_login no_logout no_enter no_replace no_cancel no_command = by a.request refl
   where
     by : (q : Request) → a.request ≡ q → ⊥
     by (requests.Login m) asks = no_login m asks
     by requests.Logout asks = no_logout asks
     by (requests.Unreadable m) asks = let denied : true ≡ false = sym (ap is_unreadable asks) ∙ unreadable_is_denied policy history a r t.left grants in cc
     by (requests.Enter m) asks = no_enter m asks
-    by (requests.Replace m) asks = let off : false ≡ true = sym (ap is_carried asks) ∙ carried in cc
+    by (requests.Replace m) asks = no_replace m asks
     by (requests.Cancel m) asks = no_cancel m asks
     by (requests.Command c) asks = no_command c asks
 
@@ -604,7 +606,9 @@ grant_few policy history a r k t grants carried (requests.Unreadable m) asks non
 grant_few policy history a r k t grants carried (requests.Enter m) asks none =
     let is : TakesEffect policy history (history ++ r ∷ []) r a.user m = takes_effect policy history a r m t.legal t.left asks grants in
     record { told = accepted (entered policy r a.user is.account m); tells = is.told; few = omega arith }
-grant_few policy history a r k t grants carried (requests.Replace m) asks none = let off : false ≡ true = sym (ap is_carried asks) ∙ carried in cc
+grant_few policy history a r k t grants carried (requests.Replace m) asks none =
+    let is : ReplacesOrder policy history (history ++ r ∷ []) r a.user m = replace_takes_effect policy history a r m t.legal t.left asks grants in
+    record { told = replaced (replacement policy history r m is.old.order); tells = is.told; few = omega arith }
 grant_few policy history a r k t grants carried (requests.Cancel m) asks none =
     let is : CutsOrder policy history (history ++ r ∷ []) r a.user m = cancel_takes_effect policy history a r m t.legal t.left asks grants in
     record { told = canceled cancels.UserRequested (is.cut.open_shares - is.left) is.cut.order; tells = is.told; few = omega arith }

@@ -3,3 +3,4 @@ pub mod Carrying
 pub mod Cutting
 pub mod Keepings
 pub mod Matches
+pub mod Replacing

@@ -1,5 +1,6 @@
 -- What users are told of the orders that are kept.
-use Rattle.std.specs.Prelude.{ℕ}
+use Rattle.std.specs.Prelude.{ℕ, ◌-◌}
+use Rattle.gx_units.specs.declared.names.Token.{Token}
 use Rattle.gx_ouch.specs.declared.letters.CancelReason.{CancelReason}
 use Rattle.gx_ouch.specs.declared.letters.Liquidity.{Liquidity}
 use Rattle.gx_ouch.specs.declared.outbound.Outbound.TheVariants as outbounds
@@ -7,6 +8,7 @@ use Rattle.gx_history.specs.declared.record.Fill.{Fill}
 use Rattle.gx_history.specs.declared.record.RecordData.{RecordData}
 use Rattle.gx_history.specs.declared.report.Message.{Message}
 use Rattle.gx_history.specs.declared.report.Message.TheVariants as messages
+use Rattle.gx_history.specs.Streams.{with_shares}
 use Rattle.gx_orders.specs.declared.live_order.LiveOrder.{LiveOrder}
 
 -- Accepted: the order as it was asked for, with the number of its record
@@ -20,3 +22,8 @@ executed_message r f o liquidity = messages.Order (outbounds.Executed (record { 
 -- Canceled: so many shares less of the order, and why
 abbrev pub canceled_message : LiveOrder → ℕ → CancelReason → Message
 canceled_message o decrement reason = messages.Order (outbounds.Canceled (record { token = o.token; decrement = decrement; reason = reason }))
+
+-- Replaced: the new order, with the shares that it has open, and the token of the one before it
+abbrev pub replaced_message : LiveOrder → Token → Message
+replaced_message o previous =
+    messages.Order (outbounds.Replaced (record { token = o.token; terms = with_shares o.terms (o.total - o.done); order_reference = o.number; previous_token = previous }))

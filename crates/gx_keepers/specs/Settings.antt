@@ -25,14 +25,14 @@ abbrev pub is_carried_command : Action → Bool
 is_carried_command actions.CloseDay = false
 is_carried_command other = true
 
--- a request that the keepers are carried on by: all but Replace and Close Day
+-- a request that the keepers are carried on by: all but Close Day
 abbrev pub is_carried : Request → Bool
 is_carried (requests.Login m) = true
 is_carried requests.Logout = true
 is_carried (requests.Unreadable m) = true
 is_carried (requests.Enter m) = true
 is_carried (requests.Command c) = is_carried_command c.action
-is_carried (requests.Replace m) = false
+is_carried (requests.Replace m) = true
 is_carried (requests.Cancel m) = true
 
 -- the rule that a setting names has it

@@ -8,7 +8,7 @@ ghost use Rattle.gx_desk.specs.declared.Action.TheVariants as actions;
 ghost use Rattle.gx_history.specs.declared.record.Request.TheVariants as requests;
 ghost use Rattle.gx_history.specs.declared.record.Verdict.TheVariants as verdicts;
 ghost use Rattle.gx_market.specs.Changes.{cut_from};
-ghost use Rattle.gx_orders.specs.Changes.{waiting_order};
+ghost use Rattle.gx_orders.specs.Changes.{replacement_order, waiting_order};
 ghost use Rattle.gx_keepers.specs.Keepers.{marked_by, AreAfter, AreAfterBut, AreBefore, IsNext, IsPlaced, IsUnused};
 ghost use Rattle.gx_keepers.specs.Ends.{owed_by_ends, told_of_ends, HaveOwedPlaces};
 ghost use Rattle.gx_keepers.specs.Settings.{is_carried, is_carried_command};
@@ -17,7 +17,7 @@ use crate::keepers::Keepers;
 use crate::listed::firm_of;
 use crate::next_record::NextRecord;
 use crate::places::keep_places;
-use crate::reports::{accepted, canceled, ended, rejected, tell};
+use crate::reports::{accepted, canceled, ended, rejected, replaced, tell};
 use crate::request::denied_token;
 use crate::settings::apply_setting;
 use gx_desk::{Action, Command};
@@ -26,7 +26,7 @@ use gx_history::record::{Asked, RecordData, Request, RuleName, Verdict};
 use gx_history::report::Report;
 use gx_orders::live_order::LiveOrder;
 use gx_orders::orders::Orders;
-use gx_ouch::{CancelOrder, CancelReason, EnterOrder, OrderTerms};
+use gx_ouch::{CancelOrder, CancelReason, EnterOrder, OrderTerms, ReplaceOrder};
 use gx_streams::streams::Streams;
 use gx_units::{AccountName, Moment, OutOfMemory, UserName};
 
@@ -155,6 +155,54 @@ fn apply_cancel(keepers: &mut Keepers, next: NextRecord<'_>, m: &CancelOrder)
     tell(&mut keepers.streams, user, next.left.moment, Some(message));
 }
 
+/// The order of a Replace that the record grants: its chain's, with the terms that are asked for now.
+fn replacement_of(left: &RecordData, m: &ReplaceOrder, old: &LiveOrder) -> LiveOrder
+    ensures { result ≡ replacement_order left.now m.now old.now }
+{
+    LiveOrder {
+        number: left.number,
+        token: m.replacement_token,
+        terms: OrderTerms {
+            shares: m.shares,
+            price: m.price,
+            time_in_force: m.time_in_force,
+            display: m.display,
+            intermarket_sweep: m.intermarket_sweep,
+            minimum_quantity: m.minimum_quantity,
+            ..old.terms
+        },
+        total: m.shares,
+        waits: true,
+        ..*old
+    }
+}
+
+/// A granted Replace: its order is the last of those that wait, the one before it has ended, and its user is told.
+fn apply_replace(
+    keepers: &mut Keepers,
+    next: NextRecord<'_>,
+    m: &ReplaceOrder,
+) -> Result<(), OutOfMemory>
+    requires takes { IsNext next keepers.old }
+    requires places { IsPlaced next keepers.old }
+    requires granted { next.left.now.verdict ≡ verdicts.Granted }
+    requires replaces { next.asked.now.request ≡ requests.Replace m.now }
+    ensures ok { OnOk result (AreAfterBut next.entry keepers.new) }
+    ensures err { OnErr result (AreBefore next.entry keepers.new) }
+{
+    let user = next.asked.user;
+    let Some(old) = keepers.orders.under(user, m.existing_token) else {
+        unreachable!();
+    };
+    let new = replacement_of(next.left, m, &old);
+    keepers.orders.enter(new)?;
+    keepers.orders.end(old.number);
+    keepers.book.remove(old.number);
+    let message = replaced(&new, old.token);
+    tell(&mut keepers.streams, user, next.left.moment, Some(message));
+    Ok(())
+}
+
 /// Tells each user, by number, of his live orders of the account, which end now.
 fn tell_of_ends(streams: &mut Streams, orders: &Orders, account: AccountName, moment: Moment)
     requires { HaveOwedPlaces (owed_by_ends account moment orders.now.live) streams.old }
@@ -240,6 +288,7 @@ fn apply_grant(keepers: &mut Keepers, next: NextRecord<'_>) -> Result<(), OutOfM
             Ok(())
         }
         Request::Enter(m) => apply_enter(keepers, next, m),
+        Request::Replace(m) => apply_replace(keepers, next, m),
         Request::Cancel(m) => {
             apply_cancel(keepers, next, m);
             Ok(())

@@ -7,7 +7,7 @@ ghost use Rattle.gx_history.specs.Streams.{rejected};
 ghost use Rattle.gx_orders.specs.Changes.{ended_message};
 ghost use Rattle.gx_streams.specs.Kept.{places_in};
 ghost use Rattle.gx_keepers.specs.Keepers.{with_told};
-ghost use Rattle.gx_keepers.specs.Messages.{accepted_message, canceled_message, executed_message};
+ghost use Rattle.gx_keepers.specs.Messages.{accepted_message, canceled_message, executed_message, replaced_message};
 
 use crate::request::new_token;
 use gx_history::policy::{FileRule, Policy, RuleKind};
@@ -15,10 +15,11 @@ use gx_history::record::{Fill, RecordData, Request, RuleName};
 use gx_history::report::{Message, Report};
 use gx_orders::live_order::LiveOrder;
 use gx_ouch::{
-    Accepted, CancelReason, Canceled, Executed, Liquidity, Outbound, RejectReason, Rejected,
+    Accepted, CancelReason, Canceled, Executed, Liquidity, OrderTerms, Outbound, RejectReason,
+    Rejected, Replaced,
 };
 use gx_streams::streams::Streams;
-use gx_units::{Moment, RuleId, UserName};
+use gx_units::{Moment, RuleId, Token, UserName};
 
 fn find_rule<'a>(rules: &'a [FileRule], name: RuleId) -> Option<&'a FileRule>
     ensures { option_copied result ≡ find (λ r. same_rule r.name name) rules.now }
@@ -106,6 +107,21 @@ pub fn executed(left: &RecordData, f: Fill, order: &LiveOrder, liquidity: Liquid
         price: f.price,
         liquidity,
         match_number: left.number,
+    }))
+}
+
+/// Replaced: to who asked for the order in the place of the one under the previous token.
+pub fn replaced(order: &LiveOrder, previous: Token) -> Message
+    ensures { result ≡ replaced_message order.now previous }
+{
+    Message::Order(Outbound::Replaced(Replaced {
+        token: order.token,
+        terms: OrderTerms {
+            shares: order.open(),
+            ..order.terms
+        },
+        order_reference: order.number,
+        previous_token: previous,
     }))
 }
 

@@ -3,11 +3,12 @@ use Rattle.std.specs.Prelude.{ℕ, ◌-◌, Bool, ◌&&◌, ◌||◌, ◌==◌, 
 use Rattle.gx_units.specs.declared.names.AccountName.{AccountName}
 use Rattle.gx_desk.specs.declared.Tag.{Tag}
 use Rattle.gx_ouch.specs.declared.inbound.EnterOrder.{EnterOrder}
+use Rattle.gx_ouch.specs.declared.inbound.ReplaceOrder.{ReplaceOrder}
 use Rattle.gx_history.specs.Brought.{is_brought}
 use Rattle.gx_history.specs.Payloads.{request_of}
 use Rattle.gx_history.specs.Showing.{has_its_first}
 use Rattle.gx_script.specs.declared.line.ScriptStep.{ScriptStep}
-use Rattle.gx_script.specs.declared.line.ScriptStep.TheVariants.{Login, Logout, Enter, Cancel, Kill, Lift, Raw}
+use Rattle.gx_script.specs.declared.line.ScriptStep.TheVariants.{Login, Logout, Enter, Replace, Cancel, Kill, Lift, Raw}
 use Rattle.gx_script.specs.declared.line.ScriptLine.{ScriptLine}
 use Rattle.gx_script.specs.declared.line.ScriptLine.TheVariants.{Skipped, Step, Match, Settle, Stream}
 use Rattle.gx_script.specs.Words.{◌>>=◌, words_of, first, alone, is_done, itself, is_empty, name_of, user_of, number_of, byte_of, bytes_of}
@@ -48,6 +49,29 @@ enter_form words = do
   time_in_force ← first (number_of 32) price.1
   alone (Enter (plain_order token.0 side.0 shares.0 stock.0 price.0 time_in_force.0)) time_in_force.1
 
+-- what is asked for in the place of an order: displayed, in no sweep, of any quantity
+abbrev pub plain_replace : (old new : List ℕ) → ℕ → ℕ → ℕ → ReplaceOrder
+plain_replace old new shares price time_in_force = record {
+  existing_token = record { bytes = old };
+  replacement_token = record { bytes = new };
+  shares = shares;
+  price = price;
+  time_in_force = time_in_force;
+  display = 89;
+  intermarket_sweep = 78;
+  minimum_quantity = 0;
+}
+
+-- `OLD NEW SHARES PRICE TIF`
+unfoldable pub replace_form : List (List ℕ) → Option ScriptStep
+replace_form words = do
+  old ← first (name_of 14) words
+  new ← first (name_of 14) old.1
+  shares ← first (number_of 32) new.1
+  price ← first (number_of 32) shares.1
+  time_in_force ← first (number_of 32) price.1
+  alone (Replace (plain_replace old.0 new.0 shares.0 price.0 time_in_force.0)) time_in_force.1
+
 -- `TOKEN SHARES`: the shares are the new size of the order
 unfoldable pub cancel_form : List (List ℕ) → Option ScriptStep
 cancel_form words = do
@@ -74,11 +98,12 @@ step_form name words =
     if bytes_eq name (codes "login") then login_form words
     else (if bytes_eq name (codes "logout") then alone Logout words
     else (if bytes_eq name (codes "enter") then enter_form words
+    else (if bytes_eq name (codes "replace") then replace_form words
     else (if bytes_eq name (codes "cancel") then cancel_form words
     else (if bytes_eq name (codes "kill") then option_map (λ named. Kill named.0 named.1) (account_form words)
     else (if bytes_eq name (codes "lift") then option_map (λ named. Lift named.0 named.1) (account_form words)
     else (if bytes_eq name (codes "raw") then raw_form words
-    else None))))))
+    else None)))))))
 
 -- `USER ..`, USER being the first word: what the user asks for at this moment
 unfoldable pub asked_line : ℕ → List ℕ → List (List ℕ) → Option ScriptLine
@@ -134,6 +159,7 @@ IsAskable (Raw request) = IsTrue (is_brought request) × IsTrue (has_its_first r
 IsAskable (Login given wanted) = Unit {0}
 IsAskable Logout = Unit {0}
 IsAskable (Enter order) = Unit {0}
+IsAskable (Replace order) = Unit {0}
 IsAskable (Cancel order) = Unit {0}
 IsAskable (Kill tag account) = Unit {0}
 IsAskable (Lift tag account) = Unit {0}

@@ -6,13 +6,13 @@ ghost use Rattle.gx_history.specs.Brought.{is_brought};
 ghost use Rattle.gx_history.specs.Payloads.{request_of};
 ghost use Rattle.gx_history.specs.Showing.{has_its_first};
 ghost use Rattle.gx_script.specs.Words.{Takes, alone, is_done, name_of, user_of, number_of, byte_of, bytes_of, itself};
-ghost use Rattle.gx_script.specs.ScriptLines.{login_form, plain_order, enter_form, cancel_form, account_form, raw_form, step_form, asked_line, step_line, stream_line, line_of_words, without_cr, is_too_long, is_skipped, line_of, IsAskable, IsAskableLine};
+ghost use Rattle.gx_script.specs.ScriptLines.{login_form, plain_order, enter_form, replace_form, cancel_form, account_form, raw_form, step_form, asked_line, step_line, stream_line, line_of_words, without_cr, is_too_long, is_skipped, line_of, IsAskable, IsAskableLine};
 
 use crate::words::{Words, byte, name, number32, number64};
 use crate::wrong::{Wanted, Wrong};
 use gx_desk::Tag;
 use gx_history::record::Request;
-use gx_ouch::{CancelOrder, EnterOrder};
+use gx_ouch::{CancelOrder, EnterOrder, ReplaceOrder};
 use gx_units::{AccountName, Firm, Password, Symbol, Token, UserName};
 
 /// What a line of a script asks for in a user's name.
@@ -24,6 +24,8 @@ pub enum ScriptStep {
     Logout,
     /// `enter TOKEN SIDE SHARES STOCK PRICE TIF`.
     Enter(EnterOrder),
+    /// `replace OLD NEW SHARES PRICE TIF`: the shares are those of the whole chain, what is executed of it included.
+    Replace(ReplaceOrder),
     /// `cancel TOKEN SHARES`: the shares are the new size of the order, what is executed of it included.
     Cancel(CancelOrder),
     /// `kill TAG ACCOUNT`.
@@ -161,6 +163,29 @@ fn enter_form(words: &mut Words) -> Result<ScriptStep, Wrong>
     }))
 }
 
+#[tactic(auto, unfolding(crate::specs::ScriptLines::replace_form))]
+fn replace_form(words: &mut Words) -> Result<ScriptStep, Wrong>
+    ensures meaning { result_ok result ≡ replace_form words.old }
+    ensures askable { IfOk result IsAskable }
+{
+    let old = take_name(words, Wanted::Token)?;
+    let new = take_name(words, Wanted::Token)?;
+    let shares = take_number32(words, Wanted::Shares)?;
+    let price = take_number32(words, Wanted::Price)?;
+    let time_in_force = take_number32(words, Wanted::TimeInForce)?;
+    end(words)?;
+    Ok(ScriptStep::Replace(ReplaceOrder {
+        existing_token: Token { bytes: old },
+        replacement_token: Token { bytes: new },
+        shares,
+        price,
+        time_in_force,
+        display: b'Y',
+        intermarket_sweep: b'N',
+        minimum_quantity: 0,
+    }))
+}
+
 #[tactic(auto, unfolding(crate::specs::ScriptLines::cancel_form))]
 fn cancel_form(words: &mut Words) -> Result<ScriptStep, Wrong>
     ensures meaning { result_ok result ≡ cancel_form words.old }
@@ -236,6 +261,9 @@ fn step_form(form: &[u8], words: &mut Words) -> Result<ScriptStep, Wrong>
     }
     if is(form, b"enter") {
         return enter_form(words);
+    }
+    if is(form, b"replace") {
+        return replace_form(words);
     }
     if is(form, b"cancel") {
         return cancel_form(words);

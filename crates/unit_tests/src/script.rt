@@ -74,7 +74,7 @@ fn bad_lines(rt: HostRuntime) {
         "1 ALICE raw 4g",
         "1 ALICE cancel A1",
         "1 ALICE cancel A1 4294967296",
-        "1 ALICE replace A1 A2 1 10 0",
+        "1 ALICE replace A1 A2 1 10",
         "1 match 2",
         "1 Settle",
         "stream",
