@@ -3,7 +3,7 @@
 //! of the rules, at most.
 
 use crate::tell_ratio;
-use gx_history::facts::{Facts, Figures, RuleFigures};
+use gx_history::facts::{Facts, NoFigures};
 use gx_history::policy::Policy;
 use gx_history::record::Request;
 use gx_ouch::EnterOrder;
@@ -40,22 +40,6 @@ const NOTHING_WRONG: Facts = Facts {
     would_change: true,
     account: Some(ALFA),
     moment: 1,
-};
-
-const NO_FIGURES: RuleFigures = RuleFigures {
-    live_shares: 0,
-    live_value: 0,
-    done_shares: 0,
-    done_value: 0,
-    replaced_shares: 0,
-    replaced_value: 0,
-    recent: 0,
-    equal_recent: 0,
-    reference: 0,
-};
-
-const NONE: Figures = Figures {
-    rules: [NO_FIGURES; 128],
 };
 
 /// An Enter of a stock that no list holds.
@@ -156,7 +140,7 @@ fn time_of(rt: &HostRuntime, book: &RuleBook, rounds: u32) -> io::Result<Duratio
     let start = Instant::now(rt)?;
     for _ in 0..rounds {
         if book
-            .first_forbidding(&NOTHING_WRONG, &NONE, &ENTER)
+            .first_forbidding(&NOTHING_WRONG, &NoFigures, &ENTER)
             .is_some()
         {
             return Err(io::ErrorKind::InvalidData.into());

@@ -215,7 +215,7 @@ fn tell_more(rt: &HostRuntime, ended: &Ended) {
                 let _ = eprintln!(rt; "{path}: {error}");
             }
         }
-        ProgramFault::Pipe(_) | ProgramFault::NotJudged(_) => {}
+        ProgramFault::Pipe(_) => {}
     }
 }
 

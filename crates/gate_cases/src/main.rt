@@ -40,7 +40,7 @@ mod trials;
 use devices::Limits;
 use gx_history::policy::Policy;
 use gx_policyfile::{SAMPLE, read_policy};
-use gx_server::{open_gate, sample_without_figures, told_of_policy};
+use gx_server::{open_gate, sample_policy, told_of_policy};
 use gx_units::OutOfMemory;
 use policies::{put_fault, put_rules};
 use runs::tell_parts;
@@ -174,7 +174,7 @@ fn answer_all(
 
 /// What is printed of the cases of a text.
 fn answered(alloc: Global, text: &str) -> Result<String, OutOfMemory> {
-    let sample = sample_without_figures(alloc)?;
+    let sample = sample_policy(alloc)?;
     let mut out = String::new(alloc);
     answer_all(alloc, &mut out, &sample, text)?;
     Ok(out)

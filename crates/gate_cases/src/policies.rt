@@ -92,16 +92,11 @@ pub(crate) fn put_rules(out: &mut String, policy: &Policy) -> Result<(), OutOfMe
     Ok(())
 }
 
-/// Puts why no gate opens under a policy file: its fault, or the first rule that asks for figures.
+/// Puts why no gate opens under a policy file: its fault.
 pub(crate) fn put_fault(out: &mut String, fault: &ProgramFault) -> Result<(), OutOfMemory> {
     match fault {
         ProgramFault::Policy(fault) => {
             writeln!(out, "{fault}")?;
-            Ok(())
-        }
-        ProgramFault::NotJudged(rule) => {
-            let name = text_of(&rule.bytes);
-            writeln!(out, "{name} asks for figures")?;
             Ok(())
         }
         _ => Err(OutOfMemory),

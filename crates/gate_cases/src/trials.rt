@@ -3,7 +3,7 @@
 use crate::devices::Limits;
 use crate::runs::{Ended, connect, put_end, put_hex, put_verdicts};
 use crate::texts::put;
-use gx_core::{Gate, first_that_needs_figures};
+use gx_core::Gate;
 use gx_history::policy::Policy;
 use gx_units::OutOfMemory;
 use std::alloc::Global;
@@ -138,9 +138,6 @@ fn run_alone(
     count: usize,
     whole: &[u8],
 ) -> Result<(usize, bool), OutOfMemory> {
-    if first_that_needs_figures(trial.policy).is_some() {
-        return Ok((0, true));
-    }
     let mut gate = Gate::open(alloc, trial.policy)?;
     let (limits, input) = varied_by(trial, count);
     let ended = connect(alloc, &mut gate, limits, input);
@@ -213,9 +210,6 @@ fn put_runs(
 
 /// What is written where nothing fails.
 fn whole_answer(alloc: Global, trial: Trial<'_>) -> Result<Vec<u8>, OutOfMemory> {
-    if first_that_needs_figures(trial.policy).is_some() {
-        return Ok(Vec::new(alloc));
-    }
     let mut gate = Gate::open(alloc, trial.policy)?;
     let (limits, _) = varied_by(trial, usize::MAX);
     Ok(connect(alloc, &mut gate, limits, trial.input).written)

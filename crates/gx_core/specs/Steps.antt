@@ -1,5 +1,5 @@
 -- What a step answers for: its verdict, and what it changes.
-use Rattle.std.specs.Prelude.{◌≡◌, ◌≤◌, ◌++◌, ◌∷◌, [], length, IsTrue, IsFalse, List, Option, Some, None, ◌↔◌}
+use Rattle.std.specs.Prelude.{◌≡◌, ◌≤◌, Bool, ◌++◌, ◌∷◌, [], length, IsTrue, IsFalse, List, Option, Some, None, ◌↔◌}
 use Rattle.gx_units.specs.declared.names.AccountName.{AccountName}
 use Rattle.gx_units.specs.declared.names.UserName.{UserName}
 use Rattle.gx_desk.specs.declared.Action.{Action}
@@ -18,6 +18,7 @@ use Rattle.gx_history.specs.Effects.{ChangesLine, CutsOrder, DeniesRequest, IsGr
 use Rattle.gx_history.specs.InForce.{is_killed}
 use Rattle.gx_history.specs.Rules.{first_forbidding, IsFirstForbidding}
 use Rattle.gx_history.specs.Verdicts.{day_limit, facts_now, next, rules_now, verdict}
+use Rattle.gx_exposure.specs.Exposure.{HasNothing, NoneIsGranted}
 use Rattle.gx_core.specs.declared.outcome.Outcome.{Outcome}
 use Rattle.gx_core.specs.Gates.{GateData, left_by}
 
@@ -84,3 +85,7 @@ HasEffect old new a o = VerdictEffect old.policy old.records new.records (left_b
 abbrev pub EndsKills : GateData → GateData → RecordData → Type 0
 EndsKills old new r = (account : AccountName) →
     IsTrue (is_killed old.policy old.records account) → IsFalse (is_killed new.policy new.records account) → IsGrantedLift old.policy account r
+
+-- accounts that were granted no order have nothing open and nothing executed
+abbrev pub NoneHeldWhereNoneAsked : GateData → Type 0
+NoneHeldWhereNoneAsked gate = (among : AccountName → Bool) → NoneIsGranted gate.policy gate.records among → HasNothing gate.policy gate.records among

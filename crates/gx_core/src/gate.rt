@@ -1,13 +1,13 @@
 //! The gate.
 
 ghost use Rattle.std.specs.Prelude.{◌≡◌, ◌+◌, ◌<◌, max, [], length, IsTrue, IfOk, IfErr, IfSome, OnErr, None, Some, is_some, option_map};
+ghost use Rattle.gx_exposure.specs.Exposure.{SharesStayWithin, ValuesStayWithin};
 ghost use Rattle.gx_history.specs.Brought.{is_brought};
 ghost use Rattle.gx_history.specs.Effects.{HasNoOrders};
 ghost use Rattle.gx_history.specs.InForce.{line_of, is_closed, is_killed};
 ghost use Rattle.gx_history.specs.Lists.{slice};
 ghost use Rattle.gx_history.specs.Matched.{AreUncrossed};
 ghost use Rattle.gx_history.specs.People.{user_in};
-ghost use Rattle.gx_history.specs.Plain.{rules_need_no_figures};
 ghost use Rattle.gx_history.specs.Showing.{is_askable};
 ghost use Rattle.gx_history.specs.Streams.{stream};
 ghost use Rattle.gx_history.specs.Verdicts.{last_moment, verdict, IsLegal};
@@ -16,7 +16,8 @@ ghost use Rattle.gx_core.specs.Gates.{left_by, matched_by};
 ghost use Rattle.gx_core.specs.Logins.{login_answered};
 ghost use Rattle.gx_core.specs.Matches.{matches_left, matching_of, next_match, settled_gate, with_match, HasMatched};
 ghost use Rattle.gx_core.specs.Told.{ends_before, login_of, stream_of};
-ghost use Rattle.gx_core.specs.Steps.{next_of, verdict_of, with_record, EndsKills, HasEffect, IsFull, IsJudged};
+ghost use Rattle.gx_core.specs.Steps.{next_of, verdict_of, with_record, EndsKills, HasEffect};
+ghost use Rattle.gx_core.specs.Steps.{IsFull, IsJudged, NoneHeldWhereNoneAsked};
 
 use crate::copies::copied;
 use crate::login::{login_answered, login_asked};
@@ -71,10 +72,7 @@ impl Model for Gate {
 
 impl Gate {
     /// A gate at the beginning of a day, with a copy of the policy.
-    ///
-    /// No rule of the policy may ask for figures: `rules_need_no_figures` tells.
     pub fn open(alloc: Global, policy: &Policy) -> Result<Gate, OutOfMemory>
-        requires { IsTrue (rules_need_no_figures policy.now) }
         ensures policy { IfOk result (λ gate. gate.policy ≡ policy.now) }
         ensures records { IfOk result (λ gate. gate.records ≡ []) }
     {
@@ -181,9 +179,16 @@ impl Gate {
 
     /// The records are those of a legal day under the policy: each is what its step leaves after those before it. No
     /// buy that rests is at or above a sell that rests in its stock.
+    ///
+    /// What accounts have open and executed is within the limit of each gross rule, as it was in force when one of them
+    /// was last granted an order: in shares always, in value but for what their sells got above their own prices since.
+    /// Accounts that were granted no order have nothing.
     pub fn is_legal(&self)
         ensures legal { IsLegal self.now.policy self.now.records }
         ensures uncrossed { AreUncrossed self.now.policy self.now.records }
+        ensures shares_within { SharesStayWithin self.now.policy self.now.records }
+        ensures values_within { ValuesStayWithin self.now.policy self.now.records }
+        ensures none_held { NoneHeldWhereNoneAsked self.now }
     {
         // The type says so: a look at a field is enough.
         let _ = &self.history;

@@ -6,7 +6,7 @@ ghost use Rattle.gx_history.specs.Asking.{changes, facts, fits_role, has_power, 
 ghost use Rattle.gx_history.specs.Brought.{is_brought};
 ghost use Rattle.gx_history.specs.People.{account_named, account_of, role_in};
 ghost use Rattle.gx_history.specs.Showing.{answers, is_askable, is_showable};
-ghost use Rattle.gx_history.specs.Verdicts.{day_limit, moment_of, next, verdict, verdict_by};
+ghost use Rattle.gx_history.specs.Verdicts.{day_limit, moment_of, next, verdict};
 ghost use Rattle.gx_orders.specs.InForce.{cuts_nothing, named};
 ghost use Rattle.gx_people.specs.Entitled.{holds_in_role};
 ghost use Rattle.gx_core.specs.Gates.{left_by};
@@ -15,9 +15,10 @@ ghost use Rattle.gx_core.specs.Steps.{next_of, verdict_of};
 
 use crate::gate::Gate;
 use crate::outcome::Outcome;
+use gx_decide::decide;
 use gx_desk::Action;
 use gx_history::facts::{Facts, NamedOrder};
-use gx_history::record::{Asked, Request, RuleName, Verdict};
+use gx_history::record::{Asked, Request, Verdict};
 use gx_keepers::listed::{account_named, fits_firm, lists_its_stock};
 use gx_keepers::request::{named_token, new_token};
 use gx_orders::live_order::LiveOrder;
@@ -48,6 +49,8 @@ fn named_order(order: &LiveOrder) -> NamedOrder
         order: order.number,
         side: order.terms.side,
         stock: order.terms.stock,
+        price: order.terms.price,
+        open_shares: order.open(),
         done: u64::from(order.done),
     }
 }
@@ -78,15 +81,6 @@ const NO_COMMAND: CommandFacts = CommandFacts {
     accounts_are_his: true,
     would_change: true,
 };
-
-fn verdict_by(found: Option<RuleName>) -> Verdict
-    ensures { result ≡ verdict_by found }
-{
-    match found {
-        Some(rule) => Verdict::Denied(rule),
-        None => Verdict::Granted,
-    }
-}
 
 impl Gate {
     /// Whether a Login's user is in the policy, and its password is right.
@@ -246,8 +240,8 @@ impl Gate {
         // that the policy is sound, which `shown` rests on
         let _ = self.policy.rules();
         let known = self.facts_of(a, moment);
-        let rules = &self.keepers.rules;
-        verdict_by(rules.first_forbidding_without_figures(&known, &a.request))
+        let keepers = &self.keepers;
+        decide(&keepers.people, &keepers.rules, &keepers.ledger, &known, a)
     }
 
     /// The number, the moment and the verdict of the record that the request leaves.

@@ -18,6 +18,5 @@ pub mod Ends
 pub mod Adding
 pub mod Tokens
 pub mod Listed
-pub mod PlainRules
 pub mod Names
 pub mod Tables

@@ -12,21 +12,26 @@ use Rattle.gx_orders.proofs.Staying.{none_at_first}
 use Rattle.gx_book.specs.Books.{StockOrders, empty_book}
 use Rattle.gx_market.proofs.Booked.{book_at_first}
 use Rattle.gx_people.proofs.Keeping.{first_users}
+use Rattle.gx_positions.specs.Changing.{nothing}
+use Rattle.gx_ledger.specs.Keeping.{Kept}
+use Rattle.gx_ledger.specs.StandsFor.{StandsFor}
 use Rattle.gx_streams.specs.Streams.{AllStreams, empty_streams}
 use Rattle.gx_streams.specs.Telling.{shown}
 use Rattle.gx_streams.proofs.Telling.{first_told}
 use Rattle.gx_keepers.specs.Keepers.{AreInForce}
+use Rattle.gx_keepers.proofs.Figuring.{begins}
 
 -- at the beginning of a day
-pub begin : (policy : PolicyData) (users : List User) (rules : List FileRule) (day : DayData) (orders : OrdersData) (book : List StockOrders) (streams : AllStreams)
-    → users ≡ policy.users → rules ≡ policy.rules → day ≡ fresh_day policy → orders.live ≡ [] → orders.used ≡ [] → book ≡ empty_book policy → streams ≡ empty_streams policy
-    → AreInForce policy [] (record { people = users; rules = rules; day = day; orders = orders; book = book; streams = streams })
+pub begin : (policy : PolicyData) (users : List User) (rules : List FileRule) (day : DayData) (orders : OrdersData) (book : List StockOrders) (ledger : Kept) (streams : AllStreams)
+    → users ≡ policy.users → rules ≡ policy.rules → day ≡ fresh_day policy → orders.live ≡ [] → orders.used ≡ [] → book ≡ empty_book policy → StandsFor policy ledger nothing → streams ≡ empty_streams policy
+    → AreInForce policy [] (record { people = users; rules = rules; day = day; orders = orders; book = book; ledger = ledger; streams = streams })
 unfolding rules_in_force
-begin policy users rules day orders book streams users_are rules_are day_is none_live none_used book_is streams_are = record {
+begin policy users rules day orders book ledger streams users_are rules_are day_is none_live none_used book_is figured streams_are = record {
   people = users_are ∙ sym (first_users policy);
   rules = rules_are;
   day = day_is ∙ sym (day_begins policy);
   orders = (λ i. record { live = none_live i; used = none_used i }) ∙ sym (none_at_first policy);
   book = book_is ∙ book_at_first policy;
+  ledger = begins policy ledger figured;
   streams = ap shown streams_are ∙ first_told policy;
 }

@@ -86,11 +86,16 @@ use Rattle.gx_streams.specs.Streams.{AllStreams}
 use Rattle.gx_streams.specs.Telling.{each_told, owed_to, shown, told_after, with_all_owed, with_owed}
 use Rattle.gx_streams.proofs.Places.{owed_taken}
 use Rattle.gx_streams.proofs.Telling.{GoesOn, all_owed_shown, more_told, stays_by_none, stays_by_one}
+use Rattle.gx_ledger.specs.declared.placed.Placed.{Placed}
+use Rattle.gx_ledger.specs.Following.{ClosesAll}
+use Rattle.gx_ledger.specs.StandsFor.{Accepts}
 use Rattle.gx_keepers.specs.declared.keepers.Keepers.{Keepers}
 use Rattle.gx_keepers.specs.Ends.{HaveOwedPlaces, owed_by_end, owed_by_ends}
 use Rattle.gx_keepers.specs.Keepers.{AreInForce, AreInForceBut, HavePlaces, Takes, killed_account, killed_by_action, with_told}
+use Rattle.gx_keepers.specs.Ledgers.{StandsForDay, ended_orders, placed}
 use Rattle.gx_keepers.specs.Messages.{accepted_message}
 use Rattle.gx_keepers.specs.Settings.{HasSetting, is_carried, is_carried_command, is_setting}
+use Rattle.gx_keepers.proofs.Figuring.{denial_figured, enter_figured, kill_figured, quiet_figured}
 
 -- what is unreadable is denied
 pub unreadable_is_denied : (policy : PolicyData) (history : List RecordData) (a : Asked) (r : RecordData)
@@ -111,9 +116,9 @@ denied_is r rule denied = ap (λ (v : Verdict). cond (is_granted v) (asked r.ste
 pub by_grant : (policy : PolicyData) (history : List RecordData) (a : Asked) (r : RecordData) (before k : Keepers) (q : Request)
     → AreInForce policy history before → r.verdict ≡ verdicts.Granted → r.step ≡ steps.Asked a → a.request ≡ q
     → k.people ≡ option_map_or (given before.people) (action_of q) before.people → k.rules ≡ rules_with before.rules (action_of q) → k.day ≡ day_asked a q before.day
-    → k.orders ≡ orders_in_force policy (history ++ r ∷ []) → k.book ≡ book_in_force policy (history ++ r ∷ []) → shown k.streams ≡ told_after policy (history ++ r ∷ [])
+    → k.orders ≡ orders_in_force policy (history ++ r ∷ []) → k.book ≡ book_in_force policy (history ++ r ∷ []) → StandsForDay policy k.ledger (history ++ r ∷ []) → shown k.streams ≡ told_after policy (history ++ r ∷ [])
     → AreInForceBut policy history r k
-by_grant policy history a r before k q kept grants step asks people_are rules_are day_is orders_are book_is streams_are =
+by_grant policy history a r before k q kept grants step asks people_are rules_are day_is orders_are book_is figured streams_are =
     let is : granted r ≡ Some a = granted_is r a grants step in
     let acts : granted_action r ≡ action_of q = ap (option_and_then (λ (x : Asked). action_of x.request)) is ∙ ap action_of asks in
     record {
@@ -127,6 +132,7 @@ by_grant policy history a r before k q kept grants step asks people_are rules_ar
           ∙ ap (λ (x : Request). at_moment r.moment (day_asked a x (day_in_force policy history))) asks);
       orders = orders_are;
       book = book_is;
+      ledger = figured;
       streams = streams_are;
     }
 
@@ -134,9 +140,9 @@ by_grant policy history a r before k q kept grants step asks people_are rules_ar
 pub by_no_grant : (policy : PolicyData) (history : List RecordData) (r : RecordData) (before k : Keepers)
     → AreInForce policy history before → granted r ≡ None
     → k.people ≡ before.people → k.rules ≡ before.rules → k.day ≡ before.day
-    → k.orders ≡ orders_in_force policy (history ++ r ∷ []) → k.book ≡ book_in_force policy (history ++ r ∷ []) → shown k.streams ≡ told_after policy (history ++ r ∷ [])
+    → k.orders ≡ orders_in_force policy (history ++ r ∷ []) → k.book ≡ book_in_force policy (history ++ r ∷ []) → StandsForDay policy k.ledger (history ++ r ∷ []) → shown k.streams ≡ told_after policy (history ++ r ∷ [])
     → AreInForceBut policy history r k
-by_no_grant policy history r before k kept is people_are rules_are day_is orders_are book_is streams_are =
+by_no_grant policy history r before k kept is people_are rules_are day_is orders_are book_is figured streams_are =
     let acts : granted_action r ≡ None = ap (option_and_then (λ (x : Asked). action_of x.request)) is in
     record {
       people = people_are ∙ kept.people
@@ -147,6 +153,7 @@ by_no_grant policy history r before k kept is people_are rules_are day_is orders
           ∙ ap (λ (found : Option Asked). at_moment r.moment (option_map_or (λ (x : Asked). day_asked x x.request (day_in_force policy history)) found (day_in_force policy history))) is);
       orders = orders_are;
       book = book_is;
+      ledger = figured;
       streams = streams_are;
     }
 
@@ -225,12 +232,13 @@ denied_place policy history a r rule k (Some message) t places denied is =
 pub denial_goes_on : (policy : PolicyData) (history : List RecordData) (a : Asked) (r : RecordData) (rule : RuleName) (before k : Keepers) (found : Option Message)
     → Takes policy history a r before → r.verdict ≡ verdicts.Denied rule → option_to_list found ≡ rejected policy a.request rule
     → k.people ≡ before.people → k.rules ≡ before.rules → k.day ≡ before.day
-    → k.orders ≡ marking a.user (denied_token rule a.request) before.orders → k.book ≡ before.book → k.streams ≡ with_told a.user r.moment found before.streams
+    → k.orders ≡ marking a.user (denied_token rule a.request) before.orders → k.book ≡ before.book → k.ledger ≡ before.ledger → k.streams ≡ with_told a.user r.moment found before.streams
     → AreInForceBut policy history r k
-denial_goes_on policy history a r rule before k found t denied is people_are rules_are day_is orders_are book_is streams_are =
+denial_goes_on policy history a r rule before k found t denied is people_are rules_are day_is orders_are book_is ledger_is streams_are =
     by_no_grant policy history r before k t.in_force (denied_is r rule denied) people_are rules_are day_is
     (orders_are ∙ ap (marking a.user (denied_token rule a.request)) t.in_force.orders ∙ sym (denials_keep policy history a r rule t.left denied))
     (book_is ∙ t.in_force.book ∙ sym (booked.denials_keep policy history (steps.Asked a) r rule t.legal t.left denied))
+    (denial_figured policy history a r rule before k.ledger t denied ledger_is)
     (ap shown streams_are ∙ told found is)
   where
     told : (found : Option Message) → option_to_list found ≡ rejected policy a.request rule → shown (with_told a.user r.moment found before.streams) ≡ told_after policy (history ++ r ∷ [])
@@ -273,17 +281,18 @@ enter_place policy history a r m account k t places grants enters his =
     has_place policy history r k.streams a.user _ places (enter_tells policy history a r m account k t grants enters his)
 
 -- a granted Enter
-pub enter_goes_on : (policy : PolicyData) (history : List RecordData) (a : Asked) (r : RecordData) (m : EnterOrder) (account : AccountName) (before k : Keepers) (order : LiveOrder) (message : Message)
+pub enter_goes_on : (policy : PolicyData) (history : List RecordData) (a : Asked) (r : RecordData) (m : EnterOrder) (account : AccountName) (before k : Keepers) (order : LiveOrder) (handed : Placed) (message : Message)
     → Takes policy history a r before → r.verdict ≡ verdicts.Granted → a.request ≡ requests.Enter m → account_of policy a.user ≡ Some account
-    → order ≡ waiting_order policy r a.user account m → message ≡ accepted_message order
+    → order ≡ waiting_order policy r a.user account m → handed ≡ placed order r.moment false → message ≡ accepted_message order
     → k.people ≡ before.people → k.rules ≡ before.rules → k.day ≡ before.day
-    → k.orders ≡ entering order before.orders → k.book ≡ before.book → k.streams ≡ with_told a.user r.moment (Some message) before.streams
+    → k.orders ≡ entering order before.orders → k.book ≡ before.book → Accepts handed before.ledger k.ledger → k.streams ≡ with_told a.user r.moment (Some message) before.streams
     → AreInForceBut policy history r k
-enter_goes_on policy history a r m account before k order message t grants enters his order_is message_is people_are rules_are day_is orders_are book_is streams_are =
+enter_goes_on policy history a r m account before k order handed message t grants enters his order_is handed_is message_is people_are rules_are day_is orders_are book_is accepts streams_are =
     by_grant policy history a r before k (requests.Enter m) t.in_force grants (step_left policy history (steps.Asked a) r t.left) enters people_are rules_are day_is
     (orders_are ∙ ap (λ (o : LiveOrder). entering o before.orders) order_is ∙ ap (entering (waiting_order policy r a.user account m)) t.in_force.orders
     ∙ sym (enters_more policy history a r m account t.legal t.left enters grants his))
     (book_stays policy history a r before k t grants (ap keeps_book enters) book_is)
+    (enter_figured policy history a r m account before handed k.ledger t grants enters his (handed_is ∙ ap (λ (o : LiveOrder). placed o r.moment false) order_is) accepts)
     (ap shown (streams_are ∙ ap (λ (x : Message). with_told a.user r.moment (Some x) before.streams) (message_is ∙ ap accepted_message order_is))
     ∙ stays_by_one policy history (history ++ r ∷ []) r before.streams a.user (accepted_message (waiting_order policy r a.user account m)) t.in_force.streams
     (enter_tells policy history a r m account before t grants enters his))
@@ -291,31 +300,33 @@ enter_goes_on policy history a r m account before k order message t grants enter
 -- a granted Login
 pub login_goes_on : (policy : PolicyData) (history : List RecordData) (a : Asked) (r : RecordData) (m : Login) (before k : Keepers)
     → Takes policy history a r before → r.verdict ≡ verdicts.Granted → a.request ≡ requests.Login m
-    → k.people ≡ before.people → k.rules ≡ before.rules → k.day ≡ with_line a.user (Some a.line) before.day → k.orders ≡ before.orders → k.book ≡ before.book → k.streams ≡ before.streams
+    → k.people ≡ before.people → k.rules ≡ before.rules → k.day ≡ with_line a.user (Some a.line) before.day → k.orders ≡ before.orders → k.book ≡ before.book → k.ledger ≡ before.ledger → k.streams ≡ before.streams
     → AreInForceBut policy history r k
-login_goes_on policy history a r m before k t grants asks people_are rules_are day_is orders_are book_is streams_are =
+login_goes_on policy history a r m before k t grants asks people_are rules_are day_is orders_are book_is ledger_is streams_are =
     by_grant policy history a r before k (requests.Login m) t.in_force grants (step_left policy history (steps.Asked a) r t.left) asks people_are rules_are day_is
     (orders_are ∙ t.in_force.orders ∙ sym (others_keep policy history a r t.legal t.left grants (ap keeps_orders asks)))
     (book_stays policy history a r before k t grants (ap keeps_book asks) book_is)
+    (quiet_figured policy history a r (requests.Login m) before k.ledger t grants asks refl ledger_is)
     (ap shown streams_are ∙ stays_by_none policy history (history ++ r ∷ []) before.streams t.in_force.streams (login_takes_effect policy history a r m t.left asks grants).told_nothing)
 
 -- a granted Logout
 pub logout_goes_on : (policy : PolicyData) (history : List RecordData) (a : Asked) (r : RecordData) (before k : Keepers)
     → Takes policy history a r before → r.verdict ≡ verdicts.Granted → a.request ≡ requests.Logout
-    → k.people ≡ before.people → k.rules ≡ before.rules → k.day ≡ with_line a.user None before.day → k.orders ≡ before.orders → k.book ≡ before.book → k.streams ≡ before.streams
+    → k.people ≡ before.people → k.rules ≡ before.rules → k.day ≡ with_line a.user None before.day → k.orders ≡ before.orders → k.book ≡ before.book → k.ledger ≡ before.ledger → k.streams ≡ before.streams
     → AreInForceBut policy history r k
-logout_goes_on policy history a r before k t grants asks people_are rules_are day_is orders_are book_is streams_are =
+logout_goes_on policy history a r before k t grants asks people_are rules_are day_is orders_are book_is ledger_is streams_are =
     by_grant policy history a r before k requests.Logout t.in_force grants (step_left policy history (steps.Asked a) r t.left) asks people_are rules_are day_is
     (orders_are ∙ t.in_force.orders ∙ sym (others_keep policy history a r t.legal t.left grants (ap keeps_orders asks)))
     (book_stays policy history a r before k t grants (ap keeps_book asks) book_is)
+    (quiet_figured policy history a r requests.Logout before k.ledger t grants asks refl ledger_is)
     (ap shown streams_are ∙ stays_by_none policy history (history ++ r ∷ []) before.streams t.in_force.streams (logout_takes_effect policy history a r t.left asks grants).told_nothing)
 
 -- a granted Lift
 pub lift_goes_on : (policy : PolicyData) (history : List RecordData) (a : Asked) (r : RecordData) (c : Command) (account : AccountName) (before k : Keepers)
     → Takes policy history a r before → r.verdict ≡ verdicts.Granted → a.request ≡ requests.Command c → c.action ≡ actions.Lift account
-    → k.people ≡ before.people → k.rules ≡ before.rules → k.day ≡ with_kill account false before.day → k.orders ≡ before.orders → k.book ≡ before.book → k.streams ≡ before.streams
+    → k.people ≡ before.people → k.rules ≡ before.rules → k.day ≡ with_kill account false before.day → k.orders ≡ before.orders → k.book ≡ before.book → k.ledger ≡ before.ledger → k.streams ≡ before.streams
     → AreInForceBut policy history r k
-lift_goes_on policy history a r c account before k t grants asks lifts people_are rules_are day_is orders_are book_is streams_are =
+lift_goes_on policy history a r c account before k t grants asks lifts people_are rules_are day_is orders_are book_is ledger_is streams_are =
     let is : LiftsAccount policy history (history ++ r ∷ []) r a.user c account = lift_takes_effect policy history a r c account t.legal t.left asks lifts grants in
     by_grant policy history a r before k (requests.Command c) t.in_force grants (step_left policy history (steps.Asked a) r t.left) asks
     (people_are ∙ sym (ap (λ (action : Action). given before.people action) lifts))
@@ -323,6 +334,7 @@ lift_goes_on policy history a r c account before k t grants asks lifts people_ar
     (day_is ∙ sym (ap (λ (action : Action). day_commanded action before.day) lifts))
     (orders_are ∙ t.in_force.orders ∙ sym (others_keep policy history a r t.legal t.left grants (ap keeps_orders asks ∙ ap is_lasting lifts)))
     (book_stays policy history a r before k t grants (ap keeps_book asks ∙ ap is_lasting lifts) book_is)
+    (quiet_figured policy history a r (requests.Command c) before k.ledger t grants asks (ap is_lasting lifts) ledger_is)
     (ap shown streams_are ∙ stays_by_none policy history (history ++ r ∷ []) before.streams t.in_force.streams (tells_nobody policy history r a.user is.told))
 
 -- what is owed to one user of the orders that a Kill ends, by the orders that are kept
@@ -369,9 +381,10 @@ kill_places policy history a r c account k t places grants asks kills user =
 pub kill_goes_on : (policy : PolicyData) (history : List RecordData) (a : Asked) (r : RecordData) (c : Command) (account : AccountName) (before k : Keepers)
     → Takes policy history a r before → r.verdict ≡ verdicts.Granted → a.request ≡ requests.Command c → c.action ≡ actions.Kill account
     → k.people ≡ before.people → k.rules ≡ before.rules → k.day ≡ with_kill account true before.day
-    → k.orders ≡ with_live (of_others account before.orders.live) before.orders → k.book ≡ on_each_side (without_account account) before.book → k.streams ≡ with_all_owed (owed_by_ends account r.moment before.orders.live) before.streams
+    → k.orders ≡ with_live (of_others account before.orders.live) before.orders → k.book ≡ on_each_side (without_account account) before.book
+    → ClosesAll (ended_orders account before.orders.live) before.ledger k.ledger → k.streams ≡ with_all_owed (owed_by_ends account r.moment before.orders.live) before.streams
     → AreInForceBut policy history r k
-kill_goes_on policy history a r c account before k t grants asks kills people_are rules_are day_is orders_are book_is streams_are =
+kill_goes_on policy history a r c account before k t grants asks kills people_are rules_are day_is orders_are book_is closes streams_are =
     let owed : List (UserName × Report) = owed_by_ends account r.moment before.orders.live in
     by_grant policy history a r before k (requests.Command c) t.in_force grants (step_left policy history (steps.Asked a) r t.left) asks
     (people_are ∙ sym (ap (λ (action : Action). given before.people action) kills))
@@ -381,6 +394,7 @@ kill_goes_on policy history a r c account before k t grants asks kills people_ar
     ∙ sym (kills_end policy history a r account t.legal t.left (ap action_of asks ∙ ap (λ (action : Action). Some action) kills) grants))
     (book_is ∙ ap (on_each_side (without_account account)) t.in_force.book
     ∙ sym (booked.kills_take policy history a r account t.legal t.left (ap action_of asks ∙ ap (λ (action : Action). Some action) kills) grants))
+    (kill_figured policy history a r c account before k.ledger t grants asks kills closes)
     (ap shown streams_are ∙ all_owed_shown before.streams owed ∙ ap (each_told (owed_to owed)) t.in_force.streams
     ∙ sym (more_told policy history (history ++ r ∷ []) (owed_to owed) (kill_tells policy history a r c account before t grants asks kills)))
 
@@ -494,13 +508,15 @@ setting_tells_nobody policy history a r c k t grants asks sets user =
 -- a granted setting
 pub setting_goes_on : (policy : PolicyData) (history : List RecordData) (a : Asked) (r : RecordData) (c : Command) (before k : Keepers)
     → Takes policy history a r before → r.verdict ≡ verdicts.Granted → a.request ≡ requests.Command c → is_setting c.action ≡ true
-    → k.people ≡ given before.people c.action → k.rules ≡ changed before.rules c.action → k.day ≡ before.day → k.orders ≡ before.orders → k.book ≡ before.book → k.streams ≡ before.streams
+    → k.people ≡ given before.people c.action → k.rules ≡ changed before.rules c.action → k.day ≡ before.day → k.orders ≡ before.orders → k.book ≡ before.book
+    → k.ledger ≡ before.ledger → k.streams ≡ before.streams
     → AreInForceBut policy history r k
-setting_goes_on policy history a r c before k t grants asks sets people_are rules_are day_is orders_are book_is streams_are =
+setting_goes_on policy history a r c before k t grants asks sets people_are rules_are day_is orders_are book_is ledger_is streams_are =
     by_grant policy history a r before k (requests.Command c) t.in_force grants (step_left policy history (steps.Asked a) r t.left) asks people_are rules_are
     (day_is ∙ sym (day_stays c.action before.day sets))
     (orders_are ∙ t.in_force.orders ∙ sym (others_keep policy history a r t.legal t.left grants (ap keeps_orders asks ∙ lasts c.action sets)))
     (book_stays policy history a r before k t grants (ap keeps_book asks ∙ lasts c.action sets) book_is)
+    (quiet_figured policy history a r (requests.Command c) before k.ledger t grants asks (lasts c.action sets) ledger_is)
     (ap shown streams_are
     ∙ stays_by_none policy history (history ++ r ∷ []) before.streams t.in_force.streams (setting_tells_nobody policy history a r c before t grants asks sets))
 

@@ -36,10 +36,14 @@ use Rattle.gx_streams.specs.Kept.{places_in}
 use Rattle.gx_streams.specs.Laws.{TellsOne}
 use Rattle.gx_streams.specs.Telling.{shown}
 use Rattle.gx_streams.proofs.Telling.{stays_by_one}
+use Rattle.gx_ledger.specs.declared.placed.OpenOrder.{OpenOrder}
+use Rattle.gx_ledger.specs.StandsFor.{Cuts}
 use Rattle.gx_keepers.specs.declared.keepers.Keepers.{Keepers}
 use Rattle.gx_keepers.specs.Keepers.{AreInForceBut, HavePlaces, Takes, with_told}
+use Rattle.gx_keepers.specs.Ledgers.{open_order}
 use Rattle.gx_keepers.specs.Messages.{canceled_message}
 use Rattle.gx_keepers.proofs.Carrying.{by_grant, has_place}
+use Rattle.gx_keepers.proofs.Figuring.{cancel_figured}
 
 -- a granted Cancel names a live order
 pub cut_is_there : (policy : PolicyData) (history : List RecordData) (a : Asked) (r : RecordData) (m : CancelOrder) (k : Keepers) (found : Option LiveOrder)
@@ -88,19 +92,20 @@ cancel_has_place policy history a r m k o t places grants asks found =
     has_place policy history r k.streams a.user (cut_message o m.shares) places (cancel_tells policy history a r m k o t grants asks found)
 
 -- a granted Cancel
-pub cancel_goes_on : (policy : PolicyData) (history : List RecordData) (a : Asked) (r : RecordData) (m : CancelOrder) (before k : Keepers) (o : LiveOrder) (fewer : ℕ) (message : Message)
+pub cancel_goes_on : (policy : PolicyData) (history : List RecordData) (a : Asked) (r : RecordData) (m : CancelOrder) (before k : Keepers) (o : LiveOrder) (fewer : ℕ) (named : OpenOrder) (message : Message)
     → Takes policy history a r before → r.verdict ≡ verdicts.Granted → a.request ≡ requests.Cancel m → order_under before.orders.live a.user m.token ≡ Some o
-    → fewer ≡ cut_from o m.shares → message ≡ canceled_message o fewer cancels.UserRequested
+    → fewer ≡ cut_from o m.shares → named ≡ open_order o → message ≡ canceled_message o fewer cancels.UserRequested
     → k.people ≡ before.people → k.rules ≡ before.rules → k.day ≡ before.day
     → k.orders ≡ with_live (cut_at o.number m.shares before.orders.live) before.orders → k.book ≡ on_each_side (reduced o.number fewer) before.book
-    → k.streams ≡ with_told a.user r.moment (Some message) before.streams
+    → Cuts named fewer before.ledger k.ledger → k.streams ≡ with_told a.user r.moment (Some message) before.streams
     → AreInForceBut policy history r k
-cancel_goes_on policy history a r m before k o fewer message t grants asks found fewer_is message_is people_are rules_are day_is orders_are book_is streams_are =
+cancel_goes_on policy history a r m before k o fewer named message t grants asks found fewer_is named_is message_is people_are rules_are day_is orders_are book_is cuts streams_are =
     by_grant policy history a r before k (requests.Cancel m) t.in_force grants (step_left policy history (steps.Asked a) r t.left) asks people_are rules_are day_is
     (orders_are ∙ ap (λ (d : OrdersData). with_live (cut_at o.number m.shares d.live) d) t.in_force.orders
     ∙ sym (cuts_one policy history a r m o t.legal t.left asks grants (names_it policy history a r m before o t found)))
     (book_is ∙ ap (λ (n : ℕ). on_each_side (reduced o.number n) before.book) fewer_is ∙ ap (on_each_side (reduced o.number (cut_from o m.shares))) t.in_force.book
     ∙ sym (cancels_take policy history a r m o t.legal t.left asks grants (names_it policy history a r m before o t found)))
+    (cancel_figured policy history a r m before o fewer named k.ledger t grants asks found fewer_is named_is cuts)
     (ap shown (streams_are
     ∙ ap (λ (x : Message). with_told a.user r.moment (Some x) before.streams) (message_is ∙ ap (λ (n : ℕ). canceled_message o n cancels.UserRequested) fewer_is))
     ∙ stays_by_one policy history (history ++ r ∷ []) r before.streams a.user (cut_message o m.shares) t.in_force.streams (cancel_tells policy history a r m before o t grants asks found))

@@ -1,5 +1,5 @@
 -- Places that are kept for what a record tells.
-use Rattle.std.proofs.Common.{◌≡◌, ℕ, ◌≤◌, arith, true, false, Bool, List, [], ◌∷◌, ◌++◌, length, suc, length-append, refl, ◌∙◌, ap, sym, cond, map, inl}
+use Rattle.std.proofs.Common.{◌≡◌, ℕ, ◌≤◌, arith, true, false, Bool, List, [], ◌∷◌, ◌++◌, length, suc, length-append, refl, ◌∙◌, ap, sym, cond, map}
 use Rattle.std.proofs.Math.Path.{subst}
 use Rattle.std.proofs.lemmas.List.{append_cancel_left, length-map}
 use Rattle.std.specs.Prelude.{Option, Some, None, is_some, option_and_then, option_map, ◌&&◌}
@@ -17,17 +17,15 @@ use Rattle.gx_history.specs.declared.policy.User.{User}
 use Rattle.gx_history.specs.declared.record.Asked.{Asked}
 use Rattle.gx_history.specs.declared.record.RecordData.{RecordData}
 use Rattle.gx_history.specs.declared.record.Request.TheVariants as requests
-use Rattle.gx_history.specs.declared.record.Step.{Step}
 use Rattle.gx_history.specs.declared.record.Verdict.TheVariants as verdicts
 use Rattle.gx_history.specs.declared.report.Message.{Message}
 use Rattle.gx_history.specs.declared.report.Report.{Report}
 use Rattle.gx_history.specs.Orders.{ends_account}
 use Rattle.gx_history.specs.People.{account_of, account_of_role, role_in, user_in}
 use Rattle.gx_history.specs.Streams.{ended, reported, reports_of, stream, to_user}
-use Rattle.gx_history.specs.Verdicts.{IsLegal, day_limit, next}
+use Rattle.gx_history.specs.Verdicts.{IsLegal}
 use Rattle.gx_history_laws.proofs.Judging.{both}
-use Rattle.gx_history_laws.proofs.NextReports.{legal_next, stream_next}
-use Rattle.gx_history_laws.proofs.Runs.{step_left}
+use Rattle.gx_history_laws.proofs.NextReports.{stream_next}
 use Rattle.gx_history_laws.proofs.Adding.{user_is}
 use Rattle.gx_history_laws.proofs.Names.{account_is}
 use Rattle.gx_orders.specs.declared.live_order.LiveOrder.{LiveOrder}
@@ -154,12 +152,6 @@ kill_fits policy history a r c account k streams t grants asks kills has user =
     ∙ sym (ap (map (reported r)) (ends_are_told policy history (actions.Kill account) user)) in
     let few = ends_fit policy history account streams (subst (λ (live : List LiveOrder). HaveEndPlaces policy account live streams) live_is has) user in
     omega (arith, few, ap length (owed ∙ shown), length-map (ended policy history (actions.Kill account) user) (reported r))
-
--- the day is legal with the record too
-pub legal_after : (policy : PolicyData) (history : List RecordData) (step : Step) (r : RecordData)
-    → IsLegal policy history → r.number ≤ day_limit → next policy history step ≡ Some r → IsLegal policy (history ++ r ∷ [])
-legal_after policy history step r legal fits left =
-    legal_next policy history r legal (record { is_next = ap (next policy history) (step_left policy history step r left) ∙ left; fits_day = record { fits = inl fits } })
 
 -- nothing is owed to who is not known
 stranger_fits : (policy : PolicyData) (history : List RecordData) (r : RecordData) (user : UserName) (places : ℕ)

@@ -1,6 +1,7 @@
 pub mod Beginning
 pub mod Carrying
 pub mod Cutting
+pub mod Figuring
 pub mod Keepings
 pub mod Matches
 pub mod Replacing

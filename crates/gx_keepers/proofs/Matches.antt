@@ -41,7 +41,7 @@ use Rattle.gx_orders.specs.declared.live_order.LiveOrder.{LiveOrder}
 use Rattle.gx_orders.specs.Changes.{with_live}
 use Rattle.gx_orders.specs.InForce.{kept, orders_in_force}
 use Rattle.gx_orders.specs.Laws.{CanFill}
-use Rattle.gx_orders.specs.LiveOrders.{OrdersData, at_rest, changed, filled_at, first_waiting, order_numbered, without}
+use Rattle.gx_orders.specs.LiveOrders.{OrdersData, at_rest, changed, filled_at, order_numbered, without}
 use Rattle.gx_orders.proofs.Keeping.{IsKeptOpen}
 use Rattle.gx_orders.proofs.Matching.{ends_one, fills_both, numbered_is, rests_one}
 use Rattle.gx_orders.proofs.Matching as matched
@@ -58,18 +58,17 @@ use Rattle.gx_streams.specs.Telling.{owed_message, shown, told_after}
 use Rattle.gx_streams.proofs.Owing.{two_among_all}
 use Rattle.gx_streams.proofs.Places.{each_has_a_place}
 use Rattle.gx_streams.proofs.Telling.{stays_by_all, stays_by_none, stays_by_one}
+use Rattle.gx_ledger.specs.declared.placed.OpenOrder.{OpenOrder}
+use Rattle.gx_ledger.specs.StandsFor.{Closes, Fills}
 use Rattle.gx_keepers.specs.declared.keepers.Keepers.{Keepers}
 use Rattle.gx_keepers.specs.Ends.{HaveOwedPlaces}
 use Rattle.gx_keepers.specs.Keepers.{AreInForceBut, HavePlaces, with_told}
+use Rattle.gx_keepers.specs.Ledgers.{StandsForDay, open_order}
 use Rattle.gx_keepers.specs.Matching.{HavePlacesEach, TakesMatch}
 use Rattle.gx_keepers.specs.Messages.{canceled_message, executed_message}
 use Rattle.gx_keepers.proofs.Carrying.{by_no_grant, has_place}
-use Rattle.gx_keepers.proofs.Keepings.{all_fit, legal_after, one_fits}
-
--- the first that waits, as definitions say
-waits_first : (policy : PolicyData) (history : List RecordData) (first : LiveOrder) (r : RecordData) (k : Keepers)
-    → TakesMatch policy history first r k → first_waiting (orders_in_force policy history).live ≡ Some first
-waits_first policy history first r k t = sym (ap (λ (d : OrdersData). first_waiting d.live) t.in_force.orders) ∙ t.comes_first
+use Rattle.gx_keepers.proofs.Figuring.{end_figured, fill_figured, legal_after, rest_figured, waits_first}
+use Rattle.gx_keepers.proofs.Keepings.{all_fit, one_fits}
 
 pub match_is_legal : (policy : PolicyData) (history : List RecordData) (first : LiveOrder) (r : RecordData) (k : Keepers)
     → TakesMatch policy history first r k → IsLegal policy (history ++ r ∷ [])
@@ -78,11 +77,11 @@ match_is_legal policy history first r k t = legal_after policy history (steps.Ma
 -- a matching step: people, rules, lines and kills as they were
 by_match : (policy : PolicyData) (history : List RecordData) (first : LiveOrder) (r : RecordData) (before k : Keepers) → TakesMatch policy history first r before
     → k.people ≡ before.people → k.rules ≡ before.rules → k.day ≡ before.day
-    → k.orders ≡ orders_in_force policy (history ++ r ∷ []) → k.book ≡ book_in_force policy (history ++ r ∷ []) → shown k.streams ≡ told_after policy (history ++ r ∷ [])
+    → k.orders ≡ orders_in_force policy (history ++ r ∷ []) → k.book ≡ book_in_force policy (history ++ r ∷ []) → StandsForDay policy k.ledger (history ++ r ∷ []) → shown k.streams ≡ told_after policy (history ++ r ∷ [])
     → AreInForceBut policy history r k
-by_match policy history first r before k t people_are rules_are day_is orders_are book_is streams_are =
+by_match policy history first r before k t people_are rules_are day_is orders_are book_is figured streams_are =
     by_no_grant policy history r before k t.in_force (match_grants_nothing r t.handed (step_left policy history (steps.Matching t.handed) r t.left))
-    people_are rules_are day_is orders_are book_is streams_are
+    people_are rules_are day_is orders_are book_is figured streams_are
 
 -- a matching step fills, puts to rest or ends
 pub no_other_outcome : (policy : PolicyData) (history : List RecordData) (first : LiveOrder) (r : RecordData) (k : Keepers) → TakesMatch policy history first r k
@@ -198,21 +197,23 @@ maker_has_place policy history first r k f maker to_taker streams t places fills
     (each_has_a_place k.streams ((first.user, reported r (executed_message r f first liquidities.Removed)) ∷ []) (maker.user, reported r (executed_message r f maker liquidities.Added)) []
     (owed_places policy history r k.streams told (fill_tells policy history first r k f maker t fills found) places maker.user))
 
-pub fill_goes_on : (policy : PolicyData) (history : List RecordData) (first : LiveOrder) (r : RecordData) (before k : Keepers) (f : Fill) (maker : LiveOrder) (against : Bool) (to_taker to_maker : Message)
-    → TakesMatch policy history first r before → r.verdict ≡ verdicts.Filled f → order_numbered before.orders.live f.maker ≡ Some maker → against ≡ not (is_buy first.terms.side)
+pub fill_goes_on : (policy : PolicyData) (history : List RecordData) (first : LiveOrder) (r : RecordData) (before k : Keepers) (f : Fill) (maker : LiveOrder) (came rested : OpenOrder) (against : Bool) (to_taker to_maker : Message)
+    → TakesMatch policy history first r before → r.verdict ≡ verdicts.Filled f → order_numbered before.orders.live f.maker ≡ Some maker → came ≡ open_order first → rested ≡ open_order maker
+    → against ≡ not (is_buy first.terms.side)
     → to_taker ≡ executed_message r f first liquidities.Removed → to_maker ≡ executed_message r f maker liquidities.Added
     → k.people ≡ before.people → k.rules ≡ before.rules → k.day ≡ before.day
     → k.orders ≡ with_live (filled_at f.maker f.shares (filled_at f.taker f.shares before.orders.live)) before.orders
-    → k.book ≡ on_side first.terms.stock against (best_reduced f.shares) before.book
+    → k.book ≡ on_side first.terms.stock against (best_reduced f.shares) before.book → Fills came rested f.shares f.price before.ledger k.ledger
     → k.streams ≡ with_told maker.user r.moment (Some to_maker) (with_told first.user r.moment (Some to_taker) before.streams)
     → AreInForceBut policy history r k
-fill_goes_on policy history first r before k f maker against to_taker to_maker t fills found side_is taker_told maker_told people_are rules_are day_is orders_are book_is streams_are =
+fill_goes_on policy history first r before k f maker came rested against to_taker to_maker t fills found came_is rested_is side_is taker_told maker_told people_are rules_are day_is orders_are book_is carries streams_are =
     by_match policy history first r before k t people_are rules_are day_is
     (orders_are ∙ ap (λ (d : OrdersData). with_live (filled_at f.maker f.shares (filled_at f.taker f.shares d.live)) d) t.in_force.orders
     ∙ sym (fills_both policy history t.handed r f t.legal t.left fills))
     (book_is ∙ ap (λ (b : Bool). on_side first.terms.stock b (best_reduced f.shares) before.book) side_is
     ∙ ap (on_side first.terms.stock (not (is_buy first.terms.side)) (best_reduced f.shares)) t.in_force.book
     ∙ sym (fills_take_from_best policy history t.handed r f first t.legal t.left fills (waits_first policy history first r before t)))
+    (fill_figured policy history first r before f maker came rested k.ledger t fills found came_is rested_is carries)
     (ap shown (streams_are
     ∙ ap (λ (m : Message). with_told maker.user r.moment (Some m) (with_told first.user r.moment (Some to_taker) before.streams)) maker_told
     ∙ ap (λ (m : Message). with_told maker.user r.moment (Some (executed_message r f maker liquidities.Added)) (with_told first.user r.moment (Some m) before.streams)) taker_told)
@@ -235,13 +236,14 @@ can_rest policy history first r k t =
 pub rest_goes_on : (policy : PolicyData) (history : List RecordData) (first : LiveOrder) (r : RecordData) (before k : Keepers) (number : ℕ) (added : Resting)
     → TakesMatch policy history first r before → r.verdict ≡ verdicts.Rested number → added ≡ resting_of first
     → k.people ≡ before.people → k.rules ≡ before.rules → k.day ≡ before.day
-    → k.orders ≡ with_live (changed at_rest number before.orders.live) before.orders → k.book ≡ with_rested added before.book → k.streams ≡ before.streams
+    → k.orders ≡ with_live (changed at_rest number before.orders.live) before.orders → k.book ≡ with_rested added before.book → k.ledger ≡ before.ledger → k.streams ≡ before.streams
     → AreInForceBut policy history r k
-rest_goes_on policy history first r before k number added t rests is people_are rules_are day_is orders_are book_is streams_are =
+rest_goes_on policy history first r before k number added t rests is people_are rules_are day_is orders_are book_is ledger_is streams_are =
     by_match policy history first r before k t people_are rules_are day_is
     (orders_are ∙ ap (λ (d : OrdersData). with_live (changed at_rest number d.live) d) t.in_force.orders ∙ sym (rests_one policy history t.handed r number t.legal t.left rests))
     (book_is ∙ ap (λ (x : Resting). with_rested x before.book) is ∙ ap (with_rested (resting_of first)) t.in_force.book
     ∙ sym (rests_are_put policy history t.handed r number first t.legal t.left rests (waits_first policy history first r before t)))
+    (rest_figured policy history first r before number k.ledger t rests ledger_is)
     (ap shown streams_are
     ∙ stays_by_none policy history (history ++ r ∷ []) before.streams t.in_force.streams (rest_takes_effect policy history t.handed r number (legal_is_orderly policy history t.legal) t.left rests).told_nothing)
 
@@ -292,15 +294,16 @@ pub end_has_place : (policy : PolicyData) (history : List RecordData) (first : L
 end_has_place policy history first r k number t places ends =
     has_place policy history r k.streams first.user (end_message first) places (end_tells policy history first r k number t ends)
 
-pub end_goes_on : (policy : PolicyData) (history : List RecordData) (first : LiveOrder) (r : RecordData) (before k : Keepers) (number : ℕ) (message : Message)
-    → TakesMatch policy history first r before → r.verdict ≡ verdicts.Expired number → message ≡ end_message first
+pub end_goes_on : (policy : PolicyData) (history : List RecordData) (first : LiveOrder) (r : RecordData) (before k : Keepers) (number : ℕ) (ended : OpenOrder) (message : Message)
+    → TakesMatch policy history first r before → r.verdict ≡ verdicts.Expired number → ended ≡ open_order first → message ≡ end_message first
     → k.people ≡ before.people → k.rules ≡ before.rules → k.day ≡ before.day
-    → k.orders ≡ with_live (without number before.orders.live) before.orders → k.book ≡ before.book → k.streams ≡ with_told first.user r.moment (Some message) before.streams
+    → k.orders ≡ with_live (without number before.orders.live) before.orders → k.book ≡ before.book → Closes ended before.ledger k.ledger → k.streams ≡ with_told first.user r.moment (Some message) before.streams
     → AreInForceBut policy history r k
-end_goes_on policy history first r before k number message t ends is people_are rules_are day_is orders_are book_is streams_are =
+end_goes_on policy history first r before k number ended message t ends ended_is is people_are rules_are day_is orders_are book_is closes streams_are =
     by_match policy history first r before k t people_are rules_are day_is
     (orders_are ∙ ap (λ (d : OrdersData). with_live (without number d.live) d) t.in_force.orders ∙ sym (ends_one policy history t.handed r number t.legal t.left ends))
     (book_is ∙ t.in_force.book ∙ sym (expiries_keep policy history t.handed r number t.legal t.left ends))
+    (end_figured policy history first r before number ended k.ledger t ends ended_is closes)
     (ap shown (streams_are ∙ ap (λ (m : Message). with_told first.user r.moment (Some m) before.streams) is)
     ∙ stays_by_one policy history (history ++ r ∷ []) r before.streams first.user (end_message first) t.in_force.streams (end_tells policy history first r before number t ends))
 

@@ -34,6 +34,7 @@ use Rattle.gx_streams.specs.Kept.{is_known, places_in, with_kept_last}
 use Rattle.gx_streams.specs.Streams.{AllStreams, on_told}
 use Rattle.gx_keepers.specs.declared.keepers.Keepers.{Keepers}
 use Rattle.gx_keepers.specs.declared.next_record.NextRecord.{NextRecord}
+use Rattle.gx_keepers.specs.Ledgers.{StandsForDay}
 
 -- each keeper holds what its definition says of the records
 pub record AreInForce (policy : PolicyData) (history : List RecordData) (k : Keepers) : Type 0 where
@@ -42,6 +43,7 @@ pub record AreInForce (policy : PolicyData) (history : List RecordData) (k : Kee
   pub day : k.day ≡ day_in_force policy history
   pub orders : k.orders ≡ orders_in_force policy history
   pub book : k.book ≡ book_in_force policy history
+  pub ledger : StandsForDay policy k.ledger history
   pub streams : shown k.streams ≡ told_after policy history
 
 -- and after one more record
@@ -55,6 +57,7 @@ pub record AreInForceBut (policy : PolicyData) (history : List RecordData) (r : 
   pub day : at_moment r.moment k.day ≡ day_in_force policy (history ++ r ∷ [])
   pub orders : k.orders ≡ orders_in_force policy (history ++ r ∷ [])
   pub book : k.book ≡ book_in_force policy (history ++ r ∷ [])
+  pub ledger : StandsForDay policy k.ledger (history ++ r ∷ [])
   pub streams : shown k.streams ≡ told_after policy (history ++ r ∷ [])
 
 -- the account that an action kills

@@ -1,5 +1,6 @@
 pub mod Ends
 pub mod Keepers
+pub mod Ledgers
 pub mod Matching
 pub mod Messages
 pub mod Settings

@@ -1,7 +1,7 @@
 //! What each kind of record does to the keepers.
 //!
-//! Each function begins with the one call that can be refused, if it makes one; nothing has changed then. What follows
-//! takes no memory: the places for reports were kept before.
+//! Each function begins with the one call that can be refused, if it makes one; nothing has changed
+//! then. What follows takes no memory: the places for reports were kept before.
 
 ghost use Rattle.std.specs.Prelude.{◌≡◌, OnOk, OnErr, IsTrue};
 ghost use Rattle.gx_desk.specs.declared.Action.TheVariants as actions;
@@ -9,10 +9,12 @@ ghost use Rattle.gx_history.specs.declared.record.Request.TheVariants as request
 ghost use Rattle.gx_history.specs.declared.record.Verdict.TheVariants as verdicts;
 ghost use Rattle.gx_market.specs.Changes.{cut_from};
 ghost use Rattle.gx_orders.specs.Changes.{replacement_order, waiting_order};
-ghost use Rattle.gx_keepers.specs.Keepers.{marked_by, AreAfter, AreAfterBut, AreBefore, IsNext, IsPlaced, IsUnused};
+ghost use Rattle.gx_keepers.specs.Keepers.{marked_by, AreAfter, AreAfterBut, AreBefore, IsNext};
+ghost use Rattle.gx_keepers.specs.Keepers.{IsPlaced, IsUnused};
 ghost use Rattle.gx_keepers.specs.Ends.{owed_by_ends, told_of_ends, HaveOwedPlaces};
 ghost use Rattle.gx_keepers.specs.Settings.{is_carried, is_carried_command};
 
+use crate::figures::{close_all_of, open_order, placed};
 use crate::keepers::Keepers;
 use crate::listed::firm_of;
 use crate::next_record::NextRecord;
@@ -30,7 +32,8 @@ use gx_ouch::{CancelOrder, CancelReason, EnterOrder, OrderTerms, ReplaceOrder};
 use gx_streams::streams::Streams;
 use gx_units::{AccountName, Moment, OutOfMemory, UserName};
 
-/// Uses the token of a request that this rule denies, if the rule is one whose denials are answered.
+/// Uses the token of a request that this rule denies, if the rule is one whose denials are
+/// answered.
 fn mark_denied(orders: &mut Orders, a: &Asked, rule: RuleName) -> Result<(), OutOfMemory>
     requires new { IsUnused orders.old.used a.now rule }
     ensures ok { OnOk result (orders.new ≡ marked_by a.now rule orders.old) }
@@ -99,7 +102,8 @@ fn order_of(
     }
 }
 
-/// A granted Enter: its order is the last of those that wait, and its user is told.
+/// A granted Enter: its order is the last of those that wait, the ledger counts it, and its user is
+/// told.
 fn apply_enter(
     keepers: &mut Keepers,
     next: NextRecord<'_>,
@@ -117,6 +121,8 @@ fn apply_enter(
     };
     let order = order_of(next.policy, next.left, next.asked.user, account, m);
     keepers.orders.enter(order)?;
+    let handed = placed(&order, next.left.moment, false);
+    keepers.ledger.accept(&handed);
     tell(
         &mut keepers.streams,
         next.asked.user,
@@ -135,8 +141,8 @@ fn cut_from(order: &LiveOrder, total: u32) -> u32
         .saturating_sub(total.saturating_sub(order.done))
 }
 
-/// A granted Cancel: its order has another size, the book so many shares less of it, and its user is told. An order with
-/// nothing open is gone from both.
+/// A granted Cancel: its order has another size, the book and the ledger so many shares less of it,
+/// and its user is told. An order with nothing open is gone.
 fn apply_cancel(keepers: &mut Keepers, next: NextRecord<'_>, m: &CancelOrder)
     requires takes { IsNext next keepers.old }
     requires places { IsPlaced next keepers.old }
@@ -151,11 +157,14 @@ fn apply_cancel(keepers: &mut Keepers, next: NextRecord<'_>, m: &CancelOrder)
     let fewer = cut_from(&order, m.shares);
     keepers.orders.cut(order.number, m.shares);
     keepers.book.reduce(order.number, fewer);
+    let named = open_order(&order);
+    keepers.ledger.cut(&named, fewer);
     let message = canceled(&order, fewer, CancelReason::UserRequested);
     tell(&mut keepers.streams, user, next.left.moment, Some(message));
 }
 
-/// The order of a Replace that the record grants: its chain's, with the terms that are asked for now.
+/// The order of a Replace that the record grants: its chain's, with the terms that are asked for
+/// now.
 fn replacement_of(left: &RecordData, m: &ReplaceOrder, old: &LiveOrder) -> LiveOrder
     ensures { result ≡ replacement_order left.now m.now old.now }
 {
@@ -177,7 +186,8 @@ fn replacement_of(left: &RecordData, m: &ReplaceOrder, old: &LiveOrder) -> LiveO
     }
 }
 
-/// A granted Replace: its order is the last of those that wait, the one before it has ended, and its user is told.
+/// A granted Replace: its order is the last of those that wait, the one before it has ended, the
+/// ledger counts the one in place of the other, and its user is told.
 fn apply_replace(
     keepers: &mut Keepers,
     next: NextRecord<'_>,
@@ -198,6 +208,10 @@ fn apply_replace(
     keepers.orders.enter(new)?;
     keepers.orders.end(old.number);
     keepers.book.remove(old.number);
+    let gone = open_order(&old);
+    let handed = placed(&new, next.left.moment, true);
+    keepers.ledger.close(&gone);
+    keepers.ledger.accept(&handed);
     let message = replaced(&new, old.token);
     tell(&mut keepers.streams, user, next.left.moment, Some(message));
     Ok(())
@@ -221,7 +235,8 @@ fn tell_of_ends(streams: &mut Streams, orders: &Orders, account: AccountName, mo
     }
 }
 
-/// A granted Kill: the account is killed, each of its orders ends and leaves the book, and their users are told.
+/// A granted Kill: the account is killed, each of its orders ends, leaves the book and is counted
+/// no more, and their users are told.
 fn apply_kill(keepers: &mut Keepers, next: NextRecord<'_>, c: &Command, account: AccountName)
     requires takes { IsNext next keepers.old }
     requires places { IsPlaced next keepers.old }
@@ -236,6 +251,7 @@ fn apply_kill(keepers: &mut Keepers, next: NextRecord<'_>, c: &Command, account:
         account,
         next.left.moment,
     );
+    close_all_of(&mut keepers.ledger, &keepers.orders, account);
     keepers.orders.end_account(account);
     keepers.book.remove_account(account);
     keepers.day.kill(account);
@@ -330,8 +346,8 @@ fn apply(keepers: &mut Keepers, next: NextRecord<'_>) -> Result<(), OutOfMemory>
 ///
 /// # Errors
 ///
-/// `OutOfMemory` where a stream, an order, an answered denial or a setting finds no memory; then they are as they were, but
-/// for places that were kept.
+/// `OutOfMemory` where a stream, an order, an answered denial or a setting finds no memory; then
+/// they are as they were, but for places that were kept.
 pub fn carry_on(keepers: &mut Keepers, next: NextRecord<'_>) -> Result<(), OutOfMemory>
     requires takes { IsNext next keepers.old }
     requires carried { IsTrue (is_carried next.asked.now.request) }

@@ -48,7 +48,8 @@ pub fn firm_of(policy: &Policy, account: AccountName, asked_for: Firm) -> Firm
     }
 }
 
-/// Whether an Enter's firm is blank, or that of the account that it is for; true for any other request.
+/// Whether an Enter's firm is blank, or that of the account that it is for; true for any other
+/// request.
 pub fn fits_firm(policy: &Policy, account: Option<AccountName>, request: &Request) -> bool
     ensures { result ≡ fits_firm policy.now account request.now }
 {

@@ -1,12 +1,14 @@
 //! What each matching step does to the keepers.
 //!
-//! The one call that can be refused, at a rest, comes first; nothing has changed then. What follows takes no memory: the
-//! places for reports were kept before.
+//! The one call that can be refused, at a rest, comes first; nothing has changed then. What follows
+//! takes no memory: the places for reports were kept before.
 
 ghost use Rattle.std.specs.Prelude.{◌≡◌, OnOk, OnErr};
 ghost use Rattle.gx_history.specs.declared.record.Verdict.TheVariants as verdicts;
-ghost use Rattle.gx_keepers.specs.Matching.{AreAfterMatch, AreAfterMatchBut, AreBeforeMatch, IsMatchPlaced, IsNextMatch};
+ghost use Rattle.gx_keepers.specs.Matching.{AreAfterMatch, AreAfterMatchBut, AreBeforeMatch};
+ghost use Rattle.gx_keepers.specs.Matching.{IsMatchPlaced, IsNextMatch};
 
+use crate::figures::open_order;
 use crate::keepers::Keepers;
 use crate::next_record::NextMatch;
 use crate::places::keep_match_places;
@@ -16,8 +18,8 @@ use gx_market::meeting::{opposite, resting_of};
 use gx_ouch::{CancelReason, Liquidity};
 use gx_units::OutOfMemory;
 
-/// A fill: both orders execute its shares, the best in the book has so many less, and both users are told, first the one
-/// whose order came in.
+/// A fill: both orders execute its shares, the best in the book has so many less, the ledger counts
+/// it, and both users are told, first the one whose order came in.
 fn apply_fill(keepers: &mut Keepers, next: NextMatch<'_>, f: Fill)
     requires takes { IsNextMatch next keepers.old }
     requires places { IsMatchPlaced next keepers.old }
@@ -34,6 +36,9 @@ fn apply_fill(keepers: &mut Keepers, next: NextMatch<'_>, f: Fill)
     keepers
         .book
         .take_from_best(taker.terms.stock, against, f.shares);
+    let came = open_order(taker);
+    let rested = open_order(&maker);
+    keepers.ledger.fill(&came, &rested, f.shares, f.price);
     let to_taker = executed(next.left, f, taker, Liquidity::Removed);
     let to_maker = executed(next.left, f, &maker, Liquidity::Added);
     tell(
@@ -62,7 +67,8 @@ fn apply_rest(keepers: &mut Keepers, next: NextMatch<'_>, number: u64) -> Result
     Ok(())
 }
 
-/// An order that meets nothing and may not rest: it ends, and its user is told what was open.
+/// An order that meets nothing and may not rest: it ends, is counted no more, and its user is told
+/// what was open.
 fn apply_expiry(keepers: &mut Keepers, next: NextMatch<'_>, number: u64)
     requires takes { IsNextMatch next keepers.old }
     requires places { IsMatchPlaced next keepers.old }
@@ -71,6 +77,8 @@ fn apply_expiry(keepers: &mut Keepers, next: NextMatch<'_>, number: u64)
 {
     keepers.orders.end(number);
     let order = next.first;
+    let ended = open_order(order);
+    keepers.ledger.close(&ended);
     let message = canceled(order, order.open(), CancelReason::ImmediateOrCancel);
     tell(
         &mut keepers.streams,
@@ -117,8 +125,8 @@ fn apply_match(keepers: &mut Keepers, next: NextMatch<'_>) -> Result<(), OutOfMe
 ///
 /// # Errors
 ///
-/// `OutOfMemory` where a stream, or the book at a rest, finds no memory; then they are as they were, but for places that
-/// were kept.
+/// `OutOfMemory` where a stream, or the book at a rest, finds no memory; then they are as they
+/// were, but for places that were kept.
 pub fn carry_match(keepers: &mut Keepers, next: NextMatch<'_>) -> Result<(), OutOfMemory>
     requires takes { IsNextMatch next keepers.old }
     ensures ok { OnOk result (AreAfterMatch next.entry keepers.new) }

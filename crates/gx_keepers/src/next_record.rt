@@ -5,7 +5,8 @@ use gx_history::policy::Policy;
 use gx_history::record::{Asked, RecordData};
 use gx_orders::live_order::LiveOrder;
 
-/// The next record of a day: the request that leaves it, and the policy and the records that the request is judged on.
+/// The next record of a day: the request that leaves it, and the policy and the records that the
+/// request is judged on.
 #[derive(Clone, Copy)]
 pub struct NextRecord<'a> {
     pub policy: &'a Policy,
@@ -14,8 +15,8 @@ pub struct NextRecord<'a> {
     pub left: &'a RecordData,
 }
 
-/// The next record of a day: the order that is first to be matched, and what its matching step leaves, by the policy and
-/// the records before it.
+/// The next record of a day: the order that is first to be matched, and what its matching step
+/// leaves, by the policy and the records before it.
 #[derive(Clone, Copy)]
 pub struct NextMatch<'a> {
     pub policy: &'a Policy,

@@ -2,8 +2,11 @@
 
 ghost use Rattle.std.specs.Prelude.{◌≡◌, [], ◌∷◌, OnOk, IsTrue};
 ghost use Rattle.gx_streams.specs.Telling.{shown};
-ghost use Rattle.gx_keepers.specs.Keepers.{killed_account, AreBefore, HasEndPlaces, IsNext, IsPlaced, HasPlaces, HaveEndPlaces, HaveNoFewer, KnowTheSame, KnowsUsers};
-ghost use Rattle.gx_keepers.specs.Matching.{AreBeforeMatch, HavePlacesEach, IsMatchPlaced, IsNextMatch};
+ghost use Rattle.gx_keepers.specs.Keepers.{killed_account, AreBefore, HasEndPlaces, IsNext};
+ghost use Rattle.gx_keepers.specs.Keepers.{IsPlaced, HasPlaces, HaveEndPlaces, HaveNoFewer};
+ghost use Rattle.gx_keepers.specs.Keepers.{KnowTheSame, KnowsUsers};
+ghost use Rattle.gx_keepers.specs.Matching.{AreBeforeMatch, HavePlacesEach, IsMatchPlaced};
+ghost use Rattle.gx_keepers.specs.Matching.{IsNextMatch};
 ghost use Rattle.gx_keepers.specs.Settings.{is_carried};
 
 use crate::keepers::Keepers;
@@ -62,7 +65,8 @@ fn keep_for_trader(
     }
 }
 
-/// Keeps places for what a Kill of the account tells its traders: one for each live order of theirs.
+/// Keeps places for what a Kill of the account tells its traders: one for each live order of
+/// theirs.
 fn keep_for_ends(
     streams: &mut Streams,
     orders: &Orders,

@@ -7,7 +7,8 @@ ghost use Rattle.gx_history.specs.Streams.{rejected};
 ghost use Rattle.gx_orders.specs.Changes.{ended_message};
 ghost use Rattle.gx_streams.specs.Kept.{places_in};
 ghost use Rattle.gx_keepers.specs.Keepers.{with_told};
-ghost use Rattle.gx_keepers.specs.Messages.{accepted_message, canceled_message, executed_message, replaced_message};
+ghost use Rattle.gx_keepers.specs.Messages.{accepted_message, canceled_message, executed_message};
+ghost use Rattle.gx_keepers.specs.Messages.{replaced_message};
 
 use crate::request::new_token;
 use gx_history::policy::{FileRule, Policy, RuleKind};
@@ -55,7 +56,8 @@ fn reason_of_rule(policy: &Policy, name: RuleId) -> Option<RejectReason>
     }
 }
 
-/// The reason given for a denial that is answered Rejected, by a rule P or a rule of the file; None for others.
+/// The reason given for a denial that is answered Rejected, by a rule P or a rule of the file; None
+/// for others.
 fn reject_reason(policy: &Policy, rule: RuleName) -> Option<RejectReason>
     ensures { result ≡ reject_reason policy.now rule }
 {
@@ -77,7 +79,8 @@ fn reject_reason(policy: &Policy, rule: RuleName) -> Option<RejectReason>
     }
 }
 
-/// Rejected: to who asked for an order that a rule denies, if the rule is one whose denial is answered.
+/// Rejected: to who asked for an order that a rule denies, if the rule is one whose denial is
+/// answered.
 pub fn rejected(policy: &Policy, rule: RuleName, request: &Request) -> Option<Message>
     ensures { option_to_list result ≡ rejected policy.now request.now rule }
 {
@@ -136,7 +139,8 @@ pub fn canceled(order: &LiveOrder, decrement: u32, reason: CancelReason) -> Mess
     }))
 }
 
-/// Canceled: to the user of an order that an officer's command ends, with the shares that were open.
+/// Canceled: to the user of an order that an officer's command ends, with the shares that were
+/// open.
 pub fn ended(order: &LiveOrder) -> Message
     ensures { result ≡ ended_message order.now }
 {

@@ -30,7 +30,8 @@ pub fn named_token(request: &Request) -> Option<Token>
     }
 }
 
-/// Whether a denial by this rule is answered, and uses the token: the rules P and those of the file.
+/// Whether a denial by this rule is answered, and uses the token: the rules P and those of the
+/// file.
 fn is_answered(rule: RuleName) -> bool
     ensures { result ≡ is_answered_rule rule }
 {

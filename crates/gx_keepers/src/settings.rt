@@ -42,7 +42,8 @@ fn revoke(people: &mut People, written: WrittenName, account: AccountName)
 ///
 /// # Errors
 ///
-/// `OutOfMemory`: there was no memory for one more account, or for one more stock, and nothing has changed.
+/// `OutOfMemory`: there was no memory for one more account, or for one more stock, and nothing has
+/// changed.
 fn set(people: &mut People, rules: &mut RuleBook, action: &Action) -> Result<(), OutOfMemory>
     requires known { HasSetting rules.old action.now }
     ensures people { OnOk result (people.new ≡ given people.old action.now) }
@@ -61,7 +62,8 @@ fn set(people: &mut People, rules: &mut RuleBook, action: &Action) -> Result<(),
     Ok(())
 }
 
-/// A granted change of a limit, of a list or of what a reader sees: it is in force from the next record on.
+/// A granted change of a limit, of a list or of what a reader sees: it is in force from the next
+/// record on.
 ///
 /// # Errors
 ///

@@ -1,5 +1,5 @@
 -- The written order in its three parts.
-use Rattle.std.proofs.Common.{◌≡◌, List, [], ◌∷◌, ◌++◌, refl, ◌∙◌, ap, map, cond, true, false}
+use Rattle.std.proofs.Common.{◌≡◌, ◌<◌, ℕ, suc, ◌+◌, arith, subst, sym, length, List, [], ◌∷◌, ◌++◌, refl, ◌∙◌, ap, map, cond, Bool, true, false}
 use Rattle.std.specs.Prelude.{Option, Some, None, option_map, find}
 use Rattle.std.specs.Option.{option_or}
 use Rattle.std.proofs.lemmas.List.Folds.{find-append}
@@ -9,7 +9,10 @@ use Rattle.gx_history.specs.declared.record.RuleName.TheVariants.{File}
 use Rattle.gx_history.specs.declared.policy.FileRule.{FileRule}
 use Rattle.gx_history.specs.declared.facts.Facts.{Facts}
 use Rattle.gx_history.specs.declared.facts.RuleFigures.{RuleFigures}
-use Rattle.gx_history.specs.Rules.{BuiltIn, OfFile, name_of, applies, first_forbidding, first_file_rule, forbids, rule_forbids, written_order}
+use Rattle.gx_units.specs.declared.names.RuleId.{RuleId}
+use Rattle.gx_history.specs.Rules.{BuiltIn, OfFile, name_of, applies, figured_from, first_forbidding, first_file_rule, forbids, rule_forbids, written_order}
+use Rattle.gx_rules.specs.declared.book_rule.BookRule.{BookRule}
+use Rattle.gx_rules.specs.Books.{rule_named, rules_of}
 use Rattle.gx_history.specs.RuleNames.{rules_before, rules_behind}
 
 map_or : {X Y : Type 0} (f : X → Y) (a b : Option X) → option_map f (option_or a b) ≡ option_or (option_map f a) (option_map f b)
@@ -41,3 +44,40 @@ first_in_parts rules given q =
     ∙ ap (λ o. option_or (option_or o (option_map name_of (find (applies given q) (map OfFile rules)))) (option_map name_of (find (applies given q) (map BuiltIn rules_behind)))) (built_in rules_before given q)
     ∙ ap (λ o. option_or (option_or (find (λ name. forbids name given q) rules_before) o) (option_map name_of (find (applies given q) (map BuiltIn rules_behind)))) (of_file rules given q)
     ∙ ap (λ o. option_or (option_or (find (λ name. forbids name given q) rules_before) (first_file_rule rules given q)) o) (built_in rules_behind given q)
+
+-- the next rule of the file forbids, or those behind it are asked
+pub next_asked : (told : ℕ → RuleFigures) (place : ℕ) (name : RuleId) (rule : BookRule) (left entries : List (RuleId × BookRule)) (given : Facts) (q : Request)
+    → entries ≡ (name, rule) ∷ left
+    → first_file_rule (figured_from told place (rules_of entries)) given q
+    ≡ cond (rule_forbids given q (rule_named name rule) (told place)) (Some (File name)) (first_file_rule (figured_from told (place + 1) (rules_of left)) given q)
+next_asked told place name rule left entries given q is =
+    ap (λ (es : List (RuleId × BookRule)). first_file_rule (figured_from told place (rules_of es)) given q) is
+    ∙ at (rule_forbids given q (rule_named name rule) (told place))
+    ∙ ap (λ n. cond (rule_forbids given q (rule_named name rule) (told place)) (Some (File name)) (first_file_rule (figured_from told n (rules_of left)) given q)) (one_more place)
+  where
+    one_more : (n : ℕ) → suc n ≡ n + 1
+    one_more n = grind arith
+
+    at : (b : Bool) → option_map (λ (r : FileRule × RuleFigures). File r.0.name)
+        (cond b (Some (rule_named name rule, told place)) (find (λ (r : FileRule × RuleFigures). rule_forbids given q r.0 r.1) (figured_from told (suc place) (rules_of left))))
+        ≡ cond b (Some (File name)) (first_file_rule (figured_from told (suc place) (rules_of left)) given q)
+    at true = refl
+    at false = refl
+
+module _ (told : ℕ → RuleFigures) (place : ℕ) (name : RuleId) (rule : BookRule) (left entries : List (RuleId × BookRule)) (given : Facts) (q : Request)
+    (is : entries ≡ (name, rule) ∷ left) (figures : RuleFigures) (are : figures ≡ told place) (b : Bool) (asked : b ≡ rule_forbids given q (rule_named name rule) figures) where
+  abbrev rest : Option RuleName
+  rest = first_file_rule (figured_from told (place + 1) (rules_of left)) given q
+
+  by_it : first_file_rule (figured_from told place (rules_of entries)) given q ≡ cond b (Some (File name)) rest
+  by_it = next_asked told place name rule left entries given q is
+      ∙ ap (λ f. cond (rule_forbids given q (rule_named name rule) f) (Some (File name)) rest) (sym are)
+      ∙ ap (λ a. cond a (Some (File name)) rest) (sym asked)
+
+  -- it forbids
+  pub stops_here : b ≡ true → Some (File name) ≡ first_file_rule (figured_from told place (rules_of entries)) given q
+  stops_here forbids = sym (by_it ∙ ap (λ a. cond a (Some (File name)) rest) forbids)
+
+  -- it does not
+  pub goes_on : b ≡ false → (found : Option RuleName) → found ≡ rest → found ≡ first_file_rule (figured_from told place (rules_of entries)) given q
+  goes_on forbids found is_rest = is_rest ∙ sym (by_it ∙ ap (λ a. cond a (Some (File name)) rest) forbids)

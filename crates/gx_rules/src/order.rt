@@ -5,7 +5,7 @@ ghost use Rattle.gx_history.specs.RuleNames.{rules_before, rules_behind};
 ghost use Rattle.gx_history.specs.Rules.{forbids};
 
 use crate::built_in::is_forbidden;
-use gx_history::facts::{Facts, RuleFigures};
+use gx_history::facts::Facts;
 use gx_history::record::{Request, RuleName};
 
 /// The built-in rules before those of the file.
@@ -35,18 +35,6 @@ const RULES_BEFORE: [RuleName; 21] = [
 
 /// The built-in rules behind those of the file.
 const RULES_BEHIND: [RuleName; 4] = [RuleName::Q1, RuleName::Q2, RuleName::Q3, RuleName::Q4];
-
-pub const NO_FIGURES: RuleFigures = RuleFigures {
-    live_shares: 0,
-    live_value: 0,
-    done_shares: 0,
-    done_value: 0,
-    replaced_shares: 0,
-    replaced_value: 0,
-    recent: 0,
-    equal_recent: 0,
-    reference: 0,
-};
 
 fn first_of(names: &[RuleName], facts: &Facts, request: &Request) -> Option<RuleName>
     ensures { result ≡ find (λ name. forbids name facts.now request.now) names.now }

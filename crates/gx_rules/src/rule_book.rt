@@ -1,17 +1,16 @@
 //! The file's rules with their settings in force.
 
-ghost use Rattle.std.specs.Prelude.{◌≡◌, ◌≤◌, length, IsTrue, IsFalse, is_some, IfOk, OnOk, OnErr, IfSome, IfNone};
-ghost use Rattle.std.specs.List.{zip, list_all, list_any};
+ghost use Rattle.std.specs.Prelude.{◌≡◌, ◌≤◌, ◌+◌, length, IsTrue, IsFalse, is_some, IfOk, OnOk, OnErr, IfSome, IfNone};
+ghost use Rattle.std.specs.List.{list_all, list_any};
 ghost use Rattle.gx_history.specs.Asking.{knows_stocks};
 ghost use Rattle.gx_history.specs.People.{rule_in};
-ghost use Rattle.gx_history.specs.Plain.{without_figures};
-ghost use Rattle.gx_history.specs.Rules.{applies, first_file_rule, first_forbidding, written_order, IsFirstForbidding};
+ghost use Rattle.gx_history.specs.Rules.{applies, figured, figured_from, first_forbidding, first_file_rule, written_order, IsFirstForbidding};
 ghost use Rattle.gx_rules.specs.Books.{lists_once, names_differ, rules_of};
 ghost use Rattle.gx_rules.specs.Settings.{limit_in, lists_in, restricted, unrestricted, with_limit_of};
 
 use crate::book_rule::BookRule;
-use crate::order::{NO_FIGURES, first_before, first_behind};
-use gx_history::facts::{Facts, Figures, RuleFigures};
+use crate::order::{first_before, first_behind};
+use gx_history::facts::{Facts, TellsFigures};
 use gx_history::policy::{FileRule, Policy};
 use gx_history::record::{Request, RuleName};
 use gx_units::{OutOfMemory, RuleId, Symbol};
@@ -52,69 +51,44 @@ fn kept_rules(alloc: Global, rules: &[FileRule]) -> Result<IndexMap<RuleId, Book
     Ok(kept)
 }
 
-/// The first rule of the file that forbids, with the figures of each at its place.
-fn first_of_file(
+/// The first rule of the file, from this place on, that forbids; the figures of each are told as it is asked.
+fn first_of_file<F: TellsFigures>(
     entries: Slice<'_, RuleId, BookRule>,
-    figures: &[RuleFigures],
+    place: usize,
+    figures: &F,
     facts: &Facts,
     request: &Request,
 ) -> Option<RuleName>
-    ensures { result ≡ first_file_rule (zip (rules_of entries.entry) figures.now) facts.now request.now }
+    requires fits { place + length entries ≤ 128 }
+    ensures { result ≡ first_file_rule
+        (figured_from (F.told figures.now) place (rules_of entries.entry)) facts.now request.now }
 {
     let Some(((name, rule), entries_left)) = entries.split_first() else {
         return None;
     };
-    let [rule_figures, figures_left @ ..] = figures else {
-        return None;
-    };
-    if rule.forbids(*name, rule_figures, facts, request) {
+    if rule.forbids(*name, &figures.of(place), facts, request) {
         return Some(RuleName::File(*name));
     }
-    first_of_file(entries_left, figures_left, facts, request)
-}
-
-/// The first rule of the file that forbids, where all figures are 0.
-fn first_without_figures(
-    entries: Slice<'_, RuleId, BookRule>,
-    facts: &Facts,
-    request: &Request,
-) -> Option<RuleName>
-    ensures { result ≡ first_file_rule (without_figures (rules_of entries.entry)) facts.now request.now }
-{
-    let Some(((name, rule), entries_left)) = entries.split_first() else {
-        return None;
-    };
-    if rule.forbids(*name, &NO_FIGURES, facts, request) {
-        return Some(RuleName::File(*name));
-    }
-    first_without_figures(entries_left, facts, request)
+    first_of_file(entries_left, place + 1, figures, facts, request)
 }
 
 #[tactic(auto, using(crate::proofs::Parts::first_in_parts))]
-fn first_in_order(
+fn first_in_order<F: TellsFigures>(
     rules: &IndexMap<RuleId, BookRule>,
-    figures: &[RuleFigures],
+    figures: &F,
     facts: &Facts,
     request: &Request,
 ) -> Option<RuleName>
-    ensures { result ≡ first_forbidding (zip (rules_of rules.now.entries) figures.now) facts.now request.now }
+    requires few { length rules.now.entries ≤ 128 }
+    ensures { result ≡ first_forbidding
+        (figured (F.told figures.now) (rules_of rules.now.entries)) facts.now request.now }
 {
-    first_before(facts, request)
-        .or_else(|| first_of_file(rules.as_slice(), figures, facts, request))
-        .or_else(|| first_behind(facts, request))
-}
-
-#[tactic(auto, using(crate::proofs::Parts::first_in_parts))]
-fn first_in_order_without_figures(
-    rules: &IndexMap<RuleId, BookRule>,
-    facts: &Facts,
-    request: &Request,
-) -> Option<RuleName>
-    ensures { result ≡ first_forbidding (without_figures (rules_of rules.now.entries)) facts.now request.now }
-{
-    first_before(facts, request)
-        .or_else(|| first_without_figures(rules.as_slice(), facts, request))
-        .or_else(|| first_behind(facts, request))
+    match first_before(facts, request) {
+        None => first_of_file(rules.as_slice(), 0, figures, facts, request).or_else(|| first_behind(
+            facts, request,
+        )),
+        found => found,
+    }
 }
 
 impl RuleBook {
@@ -196,32 +170,23 @@ impl RuleBook {
         }
     }
 
-    /// The first rule of the written order that forbids the request, where entry `i` of the figures is for the file's
-    /// `i`-th rule; None where no rule does.
+    /// The first rule of the written order that forbids the request, by the figures told for each rule of the file as it is
+    /// asked; None where no rule does.
     #[tactic(auto, using(gx_history_laws::proofs::Order::is_first_forbidding, gx_history_laws::proofs::Order::none_forbids))]
-    pub fn first_forbidding(
+    pub fn first_forbidding<F: TellsFigures>(
         &self,
         facts: &Facts,
-        figures: &Figures,
+        figures: &F,
         request: &Request,
     ) -> Option<RuleName>
         ensures few { length self.now ≤ 128 }
-        ensures first { result ≡ first_forbidding (zip self.now figures.now.rules) facts.now request.now }
-        ensures is_first { IfSome result (λ name. IsFirstForbidding (zip self.now figures.now.rules) facts.now request.now name) }
-        ensures none { IfNone result (IsFalse (list_any (applies facts.now request.now) (written_order (zip self.now figures.now.rules)))) }
+        ensures first { result ≡
+            first_forbidding (figured (F.told figures.now) self.now) facts.now request.now }
+        ensures is_first { IfSome result (IsFirstForbidding
+            (figured (F.told figures.now) self.now) facts.now request.now) }
+        ensures none { IfNone result (IsFalse (list_any (applies facts.now request.now)
+            (written_order (figured (F.told figures.now) self.now)))) }
     {
-        first_in_order(&self.rules, &figures.rules, facts, request)
-    }
-
-    /// The first rule of the written order that forbids the request, where all figures are 0: right for rules whose
-    /// kinds ask for none. None where no rule does.
-    pub fn first_forbidding_without_figures(
-        &self,
-        facts: &Facts,
-        request: &Request,
-    ) -> Option<RuleName>
-        ensures first { result ≡ first_forbidding (without_figures self.now) facts.now request.now }
-    {
-        first_in_order_without_figures(&self.rules, facts, request)
+        first_in_order(&self.rules, figures, facts, request)
     }
 }

@@ -4,4 +4,3 @@ pub mod Texts
 pub mod ScriptRuns
 pub mod Settling
 pub mod ScriptEnds
-pub mod Opened

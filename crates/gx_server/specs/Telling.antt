@@ -1,7 +1,5 @@
 -- How a fault is told: the status that the program ends with, and the line on standard error.
 use Rattle.std.specs.Prelude.{ℕ, List, ◌++◌, codes, decimal, if◌then◌else◌}
-use Rattle.gx_units.specs.declared.names.RuleId.{RuleId}
-use Rattle.gx_units.specs.Spelling.{without_right_spaces}
 use Rattle.gx_policyfile.specs.declared.fault.FaultKind.{FaultKind}
 use Rattle.gx_policyfile.specs.Field.{is_memory}
 use Rattle.gx_policyfile.specs.Telling.{kind_words}
@@ -11,7 +9,7 @@ use Rattle.gx_session.specs.declared.fault.PipeFault.TheVariants as pipe_faults
 use Rattle.gx_server.specs.declared.script_fault.ScriptFault.{ScriptFault}
 use Rattle.gx_server.specs.declared.script_fault.ScriptFault.TheVariants as script_faults
 use Rattle.gx_server.specs.declared.program_fault.ProgramFault.{ProgramFault}
-use Rattle.gx_server.specs.declared.program_fault.ProgramFault.TheVariants.{Pipe, Script, Unread, Policy, NotJudged}
+use Rattle.gx_server.specs.declared.program_fault.ProgramFault.TheVariants.{Pipe, Script, Unread, Policy}
 
 -- memory ran out
 abbrev pub out_of_memory : ProgramFault
@@ -29,17 +27,12 @@ script_words script_faults.Endless = codes "endless input"
 abbrev pub policy_words : FaultKind → List ℕ
 policy_words kind = if is_memory kind then codes "out of memory" else codes "policy fault " ++ kind_words kind
 
--- which rule keeps a gate from opening
-abbrev pub rule_words : RuleId → List ℕ
-rule_words rule = codes "rule " ++ without_right_spaces rule.bytes ++ codes " is of a kind not judged yet"
-
 -- why the program gave up
 abbrev pub words_of : ProgramFault → List ℕ
 words_of (Pipe fault) = fault_words fault
 words_of (Script explained) = script_words explained.fault
 words_of Unread = codes "read failed"
 words_of (Policy fault) = policy_words fault.kind
-words_of (NotJudged rule) = rule_words rule
 
 -- a line of these words
 abbrev pub gate_line : List ℕ → List ℕ
@@ -63,4 +56,3 @@ status_of (Pipe fault) = 1
 status_of (Script explained) = script_status explained.fault
 status_of Unread = 1
 status_of (Policy fault) = if is_memory fault.kind then 1 else 3
-status_of (NotJudged rule) = 1

@@ -11,7 +11,7 @@ mod script_fault;
 
 pub use laws::{lines_make_the_text, nothing_follows_a_bad_line};
 pub use opening::{open_gate, told_of_policy};
-pub use policies::{policy_line, sample_without_figures};
+pub use policies::{policy_line, sample_policy};
 pub use program_fault::{FaultLine, ProgramFault};
 pub use script::{run_script, run_script_explained};
 pub use script_fault::{Explained, ScriptFault};

@@ -1,14 +1,13 @@
 //! The gate that a run opens, and what is told of a policy file.
 
-ghost use Rattle.std.specs.Prelude.{◌≡◌, [], None, Ok, option_copied, IfOk, IfErr, IsTrue};
-ghost use Rattle.gx_history.specs.Plain.{rules_need_no_figures};
+ghost use Rattle.std.specs.Prelude.{◌≡◌, [], None, Ok, option_copied, IfOk, IfErr};
 ghost use Rattle.gx_policyfile.specs.Policies.{means};
-ghost use Rattle.gx_server.specs.Opening.{policy_for, line_for, IsFaultOf, IsWhyNot};
+ghost use Rattle.gx_server.specs.Opening.{policy_for, line_for, IsFaultOf};
 ghost use Rattle.gx_server.specs.Telling.{out_of_memory};
 
-use crate::policies::{policy_line, sample_without_figures};
+use crate::policies::{policy_line, sample_policy};
 use crate::program_fault::ProgramFault;
-use gx_core::{Gate, first_that_needs_figures};
+use gx_core::Gate;
 use gx_history::policy::Policy;
 use gx_policyfile::read_policy;
 use std::alloc::Global;
@@ -21,43 +20,27 @@ fn policy_of(alloc: Global, file: &[u8]) -> Result<Policy, ProgramFault>
     Ok(read_policy(alloc, file)?)
 }
 
-/// The policy to open on: that of the file, or else the sample policy less its rules that ask for figures.
+/// The policy to open on: that of the file, or else the sample policy.
 fn policy_for(alloc: Global, file: Option<&[u8]>) -> Result<Policy, ProgramFault>
     ensures policy { IfOk result (λ policy. policy_for (option_copied file.entry) ≡ Ok policy) }
     ensures fault { IfErr result (IsFaultOf (policy_for (option_copied file.entry))) }
 {
     match file {
         Some(bytes) => policy_of(alloc, bytes),
-        None => Ok(sample_without_figures(alloc)?),
-    }
-}
-
-/// A gate under the policy.
-fn open_under(alloc: Global, policy: &Policy) -> Result<Gate, ProgramFault>
-    ensures policy { IfOk result (λ gate. gate.policy ≡ policy.now) }
-    ensures records { IfOk result (λ gate. gate.records ≡ []) }
-    ensures plain { IfOk result (λ gate. IsTrue (rules_need_no_figures gate.policy)) }
-    ensures fault { IfErr result (IsWhyNot (Ok policy.now)) }
-{
-    match first_that_needs_figures(policy) {
-        Some(rule) => Err(ProgramFault::NotJudged(rule)),
-        None => Ok(Gate::open(alloc, policy)?),
+        None => Ok(sample_policy(alloc)?),
     }
 }
 
 /// A gate at the beginning of a day: under the policy that the bytes of a file mean, or, where no file is given, under
-/// the sample policy less its rules that ask for figures.
-///
-/// No gate opens under a policy with a rule that asks for figures; the fault names the first.
+/// the sample policy.
 pub fn open_gate(alloc: Global, file: Option<&[u8]>) -> Result<Gate, ProgramFault>
     ensures policy { IfOk result (λ gate. policy_for (option_copied file.entry) ≡ Ok gate.policy) }
     ensures records { IfOk result (λ gate. gate.records ≡ []) }
-    ensures plain { IfOk result (λ gate. IsTrue (rules_need_no_figures gate.policy)) }
-    ensures fault { IfErr result (IsWhyNot (policy_for (option_copied file.entry))) }
+    ensures fault { IfErr result (IsFaultOf (policy_for (option_copied file.entry))) }
     ensures sample { option_copied file.entry ≡ None → IfErr result (λ fault. fault ≡ out_of_memory) }
 {
     let policy = policy_for(alloc, file)?;
-    open_under(alloc, &policy)
+    Ok(Gate::open(alloc, &policy)?)
 }
 
 /// The line that says how much the policy holds that the bytes of a file mean.

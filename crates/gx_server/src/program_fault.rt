@@ -5,13 +5,13 @@ ghost use Rattle.arrayvec.specs.ArrayVec.{array_vec_len};
 ghost use Rattle.gx_policyfile.specs.Field.{is_memory};
 ghost use Rattle.gx_server.specs.declared.program_fault.ProgramFault.TheVariants as faults;
 ghost use Rattle.gx_session.specs.Devices.{fault_words};
-ghost use Rattle.gx_server.specs.Telling.{out_of_memory, script_words, policy_words, rule_words, gate_line, fault_line, script_status, status_of};
+ghost use Rattle.gx_server.specs.Telling.{out_of_memory, script_words, policy_words, gate_line, fault_line, script_status, status_of};
 
 use crate::script_fault::{Explained, ScriptFault};
 use arrayvec::ArrayVec;
 use gx_policyfile::{FaultKind, PolicyFault};
 use gx_session::PipeFault;
-use gx_units::{OutOfMemory, RuleId, unpadded};
+use gx_units::OutOfMemory;
 use itoa::Buffer;
 use std::io::ErrorKind;
 
@@ -29,8 +29,6 @@ pub enum ProgramFault {
     Unread,
     /// The policy file has a fault.
     Policy(PolicyFault),
-    /// The policy has a rule whose kind asks for figures that are not there yet: the name of the first.
-    NotJudged(RuleId),
 }
 
 impl From<PipeFault> for ProgramFault {
@@ -85,7 +83,7 @@ impl ProgramFault {
         ensures { result ≡ status_of self.now }
     {
         match self {
-            ProgramFault::Pipe(_) | ProgramFault::Unread | ProgramFault::NotJudged(_) => 1,
+            ProgramFault::Pipe(_) | ProgramFault::Unread => 1,
             ProgramFault::Script(explained) => script_status(explained.fault),
             ProgramFault::Policy(fault) => { if fault.kind.is_memory() { 1 } else { 3 } }
         }
@@ -100,7 +98,6 @@ impl ProgramFault {
             ProgramFault::Script(explained) => script_line(explained.fault),
             ProgramFault::Unread => line_of(b"read failed"),
             ProgramFault::Policy(fault) => policy_line(fault.kind),
-            ProgramFault::NotJudged(rule) => rule_line(rule),
         }
     }
 }
@@ -148,16 +145,6 @@ fn policy_line(kind: FaultKind) -> FaultLine
         return line_of(b"out of memory");
     }
     line_around(b"policy fault", b" ", kind.words().as_bytes())
-}
-
-fn rule_line(rule: &RuleId) -> FaultLine
-    ensures { result.items ≡ gate_line (rule_words rule.now) }
-{
-    line_around(
-        b"rule ",
-        unpadded(&rule.bytes),
-        b" is of a kind not judged yet",
-    )
 }
 
 /// A line of these words.

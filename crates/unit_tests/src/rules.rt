@@ -4,7 +4,7 @@ ghost use Rattle.std.specs.Prelude.{◌≡◌};
 ghost use Rattle.gx_history.specs.declared.policy.Scope.TheVariants as scopes;
 
 use gx_desk::{Action, Command, Tag};
-use gx_history::facts::{Facts, Figures, ProposedOrder, RuleFigures};
+use gx_history::facts::{Facts, NO_FIGURES, NoFigures, ProposedOrder, RuleFigures};
 use gx_history::policy::{
     Account, AccountNames, Accounts, Count, FileRule, FileRules, Policy, PolicyData, Rate,
     RuleKind, Scope, Stock, Stocks, Symbols, Users,
@@ -66,22 +66,6 @@ const NOTHING_WRONG: Facts = Facts {
     moment: 1,
 };
 
-const NO_FIGURES: RuleFigures = RuleFigures {
-    live_shares: 0,
-    live_value: 0,
-    done_shares: 0,
-    done_value: 0,
-    replaced_shares: 0,
-    replaced_value: 0,
-    recent: 0,
-    equal_recent: 0,
-    reference: 0,
-};
-
-const NONE: Figures = Figures {
-    rules: [NO_FIGURES; 128],
-};
-
 fn entering(shares: u32, price: u32) -> EnterOrder {
     EnterOrder {
         token: Token {
@@ -122,7 +106,7 @@ fn entering_with(
 
 /// The rule that forbids an order first, where all figures are 0.
 fn first_without_figures(book: &RuleBook, order: EnterOrder) -> Option<RuleName> {
-    book.first_forbidding_without_figures(&NOTHING_WRONG, &Request::Enter(order))
+    book.first_forbidding(&NOTHING_WRONG, &NoFigures, &Request::Enter(order))
 }
 
 /// A policy that names nothing but its session.
@@ -213,7 +197,7 @@ fn first_of_kill(alloc: Global, facts: &Facts) -> Result<Option<RuleName>, OutOf
         },
         action: Action::Kill(ALFA),
     });
-    Ok(book.first_forbidding_without_figures(facts, &kill))
+    Ok(book.first_forbidding(facts, &NoFigures, &kill))
 }
 
 #[test]
@@ -376,7 +360,7 @@ fn book(alloc: Global) -> Result<RuleBook, OutOfMemory> {
 
 /// The rule of the file that forbids an order first.
 fn first_of(book: &RuleBook, order: EnterOrder) -> Option<RuleName> {
-    book.first_forbidding(&NOTHING_WRONG, &NONE, &Request::Enter(order))
+    book.first_forbidding(&NOTHING_WRONG, &NoFigures, &Request::Enter(order))
 }
 
 /// The first rule that forbids an order that is too big, in DEMO and in TEST, of 1,000,000, and of more; and, asked

@@ -10,5 +10,6 @@ returns-clause-ok c =
       day = c.set_moment.ensures ∙ but.day;
       orders = but.orders;
       book = but.book;
+      ledger = but.ledger;
       streams = but.streams;
     }

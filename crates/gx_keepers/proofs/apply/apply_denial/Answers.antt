@@ -13,4 +13,4 @@ tell-requires c =
 pub returns-clause-ok : goal.returns-clause-ok
 returns-clause-ok c =
     denial_goes_on c.args.next.policy.now c.args.next.history.now.records c.args.next.asked.now c.args.next.left.now c.args.rule c.args.keepers.now _ c.rejected-message.result
-    c.requires.takes c.requires.denied c.rejected-message.ensures refl refl refl c.in_ok-mark_denied.ensures.ok refl c.tell.ensures
+    c.requires.takes c.requires.denied c.rejected-message.ensures refl refl refl c.in_ok-mark_denied.ensures.ok refl refl c.tell.ensures

@@ -5,12 +5,12 @@ use Rattle.gx_keepers.proofs.apply.apply_grant.Goals as goal
 pub returns-in-Login-clause-ok : goal.returns-in-Login-clause-ok
 returns-in-Login-clause-ok c =
     login_goes_on c.args.next.policy.now c.args.next.history.now.records c.args.next.asked.now c.args.next.left.now c.in-Login.field-0 c.args.keepers.now _
-    c.requires.takes c.requires.granted c.in-Login.is refl refl c.log_in.ensures refl refl refl
+    c.requires.takes c.requires.granted c.in-Login.is refl refl c.log_in.ensures refl refl refl refl
 
 pub returns-in-Logout-clause-ok : goal.returns-in-Logout-clause-ok
 returns-in-Logout-clause-ok c =
     logout_goes_on c.args.next.policy.now c.args.next.history.now.records c.args.next.asked.now c.args.next.left.now c.args.keepers.now _
-    c.requires.takes c.requires.granted c.in-Logout.is refl refl c.log_out.ensures refl refl refl
+    c.requires.takes c.requires.granted c.in-Logout.is refl refl c.log_out.ensures refl refl refl refl
 
 pub unreachable-requires : goal.unreachable-requires
 unreachable-requires c =

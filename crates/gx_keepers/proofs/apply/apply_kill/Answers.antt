@@ -11,4 +11,4 @@ pub returns : goal.returns
 returns c =
     kill_goes_on c.args.next.policy.now c.args.next.history.now.records c.args.next.asked.now c.args.next.left.now c.args.c.now c.args.account c.args.keepers.now _
     c.requires.takes c.requires.granted c.requires.commands c.requires.kills
-    refl refl c.kill.ensures (λ i. record { live = c.end_account.ensures.live i; used = c.end_account.ensures.used i }) c.remove_account.ensures.left c.tell_of_ends.ensures
+    refl refl c.kill.ensures (λ i. record { live = c.end_account.ensures.live i; used = c.end_account.ensures.used i }) c.remove_account.ensures.left c.close_all_of.ensures c.tell_of_ends.ensures

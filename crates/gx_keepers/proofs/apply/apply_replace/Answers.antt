@@ -3,6 +3,7 @@ use Rattle.std.proofs.Math.Path.{subst}
 use Rattle.std.specs.Prelude.{is_some}
 use Rattle.gx_orders.specs.declared.live_order.LiveOrder.{LiveOrder}
 use Rattle.gx_orders.specs.LiveOrders.{AreBelow, is_used, without}
+use Rattle.gx_ledger.proofs.Following.{ended_then_accepted}
 use Rattle.gx_keepers.proofs.Replacing.{old_has_less, old_is_there, replace_goes_on, replace_has_place, replaces_last, replaces_unused}
 use Rattle.gx_keepers.proofs.apply.apply_replace.Goals as goal
 
@@ -38,6 +39,7 @@ tell-requires c =
 
 pub returns-clause-ok : goal.returns-clause-ok
 returns-clause-ok c =
-    replace_goes_on c.args.next.policy.now c.args.next.history.now.records c.args.next.asked.now c.args.next.left.now c.args.m.now c.args.keepers.now _ c.in-Some.old c.replacement_of-new.result c.replaced-message.result
-    c.requires.takes c.requires.granted c.requires.replaces (sym c.under.ensures ∙ c.in-Some.is) c.replacement_of-new.ensures c.replaced-message.ensures refl refl refl
-    (λ i. record { live = (c.end.ensures.live ∙ ap (without c.in-Some.old.number) c.in_ok-enter.ensures.live) i; used = (c.end.ensures.used ∙ c.in_ok-enter.ensures.used) i }) c.remove.ensures.removed c.tell.ensures
+    replace_goes_on c.args.next.policy.now c.args.next.history.now.records c.args.next.asked.now c.args.next.left.now c.args.m.now c.args.keepers.now _ c.in-Some.old c.replacement_of-new.result c.open_order-gone.result c.placed-handed.result c.replaced-message.result
+    c.requires.takes c.requires.granted c.requires.replaces (sym c.under.ensures ∙ c.in-Some.is) c.replacement_of-new.ensures c.open_order-gone.ensures c.placed-handed.ensures c.replaced-message.ensures refl refl refl
+    (λ i. record { live = (c.end.ensures.live ∙ ap (without c.in-Some.old.number) c.in_ok-enter.ensures.live) i; used = (c.end.ensures.used ∙ c.in_ok-enter.ensures.used) i }) c.remove.ensures.removed
+    (ended_then_accepted c.open_order-gone.result c.placed-handed.result c.args.keepers.now.ledger c.close.new.self c.accept.new.self c.close.ensures.closed c.accept.ensures.accepted) c.tell.ensures

@@ -42,11 +42,11 @@ tell-requires-2 c =
 
 pub returns : goal.returns
 returns c =
-    fill_goes_on c.args.next.policy.now c.args.next.history.now.records c.args.next.first.now c.args.next.left.now c.args.keepers.now _ c.args.f c.in-Some.maker _ c.executed-to_taker.result c.executed-to_maker.result
-    c.requires.takes c.requires.fills (sym c.numbered.ensures.found ∙ c.in-Some.is) c.opposite-against.ensures c.executed-to_taker.ensures c.executed-to_maker.ensures refl refl refl
+    fill_goes_on c.args.next.policy.now c.args.next.history.now.records c.args.next.first.now c.args.next.left.now c.args.keepers.now _ c.args.f c.in-Some.maker c.open_order-came.result c.open_order-rested.result _ c.executed-to_taker.result c.executed-to_maker.result
+    c.requires.takes c.requires.fills (sym c.numbered.ensures.found ∙ c.in-Some.is) c.open_order-came.ensures c.open_order-rested.ensures c.opposite-against.ensures c.executed-to_taker.ensures c.executed-to_maker.ensures refl refl refl
     (λ i. record {
       live = (c.fill-2.ensures.live ∙ ap (filled_at c.args.f.maker c.args.f.shares) c.fill.ensures.live) i;
       used = (c.fill-2.ensures.used ∙ c.fill.ensures.used) i;
     })
-    c.take_from_best.ensures
+    c.take_from_best.ensures c.fill-3.ensures.filled
     (c.tell-2.ensures ∙ ap (λ (s : AllStreams). with_told c.in-Some.maker.user c.args.next.left.now.moment (Some c.executed-to_maker.result) s) c.tell.ensures)

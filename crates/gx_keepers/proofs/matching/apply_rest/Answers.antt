@@ -18,4 +18,4 @@ pub returns-clause-ok : goal.returns-clause-ok
 returns-clause-ok c =
     rest_goes_on c.args.next.policy.now c.args.next.history.now.records c.args.next.first.now c.args.next.left.now c.args.keepers.now _ c.args.number c.resting_of.result
     c.requires.takes c.requires.rests c.resting_of.ensures refl refl refl
-    (λ i. record { live = c.rest-2.ensures.live i; used = c.rest-2.ensures.used i }) c.in_ok-rest.ensures.ok refl
+    (λ i. record { live = c.rest-2.ensures.live i; used = c.rest-2.ensures.used i }) c.in_ok-rest.ensures.ok refl refl

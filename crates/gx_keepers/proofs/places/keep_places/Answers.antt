@@ -4,7 +4,8 @@ use Rattle.gx_units.specs.declared.names.UserName.{UserName}
 use Rattle.gx_history.specs.declared.record.Step.TheVariants as steps
 use Rattle.gx_streams.proofs.Finding.{known_are}
 use Rattle.gx_keepers.proofs.Carrying.{AsksKill, TellsFew, asks_kill, tells_few}
-use Rattle.gx_keepers.proofs.Keepings.{kill_fits, legal_after, one_fits}
+use Rattle.gx_keepers.proofs.Figuring.{legal_after}
+use Rattle.gx_keepers.proofs.Keepings.{kill_fits, one_fits}
 use Rattle.gx_keepers.proofs.places.keep_places.Goals as goal
 
 pub keep_for_ends-requires : goal.keep_for_ends-requires

@@ -9,4 +9,4 @@ set-requires c =
 pub returns-clause-ok : goal.returns-clause-ok
 returns-clause-ok c =
     setting_goes_on c.args.next.policy.now c.args.next.history.now.records c.args.next.asked.now c.args.next.left.now c.args.c.now c.args.keepers.now _
-    c.requires.takes c.requires.granted c.requires.commands c.requires.sets c.in_ok-set.ensures.people c.in_ok-set.ensures.rules refl refl refl refl
+    c.requires.takes c.requires.granted c.requires.commands c.requires.sets c.in_ok-set.ensures.people c.in_ok-set.ensures.rules refl refl refl refl refl

@@ -1,9 +1,15 @@
+use Rattle.gx_exposure.proofs.Gross.{gross_shares_are_kept, gross_values_are_kept, none_asked_none_held}
 use Rattle.gx_core.proofs.Matched.{never_crossed_now}
 use Rattle.gx_core.proofs.gate.Gate.is_legal.Goals as goal
 
 pub returns : goal.returns
 returns c =
+    let policy = c.self.inside.policy in
+    let records = c.self.inside.history.records in
     rw (← c.self.view_is) (record {
       legal = c.self.invariant.legal;
-      uncrossed = never_crossed_now c.self.inside.policy c.self.inside.history.records c.self.invariant.legal;
+      uncrossed = never_crossed_now policy records c.self.invariant.legal;
+      shares_within = gross_shares_are_kept policy records c.self.invariant.legal;
+      values_within = gross_values_are_kept policy records c.self.invariant.legal;
+      none_held = λ among. none_asked_none_held policy records among c.self.invariant.legal;
     })

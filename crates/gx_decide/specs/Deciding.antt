@@ -1,0 +1,42 @@
+-- What a verdict rests on: people, rules in force, and what a ledger stands for.
+use Rattle.std.specs.Prelude.{◌≡◌, ℕ, Bool, true, List, map, Option, is_some, IsTrue}
+use Rattle.std.specs.Option.{option_map_or}
+use Rattle.gx_units.specs.declared.names.AccountName.{AccountName}
+use Rattle.gx_desk.specs.declared.Action.{Action}
+use Rattle.gx_history.specs.declared.facts.Facts.{Facts}
+use Rattle.gx_history.specs.declared.policy.FileRule.{FileRule}
+use Rattle.gx_history.specs.declared.policy.PolicyData.{PolicyData}
+use Rattle.gx_history.specs.declared.policy.User.{User}
+use Rattle.gx_history.specs.declared.record.Asked.{Asked}
+use Rattle.gx_history.specs.declared.record.Request.{Request}
+use Rattle.gx_history.specs.declared.record.Verdict.{Verdict}
+use Rattle.gx_history.specs.Asking.{of_command}
+use Rattle.gx_history.specs.Figures.{Positions, figures}
+use Rattle.gx_history.specs.People.{account_named}
+use Rattle.gx_history.specs.Rules.{first_forbidding}
+use Rattle.gx_history.specs.Verdicts.{figures_asked, verdict_by, with_figures}
+use Rattle.gx_people.specs.Entitled.{has, power_of}
+use Rattle.gx_positions.specs.Sound.{AreSound}
+use Rattle.gx_ledger.specs.Keeping.{Kept}
+use Rattle.gx_ledger.specs.StandsFor.{IsNamedIfAny, StandsFor}
+
+-- the facts, with what these people say of the asker's power
+abbrev pub with_powers : List User → Asked → Facts → Facts
+with_powers people a given = record given { has_power = of_command (λ (action : Action). has people a.user (power_of action)) a.request }
+
+-- the rules ask for the figures of the policy's, as commands change limits and lists of stocks alone
+abbrev pub AskForTheSame : PolicyData → Positions → List FileRule → Type 0
+AskForTheSame policy held rules = (asker : AccountName) (q : Request) (replaced : Option ℕ) (moment : ℕ)
+    → map (figures policy held asker q replaced moment) rules ≡ map (figures policy held asker q replaced moment) policy.rules
+
+-- the asker's account, if he has one, is the policy's
+abbrev pub knows_asker : PolicyData → Facts → Bool
+knows_asker policy given = option_map_or (λ (account : AccountName). is_some (account_named policy account)) given.account true
+
+-- The verdict is that of the first rule that forbids, on the powers of the people and the figures of the lists that the
+-- ledger stands for, whichever these are.
+abbrev pub Decides : List User → List FileRule → Kept → Facts → Asked → Verdict → Type 0
+Decides people rules ledger given a result = (policy : PolicyData) (held : Positions)
+    → StandsFor policy ledger held → AreSound policy held → AskForTheSame policy held rules → IsTrue (knows_asker policy given) → IsNamedIfAny held given.named
+    → let facts = with_powers people a given in
+    result ≡ verdict_by (first_forbidding (with_figures (figures_asked policy held a.request facts) rules) facts a.request)

@@ -1,0 +1,192 @@
+-- Records that grant no order of some accounts raise nothing that they have in all.
+use Rattle.std.proofs.Common.{◌≡◌, ℕ, ◌+◌, ◌≤◌, Bool, List, [], ◌∷◌, ◌++◌, length, drop, sym, ap, ◌∙◌, arith, append_assoc}
+use Rattle.std.proofs.Math.Path.{subst}
+use Rattle.std.proofs.Math.Seq.{drop-append_seam}
+use Rattle.std.proofs.lemmas.List.{append-nil, length-append}
+use Rattle.std.proofs.lemmas.List.Elements.{filter-append}
+use Rattle.std.specs.List.{filter, AllByRecursion}
+use Rattle.gx_units.specs.declared.names.AccountName.{AccountName}
+use Rattle.gx_history.specs.declared.policy.PolicyData.{PolicyData}
+use Rattle.gx_history.specs.declared.record.RecordData.{RecordData}
+use Rattle.gx_history.specs.Executions.{Execution, executions, sides}
+use Rattle.gx_history.specs.Figures.{Positions}
+use Rattle.gx_history.specs.Lists.{each_after, each_with_earlier}
+use Rattle.gx_history.specs.Orders.{Order, orders, orders_added}
+use Rattle.gx_history.specs.Verdicts.{Follows, IsLegal}
+use Rattle.gx_history_laws.proofs.NextOrders.{executions_next, orders_next}
+use Rattle.gx_history_laws.proofs.NextReports.{legal_next}
+use Rattle.gx_effects.specs.OneMore.{change_of}
+use Rattle.gx_positions.specs.Changing.{live_positions}
+use Rattle.gx_positions.specs.Laws.{PositionsAreSound, PositionsGoOn, RecordsMayCome}
+use Rattle.gx_positions.proofs.Sums.{sum_of_filter, sum_where-append}
+use Rattle.gx_exposure.specs.Exposure.{executions_after, gain, gained, gross_shares, gross_value, is_theirs}
+use Rattle.gx_exposure.proofs.Live.{gross_shares_are, gross_value_is}
+use Rattle.gx_exposure.proofs.Steps.{AddsNone, AreWorth, adds_none, no_more_shares, no_more_value, shares_held, value_held}
+use Rattle.gx_exposure.proofs.Worth.{executions_are_worth}
+
+-- what is known of positions
+pub record GoOn : Type 0 where
+  pub go_on : PositionsGoOn
+  pub may_come : RecordsMayCome
+  pub are_sound : PositionsAreSound
+
+each_after-append : {X : Type 0} (earlier xs ys : List X) → each_after earlier (xs ++ ys) ≡ each_after earlier xs ++ each_after (earlier ++ xs) ys
+each_after-append {X} earlier [] ys = ap (λ (before : List X). each_after before ys) (sym (append-nil earlier))
+each_after-append {X} earlier (x ∷ xs) ys =
+    ap (λ (rest : List (List X × X)). (earlier, x) ∷ rest)
+    (each_after-append (earlier ++ x ∷ []) xs ys ∙ ap (λ (before : List X). each_after (earlier ++ x ∷ []) xs ++ each_after before ys) (append_assoc earlier (x ∷ []) xs))
+
+-- what holds of all holds of the first and of the last
+pub all_in_parts : {X : Type 0} (P : X → Type 0) (xs ys : List X) → AllByRecursion P (xs ++ ys) → AllByRecursion P xs × AllByRecursion P ys
+all_in_parts P [] ys h = (tt, h)
+all_in_parts P (x ∷ xs) ys h =
+    let rest : AllByRecursion P xs × AllByRecursion P ys = all_in_parts P xs ys h.1 in
+    ((h.0, rest.0), rest.1)
+
+-- a legal history's records follow a legal history
+pub legal_in_parts : (policy : PolicyData) (earlier later : List RecordData) → IsLegal policy (earlier ++ later) → IsLegal policy earlier × AllByRecursion (Follows policy) (each_after earlier later)
+legal_in_parts policy earlier later legal =
+    let parts = all_in_parts (Follows policy) (each_with_earlier earlier) (each_after earlier later)
+    (subst (λ (steps : List (List RecordData × RecordData)). AllByRecursion (Follows policy) steps) (each_after-append [] earlier later) legal.follows) in
+    (record { follows = parts.0 }, parts.1)
+
+-- what each later record keeps
+kept_after : (policy : PolicyData) (Keeps : List RecordData → Type 0) → ((history : List RecordData) (r : RecordData) → IsLegal policy history → Follows policy (history, r) → Keeps history → Keeps (history ++ r ∷ []))
+    → (earlier later : List RecordData) → IsLegal policy earlier → Keeps earlier → AllByRecursion (Follows policy) (each_after earlier later) → Keeps (earlier ++ later)
+kept_after policy Keeps step earlier [] legal kept h = subst Keeps (sym (append-nil earlier)) kept
+kept_after policy Keeps step earlier (r ∷ later) legal kept h =
+    subst Keeps (append_assoc earlier (r ∷ []) later)
+    (kept_after policy Keeps step (earlier ++ r ∷ []) later (legal_next policy earlier r legal h.0) (step earlier r legal h.0 kept) h.1)
+
+-- so it holds of the whole legal history
+pub kept_to_the_end : (policy : PolicyData) (Keeps : List RecordData → Type 0) → ((history : List RecordData) (r : RecordData) → IsLegal policy history → Follows policy (history, r) → Keeps history → Keeps (history ++ r ∷ []))
+    → (earlier later : List RecordData) → IsLegal policy (earlier ++ later) → Keeps earlier → Keeps (earlier ++ later)
+kept_to_the_end policy Keeps step earlier later legal kept =
+    let parts = legal_in_parts policy earlier later legal in
+    kept_after policy Keeps step earlier later parts.0 kept parts.1
+
+-- how many orders of these accounts were granted
+abbrev pub granted_to : PolicyData → (AccountName → Bool) → List RecordData → ℕ
+granted_to policy among history = length (filter (is_theirs among) (orders policy history))
+
+grants_grow : (policy : PolicyData) (among : AccountName → Bool) (history : List RecordData) (r : RecordData) → granted_to policy among history ≤ granted_to policy among (history ++ r ∷ [])
+grants_grow policy among history r =
+    let added : List Order = orders_added policy (orders policy history) r in
+    let more = ap (λ (os : List Order). length (filter (is_theirs among) os)) (orders_next policy history r)
+    ∙ ap length (filter-append (is_theirs among) (orders policy history) added)
+    ∙ length-append (filter (is_theirs among) (orders policy history)) (filter (is_theirs among) added) in
+    omega (arith, more)
+
+-- gains add up
+pub gained-append : (made more : List Execution) (among : AccountName → Bool) → gained (made ++ more) among ≡ gained made among + gained more among
+unfolding gained
+gained-append made more among =
+    let theirs : Execution → Bool = λ e. among e.order.account in
+    let all = sum_of_filter theirs gain (made ++ more) in
+    let first = sum_of_filter theirs gain made in
+    let last = sum_of_filter theirs gain more in
+    let parts = sum_where-append theirs gain made more in
+    omega (arith, all, first, last, parts)
+
+-- these come first among all
+abbrev IsFront : List Execution → List Execution → Type 0
+IsFront made all = (more : List Execution) × (all ≡ made ++ more)
+
+module _ (laws : GoOn) (policy : PolicyData) (among : AccountName → Bool) where
+  none_added : (history : List RecordData) (r : RecordData) → IsLegal policy history → Follows policy (history, r) → granted_to policy among (history ++ r ∷ []) ≤ granted_to policy among history
+      → AddsNone among (change_of policy history r)
+  none_added history r legal follows few =
+      let grow = grants_grow policy among history r in
+      let same : granted_to policy among (history ++ r ∷ []) ≡ granted_to policy among history = omega (arith, few, grow) in
+      adds_none among (change_of policy history r) (orders policy history)
+      (sym (ap (λ (held : Positions). length (filter (is_theirs among) held.grants)) (laws.go_on policy history r.step r legal follows.is_next)) ∙ same)
+
+  no_more_by_record : (history : List RecordData) (r : RecordData) → IsLegal policy history → Follows policy (history, r) → granted_to policy among (history ++ r ∷ []) ≤ granted_to policy among history
+      → gross_shares policy (history ++ r ∷ []) among ≤ gross_shares policy history among
+  no_more_by_record history r legal follows few =
+      let held : Positions = live_positions policy history in
+      let fall = no_more_shares policy held among (laws.are_sound policy history legal).numbers_differ (change_of policy history r) (laws.may_come policy history r.step r legal follows.is_next) (none_added history r legal follows few) in
+      let after = gross_shares_are policy (history ++ r ∷ []) among ∙ ap (λ (p : Positions). shares_held p among) (laws.go_on policy history r.step r legal follows.is_next) in
+      let before = gross_shares_are policy history among in
+      omega (arith, fall, after, before)
+
+  no_more_value_by_record : (history : List RecordData) (r : RecordData) → IsLegal policy history → Follows policy (history, r) → granted_to policy among (history ++ r ∷ []) ≤ granted_to policy among history
+      → gross_value policy (history ++ r ∷ []) among + gained (executions policy history) among ≤ gross_value policy history among + gained (executions policy (history ++ r ∷ [])) among
+  no_more_value_by_record history r legal follows few =
+      let held : Positions = live_positions policy history in
+      let goes = laws.go_on policy history r.step r legal follows.is_next in
+      let worth : AreWorth (executions policy (history ++ r ∷ [])) = executions_are_worth policy (history ++ r ∷ []) (legal_next policy history r legal follows) in
+      let made = ap (λ (p : Positions). p.executions) goes in
+      let fall = no_more_value policy held among (laws.are_sound policy history legal).numbers_differ (change_of policy history r) (laws.may_come policy history r.step r legal follows.is_next) (none_added history r legal follows few) (subst AreWorth made worth) in
+      let after = gross_value_is policy (history ++ r ∷ []) among ∙ ap (λ (p : Positions). value_held p among) goes in
+      let before = gross_value_is policy history among in
+      let same = ap (λ (es : List Execution). gained es among) made in
+      omega (arith, fall, after, before, same)
+
+  -- no order is granted after these, so no more shares
+  abbrev KeepsTheShares : List RecordData → List RecordData → Type 0
+  KeepsTheShares earlier history = (granted_to policy among earlier ≤ granted_to policy among history)
+      × (granted_to policy among history ≤ granted_to policy among earlier → gross_shares policy history among ≤ gross_shares policy earlier among)
+
+  pub no_more_shares_after : (earlier later : List RecordData) → IsLegal policy (earlier ++ later) → granted_to policy among (earlier ++ later) ≤ granted_to policy among earlier
+      → gross_shares policy (earlier ++ later) among ≤ gross_shares policy earlier among
+  no_more_shares_after earlier later legal few =
+      (kept_to_the_end policy (KeepsTheShares earlier) one_more earlier later legal (omega arith, λ _. omega arith)).1 few
+    where
+      one_more : (history : List RecordData) (r : RecordData) → IsLegal policy history → Follows policy (history, r) → KeepsTheShares earlier history → KeepsTheShares earlier (history ++ r ∷ [])
+      one_more history r legal follows kept =
+          let grow = grants_grow policy among history r in
+          let before = kept.0 in (
+            omega (arith, grow, before),
+            λ few.
+                let few_before : granted_to policy among history ≤ granted_to policy among earlier = omega (arith, few, grow) in
+                let few_now : granted_to policy among (history ++ r ∷ []) ≤ granted_to policy among history = omega (arith, few, before) in
+                let less = no_more_by_record history r legal follows few_now in
+                let so_far = kept.1 few_before in
+                omega (arith, less, so_far),
+          )
+
+  -- and no more value, but for the gain
+  abbrev KeepsTheValue : List RecordData → List RecordData → Type 0
+  KeepsTheValue earlier history = (granted_to policy among earlier ≤ granted_to policy among history)
+      × (granted_to policy among history ≤ granted_to policy among earlier
+      → gross_value policy history among + gained (executions policy earlier) among ≤ gross_value policy earlier among + gained (executions policy history) among)
+
+  value_after : (earlier later : List RecordData) → IsLegal policy (earlier ++ later) → granted_to policy among (earlier ++ later) ≤ granted_to policy among earlier
+      → gross_value policy (earlier ++ later) among + gained (executions policy earlier) among ≤ gross_value policy earlier among + gained (executions policy (earlier ++ later)) among
+  value_after earlier later legal few =
+      (kept_to_the_end policy (KeepsTheValue earlier) one_more earlier later legal (omega arith, λ _. omega arith)).1 few
+    where
+      one_more : (history : List RecordData) (r : RecordData) → IsLegal policy history → Follows policy (history, r) → KeepsTheValue earlier history → KeepsTheValue earlier (history ++ r ∷ [])
+      one_more history r legal follows kept =
+          let grow = grants_grow policy among history r in
+          let before = kept.0 in (
+            omega (arith, grow, before),
+            λ few.
+                let few_before : granted_to policy among history ≤ granted_to policy among earlier = omega (arith, few, grow) in
+                let few_now : granted_to policy among (history ++ r ∷ []) ≤ granted_to policy among history = omega (arith, few, before) in
+                let less = no_more_value_by_record history r legal follows few_now in
+                let so_far = kept.1 few_before in
+                omega (arith, less, so_far),
+          )
+
+  executions_stay : (earlier later : List RecordData) → IsLegal policy (earlier ++ later) → IsFront (executions policy earlier) (executions policy (earlier ++ later))
+  executions_stay earlier later legal =
+      kept_to_the_end policy (λ (h : List RecordData). IsFront (executions policy earlier) (executions policy h))
+      (λ h r _ _ front. (
+        front.0 ++ sides policy h r.verdict,
+        executions_next policy h r ∙ ap (λ (es : List Execution). es ++ sides policy h r.verdict) front.1 ∙ append_assoc (executions policy earlier) front.0 (sides policy h r.verdict),
+      ))
+      earlier later legal ([], sym (append-nil (executions policy earlier)))
+
+  -- no order is granted after these, so no more value, but for what sells gained since
+  pub no_more_value_after : (earlier later : List RecordData) → IsLegal policy (earlier ++ later) → granted_to policy among (earlier ++ later) ≤ granted_to policy among earlier
+      → gross_value policy (earlier ++ later) among ≤ gross_value policy earlier among + gained (executions_after policy earlier (earlier ++ later)) among
+  no_more_value_after earlier later legal few =
+      let front = executions_stay earlier later legal in
+      let rest : executions_after policy earlier (earlier ++ later) ≡ front.0 =
+      ap (λ (es : List Execution). drop (length (executions policy earlier)) es) front.1 ∙ drop-append_seam (executions policy earlier) front.0 in
+      let parts = ap (λ (es : List Execution). gained es among) front.1 ∙ gained-append (executions policy earlier) front.0 among in
+      let of_rest = ap (λ (es : List Execution). gained es among) rest in
+      let whole = value_after earlier later legal few in
+      omega (arith, whole, parts, of_rest)

@@ -1,0 +1,19 @@
+-- What gross rules keep, by the laws of orders, fills and grants.
+use Rattle.gx_positions.proofs.GoingOn.{positions_go_on, records_may_come}
+use Rattle.gx_positions.proofs.Sound.{positions_are_sound}
+use Rattle.gx_exposure.specs.Laws.{GrossSharesAreKept, GrossValuesAreKept, NoneAskedNoneHeld}
+use Rattle.gx_exposure.proofs.After.{GoOn}
+use Rattle.gx_exposure.proofs.Kept.{shares_stay_within, values_stay_within}
+use Rattle.gx_exposure.proofs.None.{none_asked}
+
+go_on : GoOn
+go_on = record { go_on = positions_go_on; may_come = records_may_come; are_sound = positions_are_sound }
+
+pub gross_shares_are_kept : GrossSharesAreKept
+gross_shares_are_kept = shares_stay_within go_on
+
+pub gross_values_are_kept : GrossValuesAreKept
+gross_values_are_kept = values_stay_within go_on
+
+pub none_asked_none_held : NoneAskedNoneHeld
+none_asked_none_held = none_asked

@@ -1,0 +1,8 @@
+pub mod Steps
+pub mod Worth
+pub mod Live
+pub mod After
+pub mod Grants
+pub mod None
+pub mod Kept
+pub mod Gross

@@ -1,0 +1,89 @@
+-- Accounts that were granted no order have nothing.
+use Rattle.std.proofs.Common.{◌≡◌, ℕ, Bool, true, false, cond, List, [], ◌∷◌, map, refl, sym, ap, ◌∙◌, arith}
+use Rattle.std.proofs.Math.Path.{subst}
+use Rattle.std.specs.Prelude.{Option, Some, None, nat_eq, option_to_list}
+use Rattle.std.specs.List.{filter, AllByRecursion}
+use Rattle.gx_units.specs.Money.{value}
+use Rattle.gx_units.specs.declared.names.AccountName.{AccountName}
+use Rattle.gx_ouch.specs.declared.letters.Liquidity.{Liquidity}
+use Rattle.gx_ouch.specs.declared.letters.Liquidity.TheVariants as liquidities
+use Rattle.gx_history.specs.declared.policy.PolicyData.{PolicyData}
+use Rattle.gx_history.specs.declared.record.Fill.{Fill}
+use Rattle.gx_history.specs.declared.record.RecordData.{RecordData}
+use Rattle.gx_history.specs.declared.record.Verdict.{Verdict}
+use Rattle.gx_history.specs.declared.record.Verdict.TheVariants as verdicts
+use Rattle.gx_history.specs.Executions.{Execution, Standing, executions, side_of, sides, standing, standings}
+use Rattle.gx_history.specs.Orders.{Order, order_numbered, orders, orders_added}
+use Rattle.gx_history.specs.Verdicts.{IsLegal}
+use Rattle.gx_history_laws.proofs.Granting.{legal_keeps}
+use Rattle.gx_history_laws.proofs.NextOrders.{executions_next, executions_none, orders_next}
+use Rattle.gx_history_laws.proofs.Owners.{all_both}
+use Rattle.gx_effects.proofs.Entered.{all_mapped}
+use Rattle.gx_effects.proofs.NewOrders.{found_is}
+use Rattle.gx_positions.proofs.Sums.{as_shares, done_shares_are, done_value_are, is_among, live_shares_are, live_value_are, open_of, sum_where}
+use Rattle.gx_exposure.specs.Exposure.{HasNothing, NoneIsGranted, is_theirs}
+use Rattle.gx_exposure.proofs.After.{all_in_parts}
+
+none_passes : {X : Type 0} (p : X → Bool) (xs : List X) → filter p xs ≡ [] → AllByRecursion (λ (x : X). p x ≡ false) xs
+none_passes p [] h = tt
+none_passes {X} p (x ∷ xs) h = at (p x) refl h (none_passes p xs)
+  where
+    at : (b : Bool) → p x ≡ b → cond b (x ∷ filter p xs) (filter p xs) ≡ [] → (filter p xs ≡ [] → AllByRecursion (λ (x : X). p x ≡ false) xs) → AllByRecursion (λ (x : X). p x ≡ false) (x ∷ xs)
+    at true e k deeper = cc
+    at false e k deeper = (e, deeper k)
+
+sum_of_none : {X : Type 0} (p : X → Bool) (m : X → ℕ) (xs : List X) → AllByRecursion (λ (x : X). p x ≡ false) xs → sum_where p m xs ≡ 0
+sum_of_none p m [] h = refl
+sum_of_none p m (x ∷ xs) h =
+    let here = ap (λ b. cond b (m x) 0) h.0 in
+    let rest = sum_of_none p m xs h.1 in
+    omega (arith, here, rest)
+
+module _ (P : Order → Type 0) where
+  -- a fill's sides are orders that are known
+  side_has : (known : List Order) (f : Fill) (liquidity : Liquidity) (number : ℕ) → AllByRecursion P known → AllByRecursion (λ (e : Execution). P e.order) (side_of known f liquidity number)
+  side_has known f liquidity number h = at (order_numbered known number) refl
+    where
+      at : (found : Option Order) → order_numbered known number ≡ found
+          → AllByRecursion (λ (e : Execution). P e.order) (map (λ (o : Order). record { fill = f; liquidity = liquidity; order = o }) (option_to_list found))
+      at None e = tt
+      at (Some o) e = (found_is P (λ (o : Order). nat_eq o.number number) known o h e, tt)
+
+  sides_have : (policy : PolicyData) (before : List RecordData) (v : Verdict) → AllByRecursion P (orders policy before) → AllByRecursion (λ (e : Execution). P e.order) (sides policy before v)
+  sides_have policy before verdicts.Granted h = tt
+  sides_have policy before (verdicts.Denied rule) h = tt
+  sides_have policy before (verdicts.Filled f) h =
+      all_both (λ (e : Execution). P e.order) (side_of (orders policy before) f liquidities.Removed f.taker) (side_of (orders policy before) f liquidities.Added f.maker)
+      (side_has (orders policy before) f liquidities.Removed f.taker h) (side_has (orders policy before) f liquidities.Added f.maker h)
+  sides_have policy before (verdicts.Rested number) h = tt
+  sides_have policy before (verdicts.Expired number) h = tt
+
+  -- what holds of each order holds of those that executed
+  pub executions_have : (policy : PolicyData) (history : List RecordData) → IsLegal policy history → AllByRecursion P (orders policy history) → AllByRecursion (λ (e : Execution). P e.order) (executions policy history)
+  executions_have policy history legal =
+      legal_keeps policy (λ (h : List RecordData). AllByRecursion P (orders policy h) → AllByRecursion (λ (e : Execution). P e.order) (executions policy h))
+      (λ _. subst (AllByRecursion (λ (e : Execution). P e.order)) (sym (executions_none policy)) tt)
+      (λ h r kept follows all.
+      let parts = all_in_parts P (orders policy h) (orders_added policy (orders policy h) r) (subst (AllByRecursion P) (orders_next policy h r) all) in
+      subst (AllByRecursion (λ (e : Execution). P e.order)) (sym (executions_next policy h r))
+      (all_both (λ (e : Execution). P e.order) (executions policy h) (sides policy h r.verdict) (kept parts.0) (sides_have policy h r.verdict parts.0)))
+      history legal
+
+-- all orders stand as they were granted
+standings_have : (policy : PolicyData) (history : List RecordData) (among : AccountName → Bool) → AllByRecursion (λ (o : Order). is_theirs among o ≡ false) (orders policy history)
+    → AllByRecursion (λ (s : Standing). is_among among s ≡ false) (standings policy history)
+unfolding standings
+standings_have policy history among h = all_mapped (λ (s : Standing). is_among among s ≡ false) (standing (executions policy history) history) (orders policy history) h
+
+-- none granted, none held
+pub none_asked : (policy : PolicyData) (history : List RecordData) (among : AccountName → Bool) → IsLegal policy history → NoneIsGranted policy history among → HasNothing policy history among
+none_asked policy history among legal none =
+    let not_theirs : AllByRecursion (λ (o : Order). is_theirs among o ≡ false) (orders policy history) = none_passes (is_theirs among) (orders policy history) none in
+    let stand = standings_have policy history among not_theirs in
+    let executed = executions_have (λ (o : Order). is_theirs among o ≡ false) policy history legal not_theirs in
+    let theirs : Execution → Bool = λ e. among e.order.account in
+    let shares_open = live_shares_are (standings policy history) among ∙ sum_of_none (is_among among) (open_of as_shares) (standings policy history) stand in
+    let value_open = live_value_are (standings policy history) among ∙ sum_of_none (is_among among) (open_of value) (standings policy history) stand in
+    let shares_done = done_shares_are (executions policy history) among ∙ sum_of_none theirs (λ (e : Execution). e.fill.shares) (executions policy history) executed in
+    let value_done = done_value_are (executions policy history) among ∙ sum_of_none theirs (λ (e : Execution). value e.fill.shares e.fill.price) (executions policy history) executed in
+    record { no_shares = omega (arith, shares_open, shares_done); no_value = omega (arith, value_open, value_done) }

@@ -1,0 +1,75 @@
+-- What was executed is worth no more than at the order's own price, but for what a sell got above it.
+use Rattle.std.proofs.Common.{◌≡◌, ℕ, ◌+◌, ◌-◌, ◌≤◌, Bool, true, false, cond, leb, List, [], ◌∷◌, ◌++◌, refl, sym, ap, ◌∙◌, arith}
+use Rattle.std.proofs.Math.Path.{subst}
+use Rattle.std.proofs.Math.Nat.{mul-le-mul_left}
+use Rattle.std.proofs.lemmas.Bool.{leb-true}
+use Rattle.std.proofs.lemmas.List.{append-nil}
+use Rattle.std.specs.Prelude.{Some}
+use Rattle.gx_units.specs.Money.{value}
+use Rattle.gx_history.specs.declared.policy.PolicyData.{PolicyData}
+use Rattle.gx_history.specs.declared.record.Fill.{Fill}
+use Rattle.gx_history.specs.declared.record.RecordData.{RecordData}
+use Rattle.gx_history.specs.declared.record.Step.{Step}
+use Rattle.gx_history.specs.declared.record.Step.TheVariants as steps
+use Rattle.gx_history.specs.declared.record.Verdict.{Verdict}
+use Rattle.gx_history.specs.declared.record.Verdict.TheVariants as verdicts
+use Rattle.gx_history.specs.Book.{is_buy_order}
+use Rattle.gx_history.specs.Executions.{executions, sides}
+use Rattle.gx_history.specs.Matched.{FillsOrders, maker_side, taker_side}
+use Rattle.gx_history.specs.Requests.{is_judged}
+use Rattle.gx_history.specs.Verdicts.{Follows, IsLegal, next}
+use Rattle.gx_history_laws.proofs.Granting.{asked_is_judged, legal_keeps}
+use Rattle.gx_history_laws.proofs.NextOrders.{executions_next, executions_none}
+use Rattle.gx_history_laws.proofs.NextReports.{legal_next, legal_none}
+use Rattle.gx_history_laws.proofs.Owners.{all_both}
+use Rattle.gx_effects.proofs.Fills.{fill_takes_effect, same_fill}
+use Rattle.gx_effects.proofs.Orderly.{legal_is_orderly}
+use Rattle.gx_exposure.proofs.Steps.{AreWorth, IsWorth}
+
+-- a buy at or below its own price, or a sell at any
+worth_by : (b : Bool) (shares price own : ℕ) → (b ≡ true → price ≤ own) → value shares price ≤ value shares own + cond b 0 (value shares (price - own))
+worth_by true shares price own h = let more = mul-le-mul_left shares (h refl) in omega (arith, more)
+worth_by false shares price own h =
+    let above : price ≤ own + (price - own) = omega arith in
+    let more = mul-le-mul_left shares above in
+    omega (arith, more)
+
+taker_pays : (b : Bool) (own other : ℕ) → elim b as (λ _. Bool) [ true ↦ leb other own | false ↦ leb own other ] ≡ true → b ≡ true → other ≤ own
+taker_pays true own other h e = leb-true other own h
+taker_pays false own other h e = cc
+
+fill_is_worth : (policy : PolicyData) (before after : List RecordData) (r : RecordData) (f : Fill) → r.verdict ≡ verdicts.Filled f → (is : FillsOrders policy before after r f)
+    → AreWorth (taker_side f is.taker.order ∷ maker_side f is.maker.order ∷ [])
+fill_is_worth policy before after r f fills is =
+    let price : f.price ≡ is.maker.order.terms.price = ap (λ (g : Fill). g.price) (same_fill f _ (sym fills ∙ is.is_theirs)) in
+    let of_taker : is_buy_order is.taker.order ≡ true → f.price ≤ is.taker.order.terms.price =
+    λ e. let most = taker_pays (is_buy_order is.taker.order) is.taker.order.terms.price is.maker.order.terms.price is.do_cross e in omega (arith, most, price) in (
+      worth_by (is_buy_order is.taker.order) f.shares f.price is.taker.order.terms.price of_taker,
+      (worth_by (is_buy_order is.maker.order) f.shares f.price is.maker.order.terms.price (λ e. omega (arith, price)), tt),
+    )
+
+-- of each execution of a legal history
+pub executions_are_worth : (policy : PolicyData) (history : List RecordData) → IsLegal policy history → AreWorth (executions policy history)
+executions_are_worth policy history legal =
+    (legal_keeps policy (λ (h : List RecordData). IsLegal policy h × AreWorth (executions policy h)) (legal_none policy, subst AreWorth (sym (executions_none policy)) tt)
+    (λ h r kept follows. (legal_next policy h r kept.0 follows, one_more h r kept.0 kept.1 follows)) history legal).1
+  where
+    as_before : (h : List RecordData) (r : RecordData) → AreWorth (executions policy h) → sides policy h r.verdict ≡ [] → AreWorth (executions policy (h ++ r ∷ []))
+    as_before h r worth none = subst AreWorth (sym (executions_next policy h r ∙ ap (λ es. executions policy h ++ es) none ∙ append-nil (executions policy h))) worth
+
+    by_fill : (h : List RecordData) (r : RecordData) (f : Fill) (step : Step) → IsLegal policy h → AreWorth (executions policy h) → next policy h step ≡ Some r → r.verdict ≡ verdicts.Filled f
+        → AreWorth (executions policy (h ++ r ∷ []))
+    by_fill h r f (steps.Asked a) legal worth left fills = let judged : false ≡ true = ap is_judged (sym fills) ∙ asked_is_judged policy h a r left in cc
+    by_fill h r f (steps.Matching handed) legal worth left fills =
+        let is : FillsOrders policy h (h ++ r ∷ []) r f = fill_takes_effect policy h handed r f (legal_is_orderly policy h legal) left fills in
+        subst AreWorth (sym is.executions_more) (all_both IsWorth (executions policy h) _ worth (fill_is_worth policy h (h ++ r ∷ []) r f fills is))
+
+    one_more : (h : List RecordData) (r : RecordData) → IsLegal policy h → AreWorth (executions policy h) → Follows policy (h, r) → AreWorth (executions policy (h ++ r ∷ []))
+    one_more h r legal worth follows = at r.verdict refl
+      where
+        at : (v : Verdict) → r.verdict ≡ v → AreWorth (executions policy (h ++ r ∷ []))
+        at verdicts.Granted e = as_before h r worth (ap (sides policy h) e)
+        at (verdicts.Denied rule) e = as_before h r worth (ap (sides policy h) e)
+        at (verdicts.Filled f) e = by_fill h r f r.step legal worth follows.is_next e
+        at (verdicts.Rested number) e = as_before h r worth (ap (sides policy h) e)
+        at (verdicts.Expired number) e = as_before h r worth (ap (sides policy h) e)

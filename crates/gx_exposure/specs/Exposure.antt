@@ -1,0 +1,80 @@
+-- What accounts have open and executed in all, and what the rules that limit it keep.
+use Rattle.std.specs.Prelude.{ℕ, ◌+◌, ◌-◌, ◌≤◌, ◌≡◌, Bool, IsTrue, List, [], ◌∷◌, ◌++◌, length, drop, sum_by, if◌then◌else◌}
+use Rattle.std.specs.List.{filter, list_any, AllByRecursion}
+use Rattle.gx_units.specs.Money.{value}
+use Rattle.gx_units.specs.declared.names.AccountName.{AccountName}
+use Rattle.gx_history.specs.declared.policy.Count.{Count}
+use Rattle.gx_history.specs.declared.policy.FileRule.{FileRule}
+use Rattle.gx_history.specs.declared.policy.PolicyData.{PolicyData}
+use Rattle.gx_history.specs.declared.policy.RuleKind.TheVariants as kinds
+use Rattle.gx_history.specs.declared.record.RecordData.{RecordData}
+use Rattle.gx_history.specs.Book.{is_buy_order}
+use Rattle.gx_history.specs.Executions.{Execution, executions, standings}
+use Rattle.gx_history.specs.Figures.{counts_account, live_shares, live_value, done_shares, done_value}
+use Rattle.gx_history.specs.InForce.{rules_in_force}
+use Rattle.gx_history.specs.Orders.{Order, orders, orders_added}
+use Rattle.gx_history.specs.People.{covers}
+
+-- the open shares of these accounts, and those that they executed
+abbrev pub gross_shares : PolicyData → List RecordData → (AccountName → Bool) → ℕ
+gross_shares policy history among = live_shares (standings policy history) among + done_shares (executions policy history) among
+
+-- the value of their open shares at the prices of their orders, and of those that they executed at the prices of the fills
+abbrev pub gross_value : PolicyData → List RecordData → (AccountName → Bool) → ℕ
+gross_value policy history among = live_value (standings policy history) among + done_value (executions policy history) among
+
+-- what a sell got above its own price
+abbrev pub gain : Execution → ℕ
+gain e = if is_buy_order e.order then 0 else value e.fill.shares (e.fill.price - e.order.terms.price)
+
+-- what the sells of these accounts got above their own prices
+unfoldable pub gained : List Execution → (AccountName → Bool) → ℕ
+gained made among = sum_by gain (filter (λ (e : Execution). among e.order.account) made)
+
+-- the executions after these records
+abbrev pub executions_after : PolicyData → List RecordData → List RecordData → List Execution
+executions_after policy earlier history = drop (length (executions policy earlier)) (executions policy history)
+
+-- the order is one of these accounts
+abbrev pub is_theirs : (AccountName → Bool) → Order → Bool
+is_theirs among o = among o.account
+
+-- the record grants an order of these accounts, and no later record does
+pub record IsLastGrant (policy : PolicyData) (among : AccountName → Bool) (before : List RecordData) (r : RecordData) (after : List RecordData) : Type 0 where
+  pub is_granted : IsTrue (list_any (is_theirs among) (orders_added policy (orders policy before) r))
+  pub is_last : filter (is_theirs among) (orders policy (before ++ r ∷ after)) ≡ filter (is_theirs among) (orders policy (before ++ r ∷ []))
+
+-- The rule limits the shares of an account of its scope, or of all of them together: after their last grant they have no more.
+abbrev pub KeepsShares : PolicyData → List RecordData → RecordData → List RecordData → FileRule → Type 0
+KeepsShares policy before r after rule = (limit : ℕ) (count : Count) (account : AccountName)
+    → rule.kind ≡ kinds.GrossShares limit count → IsTrue (covers rule.scope account)
+    → let among = counts_account count rule.scope account in
+    IsLastGrant policy among before r after → gross_shares policy (before ++ r ∷ after) among ≤ limit
+
+-- The rule limits the value of an account of its scope, or of all of them together: after their last grant they have no
+-- more, but for what their sells have got above their own prices since.
+abbrev pub KeepsValue : PolicyData → List RecordData → RecordData → List RecordData → FileRule → Type 0
+KeepsValue policy before r after rule = (limit : ℕ) (count : Count) (account : AccountName)
+    → rule.kind ≡ kinds.GrossValue limit count → IsTrue (covers rule.scope account)
+    → let among = counts_account count rule.scope account in
+    IsLastGrant policy among before r after
+    → gross_value policy (before ++ r ∷ after) among ≤ limit + gained (executions_after policy (before ++ r ∷ []) (before ++ r ∷ after)) among
+
+-- each rule that was in force at a record keeps the shares of accounts whose last grant it was
+abbrev pub SharesStayWithin : PolicyData → List RecordData → Type 0
+SharesStayWithin policy history = (before after : List RecordData) (r : RecordData)
+    → history ≡ before ++ r ∷ after → AllByRecursion (KeepsShares policy before r after) (rules_in_force policy before)
+
+-- and their value
+abbrev pub ValuesStayWithin : PolicyData → List RecordData → Type 0
+ValuesStayWithin policy history = (before after : List RecordData) (r : RecordData)
+    → history ≡ before ++ r ∷ after → AllByRecursion (KeepsValue policy before r after) (rules_in_force policy before)
+
+-- no order of these accounts was granted
+abbrev pub NoneIsGranted : PolicyData → List RecordData → (AccountName → Bool) → Type 0
+NoneIsGranted policy history among = filter (is_theirs among) (orders policy history) ≡ []
+
+-- the accounts have nothing open and nothing executed
+pub record HasNothing (policy : PolicyData) (history : List RecordData) (among : AccountName → Bool) : Type 0 where
+  pub no_shares : gross_shares policy history among ≡ 0
+  pub no_value : gross_value policy history among ≡ 0

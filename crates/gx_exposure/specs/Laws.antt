@@ -1,0 +1,20 @@
+-- What gross rules keep in every legal history.
+use Rattle.std.specs.Prelude.{Bool, List}
+use Rattle.gx_units.specs.declared.names.AccountName.{AccountName}
+use Rattle.gx_history.specs.declared.policy.PolicyData.{PolicyData}
+use Rattle.gx_history.specs.declared.record.RecordData.{RecordData}
+use Rattle.gx_history.specs.Verdicts.{IsLegal}
+use Rattle.gx_exposure.specs.Exposure.{SharesStayWithin, ValuesStayWithin, NoneIsGranted, HasNothing}
+
+-- rules on gross shares
+abbrev pub GrossSharesAreKept : Type 0
+GrossSharesAreKept = (policy : PolicyData) (history : List RecordData) → IsLegal policy history → SharesStayWithin policy history
+
+-- rules on gross value
+abbrev pub GrossValuesAreKept : Type 0
+GrossValuesAreKept = (policy : PolicyData) (history : List RecordData) → IsLegal policy history → ValuesStayWithin policy history
+
+-- accounts that were granted no order have nothing open and nothing executed
+abbrev pub NoneAskedNoneHeld : Type 0
+NoneAskedNoneHeld = (policy : PolicyData) (history : List RecordData) (among : AccountName → Bool)
+    → IsLegal policy history → NoneIsGranted policy history among → HasNothing policy history among

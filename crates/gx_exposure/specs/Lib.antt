@@ -1,0 +1,2 @@
+pub mod Exposure
+pub mod Laws

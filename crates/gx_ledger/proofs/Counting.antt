@@ -1,0 +1,233 @@
+-- What a change makes of what counts, and so of all groups and rules.
+use Rattle.std.proofs.Common.{◌≡◌, ℕ, ◌+◌, ◌-◌, ◌≤◌, suc, Bool, true, false, cond, ◌&&◌, ◌||◌, not, List, [], ◌∷◌, ◌++◌, map, length, drop, refl, sym, ap, ◌∙◌, arith, ltb}
+use Rattle.std.specs.Prelude.{Option, Some, None, option_map}
+use Rattle.std.specs.List.{list_any, position_or_len}
+use Rattle.std.proofs.lemmas.Bool.{lt-ltb, ltb-false, ltb-true}
+use Rattle.std.proofs.lemmas.Bool.Decides.{nat_tests}
+use Rattle.std.proofs.lemmas.List.{length-append, length-drop, drop-drop, drop-append-le}
+use Rattle.circular_buffer.specs.Buffer.{buffer}
+use Rattle.gx_units.specs.Names.{same_account}
+use Rattle.gx_units.specs.declared.names.AccountName.{AccountName}
+use Rattle.std.specs.Cmp.Lexicographic.{nat_list_eq_equiv}
+use Rattle.gx_history.specs.declared.policy.Count.{Count}
+use Rattle.gx_history.specs.declared.policy.Count.TheVariants as counts
+use Rattle.gx_history.specs.declared.policy.FileRule.{FileRule}
+use Rattle.gx_history.specs.declared.policy.PolicyData.{PolicyData}
+use Rattle.gx_history.specs.declared.policy.Scope.{Scope}
+use Rattle.gx_history.specs.Lists.{are_distinct}
+use Rattle.gx_history.specs.People.{covers}
+use Rattle.gx_history_laws.proofs.Names.{same_account_flip}
+use Rattle.gx_ledger.specs.declared.group.Group.{Group}
+use Rattle.gx_ledger.specs.declared.placed.Change.{Change}
+use Rattle.gx_ledger.specs.declared.placed.Change.TheVariants as changes
+use Rattle.gx_ledger.specs.declared.tally.Asks.{Asks}
+use Rattle.gx_ledger.specs.Keeping.{Kept, account_place, kept_noted, noted}
+use Rattle.gx_ledger.specs.Running.{account_changed, changed_group, entered_as, open_when_placed, pushed, with_done, with_live, without_live}
+use Rattle.gx_ledger.specs.StandsFor.{Total, group_of, members_of, ring, tally_of}
+use Rattle.gx_ledger.specs.Tallies.{asks_of, changed_in, count_of, place_in, room_for_enters, room_for_moments, tally_after}
+
+-- what counts of the accounts that a change is of
+abbrev pub changed_total : Change → Total → Total
+changed_total (changes.Accepted p) t = record {
+  sums = with_live (open_when_placed p) p.price t.sums;
+  moments = t.moments ++ p.moment ∷ [];
+  enters = cond p.replacement t.enters (t.enters ++ entered_as p ∷ []);
+}
+changed_total (changes.Left part) t = record { sums = without_live part.shares part.price t.sums; moments = t.moments; enters = t.enters }
+changed_total (changes.Executed part) t = record { sums = with_done part.shares part.price t.sums; moments = t.moments; enters = t.enters }
+
+-- what counts of any accounts
+abbrev pub Totals : Type 0
+Totals = (AccountName → Bool) → Total
+
+-- and what does after a change
+abbrev pub totals_after : Change → Totals → Totals
+totals_after change totals among = cond (among (account_changed change)) (changed_total change (totals among)) (totals among)
+
+-- the ring of one more item
+pub pushed_ring : {X : Type 0} (n : ℕ) (xs : List X) (x : X) → pushed x (ring n xs) ≡ ring n (xs ++ x ∷ [])
+pushed_ring n xs x =
+    let past : ℕ = length xs - n in
+    let fits : past ≤ length xs = omega arith in
+    let front : drop past xs ++ x ∷ [] ≡ drop past (xs ++ x ∷ []) = sym (drop-append-le past xs (x ∷ []) fits) in
+    let kept : length (drop past xs ++ x ∷ []) ≡ length (drop past xs) + 1 = length-append (drop past xs) (x ∷ []) in
+    let few : length (drop past xs) ≡ length xs - past = length-drop past xs in
+    let whole : length (xs ++ x ∷ []) ≡ length xs + 1 = length-append xs (x ∷ []) in
+    let places : past + (length (drop past xs ++ x ∷ []) - n) ≡ length (xs ++ x ∷ []) - n = omega (arith, kept, few, whole) in
+    ap (λ items. buffer items n)
+    (ap (drop (length (drop past xs ++ x ∷ []) - n)) front
+    ∙ drop-drop (length (drop past xs ++ x ∷ []) - n) past (xs ++ x ∷ [])
+    ∙ ap (λ k. drop k (xs ++ x ∷ [])) places)
+
+-- a group follows what counts
+pub group_changed : (change : Change) (asked : Asks) (t : Total) → changed_group change (group_of asked t) ≡ group_of asked (changed_total change t)
+group_changed (changes.Accepted p) asked t = λ i. record {
+  sums = with_live (open_when_placed p) p.price t.sums;
+  moments = pushed_ring (room_for_moments asked) t.moments p.moment i;
+  enters = by p.replacement i;
+}
+  where
+    by : (b : Bool) → cond b (ring (room_for_enters asked) t.enters) (pushed (entered_as p) (ring (room_for_enters asked) t.enters)) ≡ ring (room_for_enters asked) (cond b t.enters (t.enters ++ entered_as p ∷ []))
+    by true = refl
+    by false = pushed_ring (room_for_enters asked) t.enters (entered_as p)
+group_changed (changes.Left part) asked t = refl
+group_changed (changes.Executed part) asked t = refl
+
+both_less : (m n : ℕ) → ltb (suc m) (suc n) ≡ ltb m n
+both_less m n = by (ltb m n) refl
+  where
+    by : (b : Bool) → ltb m n ≡ b → ltb (suc m) (suc n) ≡ b
+    by true h = let less = ltb-true m n h in lt-ltb (suc m) (suc n) (omega (arith, less))
+    by false h = let most = ltb-false m n h in grind (arith, nat_tests)
+
+-- the first place of one more name
+pub place-cons : (x n : AccountName) (names : List AccountName) → account_place (n ∷ names) x ≡ cond (same_account x n) (Some 0) (option_map suc (account_place names x))
+place-cons x n names =
+    ap (λ m. cond (ltb (cond (not (same_account x n)) m 0) (suc (length names))) (Some (cond (not (same_account x n)) m 0)) None) one_more ∙ by (same_account x n)
+  where
+    one_more : 1 + position_or_len (same_account x) names ≡ suc (position_or_len (same_account x) names)
+    one_more = omega arith
+
+    later : (b : Bool) (place : ℕ) → cond b (Some (suc place)) None ≡ option_map suc (cond b (Some place) None)
+    later true place = refl
+    later false place = refl
+
+    by : (b : Bool) → cond (ltb (cond (not b) (suc (position_or_len (same_account x) names)) 0) (suc (length names))) (Some (cond (not b) (suc (position_or_len (same_account x) names)) 0)) None
+        ≡ cond b (Some 0) (option_map suc (account_place names x))
+    by true = ap (λ b. cond b (Some 0) None) (lt-ltb 0 (suc (length names)) (omega arith))
+    by false =
+        ap (λ b. cond b (Some (suc (position_or_len (same_account x) names))) None) (both_less (position_or_len (same_account x) names) (length names))
+        ∙ later (ltb (position_or_len (same_account x) names) (length names)) (position_or_len (same_account x) names)
+
+-- the place of one more group
+changed-cons : {X : Type 0} (place : Option ℕ) (f : X → X) (y : X) (ys : List X) → changed_in (option_map suc place) f (y ∷ ys) ≡ y ∷ changed_in place f ys
+changed-cons None f y ys = refl
+changed-cons (Some n) f y ys = refl
+
+left_false : (a b : Bool) → (a || b) ≡ false → a ≡ false
+left_false true b h = h
+left_false false b h = refl
+
+right_false : (a b : Bool) → (a || b) ≡ false → b ≡ false
+right_false true b h = cc
+right_false false b h = h
+
+pub left_none : (a b : Bool) → (not a && b) ≡ true → a ≡ false
+left_none true b h = cc
+left_none false b h = refl
+
+pub right_true : (a b : Bool) → (a && b) ≡ true → b ≡ true
+right_true true b h = h
+right_true false b h = cc
+
+module _ (change : Change) (scope : Scope) (asked : Asks) (totals : Totals) where
+  abbrev x : AccountName
+  x = account_changed change
+
+  abbrev member : AccountName → AccountName → Bool
+  member name account = covers scope account && same_account name account
+
+  abbrev before : AccountName → Group
+  before name = group_of asked (totals (member name))
+
+  abbrev after : AccountName → Group
+  after name = group_of asked (totals_after change totals (member name))
+
+  another : (name : AccountName) → same_account x name ≡ false → before name ≡ after name
+  another name h = ap (λ b. group_of asked (cond b (changed_total change (totals (member name))) (totals (member name)))) (sym (ap (λ b. covers scope x && b) (same_account_flip name x ∙ h) ∙ none (covers scope x)))
+    where
+      none : (b : Bool) → (b && false) ≡ false
+      none true = refl
+      none false = refl
+
+  itself : (name : AccountName) → covers scope x ≡ true → same_account x name ≡ true → changed_group change (before name) ≡ after name
+  itself name inside h =
+      group_changed change asked (totals (member name))
+      ∙ ap (λ b. group_of asked (cond b (changed_total change (totals (member name))) (totals (member name)))) (sym ((λ i. inside i && (same_account_flip name x ∙ h) i)))
+
+  others : (names : List AccountName) → list_any (same_account x) names ≡ false → map before names ≡ map after names
+  others [] none = refl
+  others (n ∷ names) none =
+      λ i. another n (left_false (same_account x n) (list_any (same_account x) names) none) i ∷ others names (right_false (same_account x n) (list_any (same_account x) names) none) i
+
+  same_others : (n : AccountName) (names : List AccountName) → same_account x n ≡ true → list_any (same_account x) names ≡ list_any (same_account n) names
+  same_others n [] same = refl
+  same_others n (m ∷ names) same = λ i. nat_list_eq_equiv.congr x.bytes n.bytes m.bytes same i || same_others n names same i
+
+  -- one group for each account follows
+  pub each_changed : (names : List AccountName) → are_distinct same_account names ≡ true → covers scope x ≡ true
+      → changed_in (account_place names x) (changed_group change) (map before names) ≡ map after names
+  each_changed [] distinct inside = refl
+  each_changed (n ∷ names) distinct inside =
+      ap (λ place. changed_in place (changed_group change) (before n ∷ map before names)) (place-cons x n names)
+      ∙ by (same_account x n) refl (each_changed names (right_true (not (list_any (same_account n) names)) (are_distinct same_account names) distinct) inside)
+    where
+      by : (b : Bool) → same_account x n ≡ b → changed_in (account_place names x) (changed_group change) (map before names) ≡ map after names
+          → changed_in (cond b (Some 0) (option_map suc (account_place names x))) (changed_group change) (before n ∷ map before names) ≡ after n ∷ map after names
+      by true h deeper = λ i. itself n inside h i ∷ others names (same_others n names h ∙ left_none (list_any (same_account n) names) (are_distinct same_account names) distinct) i
+      by false h deeper = changed-cons (account_place names x) (changed_group change) (before n) (map before names) ∙ (λ i. another n h i ∷ deeper i)
+
+-- groups of members that the change is not of
+apart : (change : Change) (scope : Scope) (asked : Asks) (totals : Totals) (names : List AccountName) → covers scope (account_changed change) ≡ false
+    → map (before change scope asked totals) names ≡ map (after change scope asked totals) names
+apart change scope asked totals [] outside = refl
+apart change scope asked totals (n ∷ names) outside =
+    λ i. group_of asked (cond (sym (ap (λ b. b && same_account n (account_changed change)) outside) i) (changed_total change (totals (member change scope asked totals n))) (totals (member change scope asked totals n)))
+    ∷ apart change scope asked totals names outside i
+
+pub map_twice : {X Y Z : Type 0} (g : Y → Z) (f : X → Y) (xs : List X) → map g (map f xs) ≡ map (λ x. g (f x)) xs
+map_twice g f [] = refl
+map_twice g f (x ∷ xs) = ap (λ l. g (f x) ∷ l) (map_twice g f xs)
+
+-- the groups of a rule follow
+groups_changed : (change : Change) (totals : Totals) (names : List AccountName) (count : Option Count) (asked : Asks) (scope : Scope) → are_distinct same_account names ≡ true
+    → cond (covers scope (account_changed change))
+    (changed_in (place_in count (account_place names (account_changed change))) (changed_group change) (map (λ (among : AccountName → Bool). group_of asked (totals among)) (members_of count scope names)))
+    (map (λ (among : AccountName → Bool). group_of asked (totals among)) (members_of count scope names))
+    ≡ map (λ (among : AccountName → Bool). group_of asked (totals_after change totals among)) (members_of count scope names)
+groups_changed change totals names None asked scope distinct = either (covers scope (account_changed change))
+  where
+    either : (b : Bool) → cond {A = List Group} b [] [] ≡ []
+    either true = refl
+    either false = refl
+groups_changed change totals names (Some counts.Together) asked scope distinct = by (covers scope (account_changed change))
+  where
+    by : (b : Bool) → cond b (changed_group change (group_of asked (totals (covers scope))) ∷ []) (group_of asked (totals (covers scope)) ∷ [])
+        ≡ group_of asked (cond b (changed_total change (totals (covers scope))) (totals (covers scope))) ∷ []
+    by true = ap (λ g. g ∷ []) (group_changed change asked (totals (covers scope)))
+    by false = refl
+groups_changed change totals names (Some counts.Each) asked scope distinct =
+    (λ i. cond (covers scope (account_changed change)) (changed_in (account_place names (account_changed change)) (changed_group change) (first i)) (first i))
+    ∙ by (covers scope (account_changed change)) refl
+    ∙ sym (map_twice (λ (among : AccountName → Bool). group_of asked (totals_after change totals among)) (λ (name : AccountName). member change scope asked totals name) names)
+  where
+    first : map (λ (among : AccountName → Bool). group_of asked (totals among)) (members_of (Some counts.Each) scope names) ≡ map (before change scope asked totals) names
+    first = map_twice (λ (among : AccountName → Bool). group_of asked (totals among)) (λ (name : AccountName). member change scope asked totals name) names
+
+    by : (b : Bool) → covers scope (account_changed change) ≡ b
+        → cond b (changed_in (account_place names (account_changed change)) (changed_group change) (map (before change scope asked totals) names)) (map (before change scope asked totals) names)
+        ≡ map (after change scope asked totals) names
+    by true h = each_changed change scope asked totals names distinct h
+    by false h = apart change scope asked totals names h
+
+-- a rule's tally follows
+pub tally_changed : (change : Change) (totals : Totals) (names : List AccountName) → are_distinct same_account names ≡ true → (rule : FileRule)
+    → tally_after change (account_place names (account_changed change)) (tally_of names totals rule) ≡ tally_of names (totals_after change totals) rule
+tally_changed change totals names distinct rule = λ i. record {
+  scope = rule.scope;
+  asks = asks_of rule.kind;
+  count = count_of rule.kind;
+  groups = groups_changed change totals names (count_of rule.kind) (asks_of rule.kind) rule.scope distinct i;
+}
+
+-- all tallies follow
+pub tallies_changed : (change : Change) (totals : Totals) (names : List AccountName) → are_distinct same_account names ≡ true → (rules : List FileRule)
+    → noted change (account_place names (account_changed change)) (map (tally_of names totals) rules) ≡ map (tally_of names (totals_after change totals)) rules
+tallies_changed change totals names distinct [] = refl
+tallies_changed change totals names distinct (rule ∷ rules) = λ i. tally_changed change totals names distinct rule i ∷ tallies_changed change totals names distinct rules i
+
+-- what a ledger keeps follows
+pub kept_follows : (policy : PolicyData) (k : Kept) (totals : Totals) (change : Change) → are_distinct same_account k.accounts ≡ true → k.tallies ≡ map (tally_of k.accounts totals) policy.rules
+    → (kept_noted change k).tallies ≡ map (tally_of k.accounts (totals_after change totals)) policy.rules
+kept_follows policy k totals change distinct is =
+    ap (noted change (account_place k.accounts (account_changed change))) is ∙ tallies_changed change totals k.accounts distinct policy.rules

@@ -1,0 +1,11 @@
+pub mod Entries
+pub mod Places
+pub mod Latest
+pub mod Counting
+pub mod Totals
+pub mod Carrying
+pub mod Filled
+pub mod Opening
+pub mod Counted
+pub mod Answering
+pub mod Following

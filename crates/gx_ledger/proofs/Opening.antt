@@ -1,0 +1,128 @@
+-- A ledger before any order.
+use Rattle.std.proofs.Common.{◌≡◌, ℕ, ◌-◌, Bool, true, false, cond, ◌&&◌, ◌||◌, not, List, [], ◌∷◌, map, drop, refl, sym, ap, ◌∙◌, zero, suc}
+use Rattle.std.specs.Prelude.{Option, Some, None, is_some}
+use Rattle.std.specs.Option.{option_map_or}
+use Rattle.std.specs.List.{AllByRecursion, find, list_any}
+use Rattle.std.specs.Cmp.Lexicographic.{nat_list_eq_equiv}
+use Rattle.circular_buffer.specs.Buffer.{buffer}
+use Rattle.gx_units.specs.Names.{same_account, same_stock}
+use Rattle.gx_units.specs.declared.names.AccountName.{AccountName}
+use Rattle.gx_history.specs.declared.policy.Account.{Account}
+use Rattle.gx_history.specs.declared.policy.Count.{Count}
+use Rattle.gx_history.specs.declared.policy.Count.TheVariants as counts
+use Rattle.gx_history.specs.declared.policy.FileRule.{FileRule}
+use Rattle.gx_history.specs.declared.policy.PolicyData.{PolicyData}
+use Rattle.gx_history.specs.declared.policy.Scope.{Scope}
+use Rattle.gx_history.specs.declared.policy.Stock.{Stock}
+use Rattle.gx_history.specs.Figures.{reference}
+use Rattle.gx_history.specs.Lists.{are_distinct}
+use Rattle.gx_history.specs.People.{covers, stock_named}
+use Rattle.gx_history.specs.Soundness.{is_sound}
+use Rattle.gx_history_laws.proofs.Judging.{both}
+use Rattle.gx_history_laws.proofs.Names.{accounts_differ as accounts_apart}
+use Rattle.gx_history_laws.proofs.NextFigures.{done_shares_none, done_value_none, live_shares_none, live_value_none, reference_none}
+use Rattle.gx_positions.specs.Changing.{nothing}
+use Rattle.gx_ledger.specs.declared.tally.Asks.{Asks}
+use Rattle.gx_ledger.specs.Keeping.{account_names, reference_prices}
+use Rattle.gx_ledger.specs.Running.{new_group}
+use Rattle.gx_ledger.specs.StandsFor.{StandsFor, group_of, members_of, prices_of, tally_of, total_of}
+use Rattle.gx_ledger.specs.Tables.{accounts_differ, names_differ}
+use Rattle.gx_ledger.specs.Tallies.{asks_of, count_of, new_groups, new_tally, room_for_enters, room_for_moments}
+use Rattle.gx_ledger.proofs.Counting.{left_none, right_true}
+
+-- no two stocks of the policy have one name
+pub sound_stocks : (policy : PolicyData) → is_sound policy ≡ true → names_differ policy.stocks ≡ true
+unfolding is_sound
+sound_stocks policy h =
+    let of_names = (both _ _ (both _ _ (both _ _ (both _ _ (both _ _ (both _ _ h).0).0).0).0).0).1 in
+    (both _ _ (both _ _ (both _ _ of_names).0).0).1
+
+-- names of accounts that differ
+pub distinct_names : (accounts : List Account) → accounts_differ accounts ≡ true → are_distinct same_account (account_names accounts) ≡ true
+distinct_names [] h = refl
+distinct_names (a ∷ accounts) h =
+    (λ i. not (any_name accounts i) && distinct_names accounts (right_true (not (list_any (λ (b : Account). same_account a.name b.name) accounts)) (accounts_differ accounts) h) i)
+    ∙ ap (λ b. not b && true) (left_none (list_any (λ (b : Account). same_account a.name b.name) accounts) (accounts_differ accounts) h)
+  where
+    any_name : (others : List Account) → list_any (same_account a.name) (account_names others) ≡ list_any (λ (b : Account). same_account a.name b.name) others
+    any_name [] = refl
+    any_name (b ∷ others) = ap (λ t. same_account a.name b.name || t) (any_name others)
+
+left_false : (a b : Bool) → (a || b) ≡ false → a ≡ false
+left_false true b h = h
+left_false false b h = refl
+
+right_false : (a b : Bool) → (a || b) ≡ false → b ≡ false
+right_false true b h = cc
+right_false false b h = h
+
+-- the stock is found under its name
+abbrev IsFoundIn : List Stock → Stock → Type 0
+IsFoundIn stocks s = find (λ (t : Stock). same_stock t.name s.name) stocks ≡ Some s
+
+later_found : (x : Stock) (stocks ys : List Stock) → list_any (λ (y : Stock). same_stock x.name y.name) ys ≡ false → AllByRecursion (IsFoundIn stocks) ys → AllByRecursion (IsFoundIn (x ∷ stocks)) ys
+later_found x stocks [] none all = tt
+later_found x stocks (y ∷ ys) none all = (
+  ap (λ b. cond b (Some x) (find (λ (t : Stock). same_stock t.name y.name) stocks)) (left_false (same_stock x.name y.name) (list_any (λ (y : Stock). same_stock x.name y.name) ys) none) ∙ all.0,
+  later_found x stocks ys (right_false (same_stock x.name y.name) (list_any (λ (y : Stock). same_stock x.name y.name) ys) none) all.1,
+)
+
+all_found : (stocks : List Stock) → names_differ stocks ≡ true → AllByRecursion (IsFoundIn stocks) stocks
+all_found [] h = tt
+all_found (x ∷ stocks) h = (
+  ap (λ b. cond b (Some x) (find (λ (t : Stock). same_stock t.name x.name) stocks)) (nat_list_eq_equiv.refl x.name.bytes),
+  later_found x stocks stocks (left_none (list_any (λ (y : Stock). same_stock x.name y.name) stocks) (names_differ stocks) h)
+      (all_found stocks (right_true (not (list_any (λ (y : Stock). same_stock x.name y.name) stocks)) (names_differ stocks) h)),
+)
+
+-- each stock's first price is the file's
+first_prices : (policy : PolicyData) → names_differ policy.stocks ≡ true → reference_prices policy.stocks ≡ prices_of policy nothing
+first_prices policy h = each policy.stocks (all_found policy.stocks h)
+  where
+    each : (stocks : List Stock) → AllByRecursion (IsFoundIn policy.stocks) stocks → reference_prices stocks ≡ map (λ (s : Stock). (s.name, reference policy [] s.name)) stocks
+    each [] all = refl
+    each (s ∷ stocks) all = λ i. (s.name, sym (reference_none policy s.name ∙ ap (λ found. option_map_or (λ (s : Stock). s.reference) found 0) all.0) i) ∷ each stocks all.1 i
+
+none_left : {X : Type 0} (n : ℕ) → drop {A = X} n [] ≡ []
+none_left zero = refl
+none_left (suc n) = refl
+
+new_group_is : (asked : Asks) (among : AccountName → Bool) → new_group (room_for_moments asked) (room_for_enters asked) ≡ group_of asked (total_of nothing among)
+new_group_is asked among = λ i. record {
+  sums = record { live_shares = sym (live_shares_none among) i; live_value = sym (live_value_none among) i; done_shares = sym (done_shares_none among) i; done_value = sym (done_value_none among) i };
+  moments = buffer (sym (none_left (0 - room_for_moments asked)) i) (room_for_moments asked);
+  enters = buffer (sym (none_left (0 - room_for_enters asked)) i) (room_for_enters asked);
+}
+
+new_groups_are : (count : Option Count) (asked : Asks) (scope : Scope) (accounts : List Account)
+    → new_groups count asked accounts ≡ map (λ (among : AccountName → Bool). group_of asked (total_of nothing among)) (members_of count scope (account_names accounts))
+new_groups_are None asked scope accounts = refl
+new_groups_are (Some counts.Together) asked scope accounts = ap (λ g. g ∷ []) (new_group_is asked (covers scope))
+new_groups_are (Some counts.Each) asked scope [] = refl
+new_groups_are (Some counts.Each) asked scope (a ∷ accounts) =
+    λ i. new_group_is asked (λ account. covers scope account && same_account a.name account) i ∷ new_groups_are (Some counts.Each) asked scope accounts i
+
+new_tallies_are : (accounts : List Account) (rules : List FileRule) → map (new_tally accounts) rules ≡ map (tally_of (account_names accounts) (total_of nothing)) rules
+new_tallies_are accounts [] = refl
+new_tallies_are accounts (rule ∷ rules) =
+    λ i. record {
+      scope = rule.scope;
+      asks = asks_of rule.kind;
+      count = count_of rule.kind;
+      groups = new_groups_are (count_of rule.kind) (asks_of rule.kind) rule.scope accounts i;
+    } ∷ new_tallies_are accounts rules i
+
+-- a new ledger stands for nothing
+pub opened_stands : (policy : PolicyData) → is_sound policy ≡ true
+    → StandsFor policy (record { accounts = account_names policy.accounts; prices = reference_prices policy.stocks; tallies = map (new_tally policy.accounts) policy.rules }) nothing
+opened_stands policy sound = record {
+  accounts = refl;
+  accounts_differ = distinct_names policy.accounts (accounts_apart policy sound);
+  prices = first_prices policy (sound_stocks policy sound);
+  unlisted = λ stock other. reference_none policy stock ∙ none_named (stock_named policy stock) other;
+  tallies = new_tallies_are policy.accounts policy.rules;
+}
+  where
+    none_named : (found : Option Stock) → is_some found ≡ false → option_map_or (λ (s : Stock). s.reference) found 0 ≡ 0
+    none_named None other = refl
+    none_named (Some s) other = cc

@@ -1,0 +1,7 @@
+use Rattle.std.proofs.Common.{sym, subst}
+use Rattle.gx_ledger.specs.StandsFor.{Accepts}
+use Rattle.gx_ledger.proofs.Carrying.{accept_carries}
+use Rattle.gx_ledger.proofs.ledger.Ledger.accept.Goals as goal
+
+pub returns : goal.returns
+returns c = record { accepted = subst (λ k. Accepts c.args.placed.now c.args.self.now k) (sym c.note.ensures) (accept_carries c.args.placed.now c.args.self.now) }

@@ -1,0 +1,24 @@
+use Rattle.std.proofs.Common.{◌∙◌, ap, sym, subst}
+use Rattle.gx_ledger.specs.Keeping.{Kept}
+use Rattle.gx_ledger.specs.StandsFor.{GivesFigures}
+use Rattle.gx_ledger.proofs.Answering.{figures_answer}
+use Rattle.gx_ledger.proofs.ledger.Ledger.after.Goals as goal
+
+pub returns : goal.returns
+returns c =
+    record {
+      figures =
+          subst (λ asked. GivesFigures c.args.self.now c.args.account c.args.request.now c.args.replaced c.args.moment asked)
+          (λ i. record {
+            tallies = sym (c.deref.ensures.value ∙ ap (λ (k : Kept). k.tallies) c.self.view_is) i;
+            wanted = record {
+              account = c.args.account;
+              place = sym c.place.ensures i;
+              request = c.args.request.now;
+              replaced = c.args.replaced;
+              reference = sym c.reference.ensures i;
+              moment = c.args.moment;
+            };
+          })
+          (figures_answer c.args.self.now c.args.account c.args.request.now c.args.replaced c.args.moment);
+    }

@@ -1,0 +1,17 @@
+use Rattle.std.proofs.Common.{◌∙◌, ap, sym, subst}
+use Rattle.gx_ledger.specs.Keeping.{kept_executed, with_price}
+use Rattle.gx_ledger.specs.StandsFor.{Fills}
+use Rattle.gx_ledger.proofs.Filled.{fill_carries}
+use Rattle.gx_ledger.proofs.ledger.Ledger.fill.Goals as goal
+
+pub returns : goal.returns
+returns c =
+    let taker = c.args.taker.now in
+    let maker = c.args.maker.now in
+    record {
+      filled =
+          subst (λ k. Fills taker maker c.args.shares c.args.price c.args.self.now k)
+          (sym (c.set_price.ensures
+          ∙ ap (with_price maker.stock c.args.price) (c.execute-2.ensures ∙ ap (kept_executed maker c.args.shares c.args.price) c.execute.ensures)))
+          (fill_carries taker maker c.args.shares c.args.price c.args.self.now);
+    }

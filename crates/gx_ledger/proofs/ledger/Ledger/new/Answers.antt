@@ -1,0 +1,28 @@
+use Rattle.std.proofs.Common.{◌≡◌, ◌∙◌, ap, sym, subst, map}
+use Rattle.gx_history.specs.declared.policy.PolicyData.{PolicyData}
+use Rattle.gx_history_laws.proofs.Names.{accounts_differ as accounts_apart}
+use Rattle.gx_positions.specs.Changing.{nothing}
+use Rattle.gx_ledger.specs.Keeping.{Kept, account_names, reference_prices}
+use Rattle.gx_ledger.specs.StandsFor.{StandsFor}
+use Rattle.gx_ledger.specs.Tables.{accounts_differ, names_differ}
+use Rattle.gx_ledger.specs.Tallies.{new_tally}
+use Rattle.gx_ledger.specs.contracts.ledger.Ledger.{the_view}
+use Rattle.gx_ledger.proofs.Opening.{opened_stands, sound_stocks}
+use Rattle.gx_ledger.proofs.ledger.Ledger.new.Goals as goal
+
+pub names_of-requires : goal.names_of-requires
+names_of-requires c = ap accounts_differ c.accounts-2.ensures ∙ accounts_apart c.args.policy.now c.rules.ensures.sound
+
+pub first_prices-requires : goal.first_prices-requires
+first_prices-requires c = ap names_differ c.stocks.ensures ∙ sound_stocks c.args.policy.now c.rules.ensures.sound
+
+pub returns : goal.returns
+returns c =
+    let policy : PolicyData = c.args.policy.now in
+    let opened : Kept = record { accounts = account_names policy.accounts; prices = reference_prices policy.stocks; tallies = map (new_tally policy.accounts) policy.rules } in
+    let new_is : the_view (record { accounts = c.in_ok-accounts.accounts; prices = c.in_ok-prices.prices; tallies = c.in_ok-tallies.tallies }) ≡ opened = λ i. record {
+      accounts = (c.in_ok-accounts.ensures ∙ ap account_names c.accounts-2.ensures) i;
+      prices = (c.in_ok-prices.ensures ∙ ap reference_prices c.stocks.ensures) i;
+      tallies = (c.in_ok-tallies.ensures ∙ (λ j. map (new_tally (c.accounts.ensures j)) (c.rules.ensures.same j))) i;
+    } in
+    record { stands = subst (λ k. StandsFor policy k nothing) (sym new_is) (opened_stands policy c.rules.ensures.sound) }

@@ -1,0 +1,81 @@
+-- What the ledger keeps, and what each change makes of it.
+use Rattle.std.specs.Option.{option_map_or}
+use Rattle.std.specs.Prelude.{ℕ, List, map, Option, Some, option_map, unwrap_or, position, if◌then◌else◌}
+use Rattle.std.specs.Map.{lookup}
+use Rattle.gx_units.specs.Names.{same_account, same_stock}
+use Rattle.gx_units.specs.declared.names.AccountName.{AccountName}
+use Rattle.gx_units.specs.declared.names.Symbol.{Symbol}
+use Rattle.gx_history.specs.declared.facts.NamedOrder.{NamedOrder}
+use Rattle.gx_history.specs.declared.policy.Account.{Account}
+use Rattle.gx_history.specs.declared.policy.Stock.{Stock}
+use Rattle.gx_history.specs.declared.record.Request.{Request}
+use Rattle.gx_history.specs.declared.record.Request.TheVariants as requests
+use Rattle.gx_ledger.specs.declared.placed.Change.{Change}
+use Rattle.gx_ledger.specs.declared.placed.Change.TheVariants as changes
+use Rattle.gx_ledger.specs.declared.placed.OpenOrder.{OpenOrder}
+use Rattle.gx_ledger.specs.declared.placed.Part.{Part}
+use Rattle.gx_ledger.specs.declared.tally.Tally.{Tally}
+use Rattle.gx_ledger.specs.Running.{account_changed}
+use Rattle.gx_ledger.specs.Tallies.{tally_after}
+
+-- what a ledger keeps
+pub record Kept : Type 0 where
+  -- the accounts, in the policy's order
+  pub accounts : List AccountName
+  -- the last price of each stock
+  pub prices : List (Symbol × ℕ)
+  -- what each rule of the file counts, in the file's order
+  pub tallies : List Tally
+
+-- the names of accounts
+abbrev pub account_names : List Account → List AccountName
+account_names accounts = map (λ (a : Account). a.name) accounts
+
+-- the place of the account
+abbrev pub account_place : List AccountName → AccountName → Option ℕ
+account_place accounts account = position (same_account account) accounts
+
+-- the last price of the stock; 0 where it is not listed
+abbrev pub price_of : List (Symbol × ℕ) → Symbol → ℕ
+price_of prices stock = unwrap_or (lookup (same_stock stock) prices) 0
+
+-- each stock at its reference price
+abbrev pub reference_prices : List Stock → List (Symbol × ℕ)
+reference_prices stocks = map (λ (s : Stock). (s.name, s.reference)) stocks
+
+-- the prices, that of this stock changed
+abbrev pub priced : Symbol → ℕ → List (Symbol × ℕ) → List (Symbol × ℕ)
+priced stock price prices = map (λ (e : Symbol × ℕ). (e.0, if same_stock stock e.0 then price else e.1)) prices
+
+-- what is counted, after the change of an order of an account that has this place in the policy
+abbrev pub noted : Change → Option ℕ → List Tally → List Tally
+noted change place tallies = map (tally_after change place) tallies
+
+-- what is kept after the change
+abbrev pub kept_noted : Change → Kept → Kept
+kept_noted change k = record {
+  accounts = k.accounts;
+  prices = k.prices;
+  tallies = noted change (account_place k.accounts (account_changed change)) k.tallies;
+}
+
+-- shares of the order, at this price
+abbrev pub part : OpenOrder → ℕ → ℕ → Part
+part o shares price = record { account = o.account; shares = shares; price = price }
+
+-- some shares of the order were executed
+abbrev pub kept_executed : OpenOrder → ℕ → ℕ → Kept → Kept
+kept_executed o shares price k = kept_noted (changes.Executed (part o shares price)) (kept_noted (changes.Left (part o shares o.price)) k)
+
+-- the last price of one stock changed
+abbrev pub with_price : Symbol → ℕ → Kept → Kept
+with_price stock price k = record { accounts = k.accounts; prices = priced stock price k.prices; tallies = k.tallies }
+
+-- the stock of an Enter, or of the order that would be replaced
+abbrev pub stock_wanted : Request → Option NamedOrder → Option Symbol
+stock_wanted (requests.Enter m) replaced = Some m.stock
+stock_wanted other replaced = option_map (λ (o : NamedOrder). o.stock) replaced
+
+-- the last price of that stock
+abbrev pub reference_for : List (Symbol × ℕ) → Request → Option NamedOrder → ℕ
+reference_for prices q replaced = option_map_or (price_of prices) (stock_wanted q replaced) 0

@@ -1,0 +1,7 @@
+pub mod Running
+pub mod Tallies
+pub mod Keeping
+pub mod Tables
+pub mod Told
+pub mod StandsFor
+pub mod Following

@@ -1,0 +1,108 @@
+-- Running figures, and what each change makes of them.
+use Rattle.std.specs.Option.{option_map_or}
+use Rattle.std.specs.Prelude.{ℕ, ◌+◌, ◌-◌, ◌^◌, Bool, false, ◌&&◌, ◌==◌, min, nat_lt, List, [], ◌∷◌, ◌++◌, count_by, slice_get, if◌then◌else◌}
+use Rattle.std.specs.List.{suffix_len}
+use Rattle.circular_buffer.specs.Buffer.{Buffer, buffer, keep_last}
+use Rattle.gx_units.specs.Money.{value}
+use Rattle.gx_units.specs.Names.{same_stock}
+use Rattle.gx_units.specs.declared.names.AccountName.{AccountName}
+use Rattle.gx_history.specs.declared.record.Request.{Request}
+use Rattle.gx_history.specs.declared.record.Request.TheVariants as requests
+use Rattle.gx_ledger.specs.declared.group.Entered.{Entered}
+use Rattle.gx_ledger.specs.declared.group.Group.{Group}
+use Rattle.gx_ledger.specs.declared.placed.Change.{Change}
+use Rattle.gx_ledger.specs.declared.placed.Change.TheVariants as changes
+use Rattle.gx_ledger.specs.declared.placed.Placed.{Placed}
+use Rattle.gx_ledger.specs.declared.sums.Sums.{Sums}
+
+-- the number, or the greatest of 128 bits where it is past that
+abbrev pub capped : ℕ → ℕ
+capped n = min n (2 ^ 128 - 1)
+
+-- with so many more open shares at this price
+abbrev pub with_live : ℕ → ℕ → Sums → Sums
+with_live shares price s = record {
+  live_shares = capped (s.live_shares + shares);
+  live_value = capped (s.live_value + value shares price);
+  done_shares = s.done_shares;
+  done_value = s.done_value;
+}
+
+-- with so many fewer
+abbrev pub without_live : ℕ → ℕ → Sums → Sums
+without_live shares price s = record {
+  live_shares = s.live_shares - shares;
+  live_value = s.live_value - value shares price;
+  done_shares = s.done_shares;
+  done_value = s.done_value;
+}
+
+-- with so many more executed shares at this price
+abbrev pub with_done : ℕ → ℕ → Sums → Sums
+with_done shares price s = record {
+  live_shares = s.live_shares;
+  live_value = s.live_value;
+  done_shares = capped (s.done_shares + shares);
+  done_value = capped (s.done_value + value shares price);
+}
+
+-- the shares that the order has open when it comes
+abbrev pub open_when_placed : Placed → ℕ
+open_when_placed placed = placed.shares - placed.done
+
+-- what the order has in common with like ones
+abbrev pub entered_as : Placed → Entered
+entered_as placed = record { side = placed.side; shares = placed.shares; stock = placed.stock; price = placed.price }
+
+-- the ring with one more item, and without its oldest where it was full
+abbrev pub pushed : {X : Type 0} → X → Buffer X → Buffer X
+pushed x ring = buffer (keep_last ring.capacity (ring.items ++ x ∷ [])) ring.capacity
+
+-- the group with one more order of its accounts
+abbrev pub with_placed : Placed → Group → Group
+with_placed placed g = record {
+  sums = with_live (open_when_placed placed) placed.price g.sums;
+  moments = pushed placed.moment g.moments;
+  enters = if placed.replacement then g.enters else pushed (entered_as placed) g.enters;
+}
+
+-- the account whose order changes
+abbrev pub account_changed : Change → AccountName
+account_changed (changes.Accepted placed) = placed.account
+account_changed (changes.Left part) = part.account
+account_changed (changes.Executed part) = part.account
+
+-- the group, once an order of its accounts changed
+abbrev pub changed_group : Change → Group → Group
+changed_group (changes.Accepted placed) g = with_placed placed g
+changed_group (changes.Left part) g = record { sums = without_live part.shares part.price g.sums; moments = g.moments; enters = g.enters }
+changed_group (changes.Executed part) g = record { sums = with_done part.shares part.price g.sums; moments = g.moments; enters = g.enters }
+
+-- a group before any order, with room for so many moments and Enters
+abbrev pub new_group : ℕ → ℕ → Group
+new_group moments enters = record {
+  sums = record { live_shares = 0; live_value = 0; done_shares = 0; done_value = 0 };
+  moments = buffer [] moments;
+  enters = buffer [] enters;
+}
+
+-- the moment lies less than the window back
+abbrev pub is_recent : ℕ → ℕ → ℕ → Bool
+is_recent window moment m = nat_lt (moment - m) window
+
+-- there is a moment at this index, and it lies less than the window back
+abbrev pub is_recent_at : List ℕ → ℕ → ℕ → ℕ → Bool
+is_recent_at moments index window moment = option_map_or (is_recent window moment) (slice_get moments index) false
+
+-- how many of the last moments, from the newest on, lie less than the window back
+abbrev pub recent_in : List ℕ → ℕ → ℕ → ℕ
+recent_in moments window moment = suffix_len (is_recent window moment) moments
+
+-- the request is such an Enter
+abbrev pub is_like : Request → Entered → Bool
+is_like (requests.Enter m) e = e.side == m.side && e.shares == m.shares && same_stock e.stock m.stock && e.price == m.price
+is_like other e = false
+
+-- the Enters that are such as the request is
+abbrev pub alike_in : List Entered → Request → ℕ
+alike_in enters q = count_by (is_like q) enters

@@ -1,0 +1,185 @@
+-- The relation between what a ledger keeps and the live orders, fills and grants that it stands for.
+use Rattle.std.specs.Prelude.{ℕ, ◌≡◌, ◌-◌, ◌≤◌, ◌&&◌, Bool, List, [], ◌∷◌, map, Option, Some, None, option_map, is_none, is_some, IsFalse, IsTrue}
+use Rattle.std.specs.List.{filter}
+use Rattle.circular_buffer.specs.Buffer.{Buffer, buffer}
+use Rattle.gx_units.specs.Names.{same_account}
+use Rattle.gx_units.specs.declared.names.AccountName.{AccountName}
+use Rattle.gx_units.specs.declared.names.Symbol.{Symbol}
+use Rattle.gx_history.specs.declared.facts.NamedOrder.{NamedOrder}
+use Rattle.gx_history.specs.declared.policy.Count.{Count}
+use Rattle.gx_history.specs.declared.policy.Count.TheVariants as counts
+use Rattle.gx_history.specs.declared.policy.FileRule.{FileRule}
+use Rattle.gx_history.specs.declared.policy.PolicyData.{PolicyData}
+use Rattle.gx_history.specs.declared.policy.Scope.{Scope}
+use Rattle.gx_history.specs.declared.policy.Stock.{Stock}
+use Rattle.gx_history.specs.declared.record.Fill.{Fill}
+use Rattle.gx_history.specs.declared.record.Request.{Request}
+use Rattle.gx_history.specs.Executions.{Standing, standing_numbered}
+use Rattle.gx_history.specs.Figures.{Positions, figures, live_shares, live_value, done_shares, done_value, reference}
+use Rattle.gx_history.specs.Lists.{are_distinct, last_few}
+use Rattle.gx_history.specs.Orders.{Order}
+use Rattle.gx_history.specs.People.{account_named, covers, stock_named}
+use Rattle.gx_history.specs.Rules.{figured}
+use Rattle.gx_history.specs.Verdicts.{with_figures}
+use Rattle.gx_effects.specs.OneMore as ones
+use Rattle.gx_positions.specs.Changing.{positions_with}
+use Rattle.gx_positions.specs.Sound.{AreSound, MayCome, MayFill}
+use Rattle.gx_ledger.specs.declared.group.Entered.{Entered}
+use Rattle.gx_ledger.specs.declared.group.Group.{Group}
+use Rattle.gx_ledger.specs.declared.placed.OpenOrder.{OpenOrder}
+use Rattle.gx_ledger.specs.declared.placed.Placed.{Placed}
+use Rattle.gx_ledger.specs.declared.sums.Sums.{Sums}
+use Rattle.gx_ledger.specs.declared.tally.Asks.{Asks}
+use Rattle.gx_ledger.specs.declared.tally.Tally.{Tally}
+use Rattle.gx_ledger.specs.Keeping.{Kept, account_names}
+use Rattle.gx_ledger.specs.Tallies.{asks_of, count_of, room_for_enters, room_for_moments}
+use Rattle.gx_ledger.specs.Told.{Asking, figures_at}
+
+-- the sums over these accounts
+abbrev pub sums_of : Positions → (AccountName → Bool) → Sums
+sums_of held among = record {
+  live_shares = live_shares held.standings among;
+  live_value = live_value held.standings among;
+  done_shares = done_shares held.executions among;
+  done_value = done_value held.executions among;
+}
+
+-- the moments of all orders of these accounts
+abbrev pub moments_of : List Order → (AccountName → Bool) → List ℕ
+moments_of grants among = map (λ (o : Order). o.moment) (filter (λ (o : Order). among o.account) grants)
+
+-- what the order has in common with like ones
+abbrev pub entered_of : Order → Entered
+entered_of o = record { side = o.terms.side; shares = o.terms.shares; stock = o.terms.stock; price = o.terms.price }
+
+-- the Enters of these accounts
+abbrev pub enters_of : List Order → (AccountName → Bool) → List Entered
+enters_of grants among = map entered_of (filter (λ (o : Order). among o.account && is_none o.previous_token) grants)
+
+-- all that counts of the orders and fills of some accounts
+pub record Total : Type 0 where
+  pub sums : Sums
+  -- of all orders
+  pub moments : List ℕ
+  pub enters : List Entered
+
+-- what counts of these accounts
+abbrev pub total_of : Positions → (AccountName → Bool) → Total
+total_of held among = record { sums = sums_of held among; moments = moments_of held.grants among; enters = enters_of held.grants among }
+
+-- a ring of the last n
+abbrev pub ring : {X : Type 0} → ℕ → List X → Buffer X
+ring n xs = buffer (last_few n xs) n
+
+-- what a group of a rule keeps of that
+abbrev pub group_of : Asks → Total → Group
+group_of asked total = record {
+  sums = total.sums;
+  moments = ring (room_for_moments asked) total.moments;
+  enters = ring (room_for_enters asked) total.enters;
+}
+
+-- the accounts of each group of a rule: one group for each account of the policy, or one for all in scope
+abbrev pub members_of : Option Count → Scope → List AccountName → List (AccountName → Bool)
+members_of None scope accounts = []
+members_of (Some counts.Each) scope accounts = map (λ (name : AccountName). λ account. covers scope account && same_account name account) accounts
+members_of (Some counts.Together) scope accounts = covers scope ∷ []
+
+-- what a rule counts
+abbrev pub tally_of : List AccountName → ((AccountName → Bool) → Total) → FileRule → Tally
+tally_of accounts totals rule = record {
+  scope = rule.scope;
+  asks = asks_of rule.kind;
+  count = count_of rule.kind;
+  groups = map (λ (among : AccountName → Bool). group_of (asks_of rule.kind) (totals among)) (members_of (count_of rule.kind) rule.scope accounts);
+}
+
+-- the price of each stock: that of its last fill, or the file's
+abbrev pub prices_of : PolicyData → Positions → List (Symbol × ℕ)
+prices_of policy held = map (λ (s : Stock). (s.name, reference policy held.executions s.name)) policy.stocks
+
+-- The ledger, opened on the policy, keeps the figures of these live orders, fills and grants.
+pub record StandsFor (policy : PolicyData) (k : Kept) (held : Positions) : Type 0 where
+  pub accounts : k.accounts ≡ account_names policy.accounts
+  pub accounts_differ : IsTrue (are_distinct same_account k.accounts)
+  pub prices : k.prices ≡ prices_of policy held
+  -- nothing was filled in any other stock
+  pub unlisted : (stock : Symbol) → IsFalse (is_some (stock_named policy stock)) → reference policy held.executions stock ≡ 0
+  pub tallies : k.tallies ≡ map (tally_of k.accounts (total_of held)) policy.rules
+
+-- the order is the one that was handed in
+pub record IsPlaced (placed : Placed) (s : Standing) : Type 0 where
+  pub number : s.order.number ≡ placed.order
+  pub account : s.order.account ≡ placed.account
+  pub side : s.order.terms.side ≡ placed.side
+  pub stock : s.order.terms.stock ≡ placed.stock
+  pub price : s.order.terms.price ≡ placed.price
+  pub shares : s.order.terms.shares ≡ placed.shares
+  pub open_shares : s.open_shares ≡ placed.shares - placed.done
+  pub moment : s.order.moment ≡ placed.moment
+  -- a Replace names the token of the order that it replaces
+  pub replacement : is_some s.order.previous_token ≡ placed.replacement
+
+-- a live order is the one that was handed in
+pub record IsHeld (held : Positions) (o : OpenOrder) : Type 0 where
+  pub standing : Standing
+  pub is_found : standing_numbered held.standings o.order ≡ Some standing
+  pub account : standing.order.account ≡ o.account
+  pub stock : standing.order.terms.stock ≡ o.stock
+  pub price : standing.order.terms.price ≡ o.price
+  pub open_shares : standing.open_shares ≡ o.open_shares
+
+-- Over all orders, fills and grants that the old ledger stands for and that may change so, the new one stands for what
+-- the change makes of them.
+abbrev pub Carries : Kept → Kept → (PolicyData → Positions → Type 0) → ones.Change → Type 0
+Carries old new may change = (policy : PolicyData) (held : Positions) → StandsFor policy old held → AreSound policy held → may policy held
+    → AreSound policy (positions_with change held) → StandsFor policy new (positions_with change held)
+
+-- one more order: any that has what was handed in
+abbrev pub Accepts : Placed → Kept → Kept → Type 0
+Accepts placed old new = (s : Standing) → IsPlaced placed s → Carries old new (λ policy held. MayCome policy held s) (ones.Adds s)
+
+-- the live order has these shares open, at least
+pub record HasOpen (held : Positions) (o : OpenOrder) (shares : ℕ) : Type 0 where
+  pub is_held : IsHeld held o
+  pub enough : shares ≤ o.open_shares
+
+-- so many of a live order's open shares are open no more
+abbrev pub Cuts : OpenOrder → ℕ → Kept → Kept → Type 0
+Cuts o shares old new = Carries old new (λ policy held. HasOpen held o shares) (ones.Leaves o.order (o.open_shares - shares))
+
+-- a live order ends
+abbrev pub Closes : OpenOrder → Kept → Kept → Type 0
+Closes o old new = Carries old new (λ policy held. IsHeld held o) (ones.Leaves o.order 0)
+
+-- both orders are live, and the fill between them may be
+pub record AreFilled (held : Positions) (taker maker : OpenOrder) (f : Fill) : Type 0 where
+  pub taker_is_held : IsHeld held taker
+  pub maker_is_held : IsHeld held maker
+  pub may_fill : MayFill held f
+
+-- a fill between two live orders
+abbrev pub Fills : OpenOrder → OpenOrder → ℕ → ℕ → Kept → Kept → Type 0
+Fills taker maker shares price old new =
+    let f : Fill = record { taker = taker.order; maker = maker.order; shares = shares; price = price } in
+    Carries old new (λ policy held. AreFilled held taker maker f) (ones.Fills f)
+
+-- the live order that is named has this price, this stock and these open shares
+pub record IsNamed (held : Positions) (o : NamedOrder) : Type 0 where
+  pub standing : Standing
+  pub is_found : standing_numbered held.standings o.order ≡ Some standing
+  pub stock : standing.order.terms.stock ≡ o.stock
+  pub price : standing.order.terms.price ≡ o.price
+  pub open_shares : standing.open_shares ≡ o.open_shares
+
+-- if an order is named, it is a live one
+abbrev pub IsNamedIfAny : Positions → Option NamedOrder → Type 0
+IsNamedIfAny held None = Unit {0}
+IsNamedIfAny held (Some o) = IsNamed held o
+
+-- For an account of the policy, what is told are the figures of the policy's rules, over all orders, fills and grants that
+-- the ledger stands for.
+abbrev pub GivesFigures : Kept → AccountName → Request → Option NamedOrder → ℕ → Asking → Type 0
+GivesFigures k account q replaced moment asked = (policy : PolicyData) (held : Positions) → StandsFor policy k held → AreSound policy held
+    → IsTrue (is_some (account_named policy account)) → IsNamedIfAny held replaced
+    → figured (figures_at asked) policy.rules ≡ with_figures (figures policy held account q (option_map (λ (o : NamedOrder). o.order) replaced) moment) policy.rules

@@ -1,0 +1,199 @@
+//! The running figures of a day.
+
+ghost use Rattle.std.specs.Prelude.{◌≡◌, IfOk};
+ghost use Rattle.gx_positions.specs.Changing.{nothing};
+ghost use Rattle.gx_ledger.specs.Keeping.{account_place, kept_executed, kept_noted, part, price_of};
+ghost use Rattle.gx_ledger.specs.Keeping.{reference_for, with_price};
+ghost use Rattle.gx_ledger.specs.StandsFor.{Accepts, Closes, Cuts, Fills, GivesFigures, StandsFor};
+ghost use Rattle.gx_ledger.specs.Told.{figures_at};
+
+use crate::placed::{Change, OpenOrder, Part, Placed};
+use crate::tables::{first_prices, first_tallies, names_of, note_in_all, set_price};
+use crate::tally::{Tally, Wanted};
+use gx_history::facts::{NO_FIGURES, NamedOrder, RuleFigures, TellsFigures};
+use gx_history::policy::Policy;
+use gx_history::record::Request;
+use gx_units::{AccountName, OutOfMemory, Symbol};
+use indexmap::{IndexMap, IndexSet};
+use std::alloc::Global;
+use std::marker::Model;
+
+/// The last price of each stock, and what each rule of the file counts, by the places of accounts
+/// in the policy.
+#[derive(Drop)]
+pub struct Ledger {
+    accounts: IndexSet<AccountName>,
+    prices: IndexMap<Symbol, u32>,
+    tallies: Vec<Tally>,
+}
+
+impl Model for Ledger {
+    ghost use Rattle.gx_ledger.specs.Keeping.{Kept};
+
+    ghost Value = { Kept };
+
+    ghost view = { λ ledger. record {
+      accounts = ledger.accounts.keys;
+      prices = ledger.prices.entries;
+      tallies = ledger.tallies.items;
+    } };
+}
+
+/// The figures of each rule for one request, told as they are asked.
+#[derive(Drop)]
+pub struct AskedFigures<'a> {
+    tallies: &'a [Tally],
+    wanted: Wanted,
+}
+
+impl<'a> Model for AskedFigures<'a> {
+    ghost use Rattle.gx_ledger.specs.Told.{Asking};
+
+    ghost Value = { Asking };
+
+    ghost view = { λ asked. record { tallies = asked.tallies.now; wanted = asked.wanted } };
+}
+
+impl TellsFigures for AskedFigures<'_> {
+    ghost told = { figures_at };
+
+    fn of(&self, place: usize) -> RuleFigures {
+        match self.tallies.get(place) {
+            Some(tally) => tally.figures(&self.wanted),
+            None => NO_FIGURES,
+        }
+    }
+}
+
+impl Ledger {
+    /// The ledger of a day under the policy, before any order.
+    ///
+    /// # Errors
+    ///
+    /// `OutOfMemory` where its tables were refused their memory.
+    pub fn new(alloc: Global, policy: &Policy) -> Result<Ledger, OutOfMemory>
+        ensures stands { IfOk result (λ ledger. StandsFor policy.now ledger nothing) }
+    {
+        let tallies = first_tallies(alloc, policy.rules(), policy.accounts())?;
+        let accounts = names_of(alloc, policy.accounts())?;
+        let prices = first_prices(alloc, policy.stocks())?;
+        Ok(Ledger {
+            accounts,
+            prices,
+            tallies,
+        })
+    }
+
+    /// Takes note of a granted order.
+    pub fn accept(&mut self, placed: &Placed)
+        ensures accepted { Accepts placed.now self.old self.new }
+    {
+        self.note(&Change::Accepted(*placed));
+    }
+
+    /// Takes note of a fill between two live orders, at this price.
+    pub fn fill(&mut self, taker: &OpenOrder, maker: &OpenOrder, shares: u32, price: u32)
+        ensures filled { Fills taker.now maker.now shares price self.old self.new }
+    {
+        self.execute(taker, shares, price);
+        self.execute(maker, shares, price);
+        self.set_price(maker.stock, price);
+    }
+
+    /// Takes note that so many of a live order's open shares are open no more.
+    pub fn cut(&mut self, order: &OpenOrder, shares: u32)
+        ensures cut { Cuts order.now shares self.old self.new }
+    {
+        self.note(&Change::Left(part_of(order, shares)));
+    }
+
+    /// Takes note that a live order ended: none of its shares is open.
+    pub fn close(&mut self, order: &OpenOrder)
+        ensures closed { Closes order.now self.old self.new }
+    {
+        self.note(&Change::Left(part_of(order, order.open_shares)));
+    }
+
+    /// The figures for a request of the account at the moment, which may replace a live order.
+    pub fn after(
+        &self,
+        account: AccountName,
+        request: &Request,
+        replaced: Option<NamedOrder>,
+        moment: u64,
+    ) -> AskedFigures<'_>
+        ensures figures { GivesFigures self.now account request.now replaced moment result }
+    {
+        let wanted = Wanted {
+            account,
+            place: self.place(account),
+            request: *request,
+            replaced,
+            reference: self.reference(request, replaced),
+            moment,
+        };
+        AskedFigures {
+            tallies: &self.tallies,
+            wanted,
+        }
+    }
+
+    /// The place of the account in the policy.
+    fn place(&self, account: AccountName) -> Option<usize>
+        ensures { result ≡ account_place self.now.accounts account }
+    {
+        self.accounts.get_index_of(&account)
+    }
+
+    fn note(&mut self, change: &Change)
+        ensures { self.new ≡ kept_noted change.now self.old }
+    {
+        let place = self.place(change.account());
+        note_in_all(&mut self.tallies, change, place);
+    }
+
+    fn execute(&mut self, order: &OpenOrder, shares: u32, price: u32)
+        ensures { self.new ≡ kept_executed order.now shares price self.old }
+    {
+        let left = part_of(order, shares);
+        self.note(&Change::Left(left));
+        self.note(&Change::Executed(Part { price, ..left }));
+    }
+
+    fn set_price(&mut self, stock: Symbol, price: u32)
+        ensures { self.new ≡ with_price stock price self.old }
+    {
+        set_price(&mut self.prices, stock, price);
+    }
+
+    fn price(&self, stock: Symbol) -> u32
+        ensures { result ≡ price_of self.now.prices stock }
+    {
+        self.prices.get(&stock).copied().unwrap_or(0)
+    }
+
+    /// The last price of the stock of the order that is asked for.
+    fn reference(&self, request: &Request, replaced: Option<NamedOrder>) -> u32
+        ensures { result ≡ reference_for self.now.prices request.now replaced }
+    {
+        let stock = match request {
+            Request::Enter(m) => Some(m.stock),
+            _ => replaced.map(|order| order.stock),
+        };
+        match stock {
+            Some(stock) => self.price(stock),
+            None => 0,
+        }
+    }
+}
+
+/// So many shares of the order, at its price.
+fn part_of(order: &OpenOrder, shares: u32) -> Part
+    ensures { result ≡ part order.now shares order.now.price }
+{
+    Part {
+        account: order.account,
+        shares,
+        price: order.price,
+    }
+}

@@ -1,0 +1,13 @@
+//! What the file's rules count: open and executed shares and values, recent orders, last prices.
+//!
+//! A [`ledger::Ledger`] keeps no orders: its calls are handed what they need of an order. All its
+//! memory is taken as it is opened.
+#![tactic(auto)]
+
+mod group;
+pub mod laws;
+pub mod ledger;
+pub mod placed;
+mod sums;
+mod tables;
+mod tally;

@@ -1,0 +1,71 @@
+//! The tables of a ledger.
+
+ghost use Rattle.std.specs.Prelude.{◌≡◌, map, IfOk, IsTrue};
+ghost use Rattle.gx_ledger.specs.Keeping.{account_names, noted, priced, reference_prices};
+ghost use Rattle.gx_ledger.specs.Tables.{accounts_differ, names_differ};
+ghost use Rattle.gx_ledger.specs.Tallies.{new_tally};
+
+use crate::placed::Change;
+use crate::tally::Tally;
+use gx_history::policy::{Account, FileRule, Stock};
+use gx_units::{AccountName, OutOfMemory, Symbol};
+use indexmap::{IndexMap, IndexSet};
+use std::alloc::Global;
+
+/// Sets the last price of the stock, if it is listed.
+pub fn set_price(prices: &mut IndexMap<Symbol, u32>, stock: Symbol, price: u32)
+    ensures { prices.new.entries ≡ priced stock price prices.old.entries }
+{
+    if let Some(last) = prices.get_mut(&stock) {
+        *last = price;
+    }
+}
+
+/// Tells each rule's tally of a change of an order of the account that has this place in the
+/// policy.
+pub fn note_in_all(tallies: &mut [Tally], change: &Change, place: Option<usize>)
+    ensures { tallies.new ≡ noted change.now place tallies.old }
+{
+    for tally in tallies.iter_mut() {
+        tally.note(change, place);
+    }
+}
+
+/// The names of the accounts, in the policy's order.
+pub fn names_of(alloc: Global, accounts: &[Account]) -> Result<IndexSet<AccountName>, OutOfMemory>
+    requires { IsTrue (accounts_differ accounts.now) }
+    ensures { IfOk result (λ names. names.keys ≡ account_names accounts.now) }
+{
+    let mut names = IndexSet::new(alloc);
+    for account in accounts {
+        names.insert(account.name)?;
+    }
+    Ok(names)
+}
+
+/// The stocks at their reference prices.
+pub fn first_prices(alloc: Global, stocks: &[Stock]) -> Result<IndexMap<Symbol, u32>, OutOfMemory>
+    requires { IsTrue (names_differ stocks.now) }
+    ensures { IfOk result (λ prices. prices.entries ≡ reference_prices stocks.now) }
+{
+    let mut prices = IndexMap::new(alloc);
+    for stock in stocks {
+        prices.insert(stock.name, stock.reference)?;
+    }
+    Ok(prices)
+}
+
+/// What each rule counts, before any order.
+pub fn first_tallies(
+    alloc: Global,
+    rules: &[FileRule],
+    accounts: &[Account],
+) -> Result<Vec<Tally>, OutOfMemory>
+    ensures { IfOk result (λ tallies. tallies.items ≡ map (new_tally accounts.now) rules.now) }
+{
+    let mut tallies = Vec::new(alloc);
+    for rule in rules {
+        tallies.push(Tally::new(alloc, rule, accounts)?)?;
+    }
+    Ok(tallies)
+}

@@ -1,0 +1,301 @@
+//! What one rule of the file counts.
+
+ghost use Rattle.std.specs.Prelude.{◌≡◌, [], ◌∷◌, map, option_copied, slice_get, IfOk};
+ghost use Rattle.std.specs.Option.{option_map_or};
+ghost use Rattle.gx_units.specs.Money.{value};
+ghost use Rattle.gx_ledger.specs.Running.{changed_group, new_group};
+ghost use Rattle.gx_ledger.specs.Tallies.{asks_of, changed_at, count_of, figures_of_group};
+ghost use Rattle.gx_ledger.specs.Tallies.{group_in, new_groups, new_tally, place_in};
+ghost use Rattle.gx_ledger.specs.Tallies.{room_for_enters, room_for_moments, tally_after};
+ghost use Rattle.gx_ledger.specs.Tallies.{tally_figures};
+
+use crate::group::Group;
+use crate::placed::Change;
+use gx_history::facts::{NO_FIGURES, NamedOrder, RuleFigures};
+use gx_history::policy::{Account, Count, FileRule, Rate, Repeat, RuleKind, Scope};
+use gx_history::record::Request;
+use gx_units::{AccountName, OutOfMemory, value_of};
+use std::alloc::Global;
+use std::marker::Model;
+
+/// What a rule asks for.
+#[derive(Clone, Copy)]
+pub enum Asks {
+    Nothing,
+    /// The last price of the stock.
+    Reference,
+    /// Open and executed shares.
+    Shares,
+    /// Their values.
+    Values,
+    /// Recent orders.
+    Recent(Rate),
+    /// Like ones among the last.
+    Alike(Repeat),
+}
+
+impl Asks {
+    fn of(kind: &RuleKind) -> Asks
+        ensures { result ≡ asks_of kind.now }
+    {
+        match kind {
+            RuleKind::Collar(_) => Asks::Reference,
+            RuleKind::GrossShares(_, _) => Asks::Shares,
+            RuleKind::GrossValue(_, _) => Asks::Values,
+            RuleKind::Rate(rate, _) => Asks::Recent(*rate),
+            RuleKind::Repeat(repeat, _) => Asks::Alike(*repeat),
+            _ => Asks::Nothing,
+        }
+    }
+
+    /// How many moments the rule looks back on.
+    fn moments(self) -> usize
+        ensures { result ≡ room_for_moments self }
+    {
+        match self {
+            Asks::Recent(rate) => rate.limit as usize,
+            _ => 0,
+        }
+    }
+
+    /// How many Enters the rule looks back on.
+    fn enters(self) -> usize
+        ensures { result ≡ room_for_enters self }
+    {
+        match self {
+            Asks::Alike(repeat) => repeat.span as usize,
+            _ => 0,
+        }
+    }
+}
+
+/// Whose orders count together; None where the kind counts nothing.
+fn count_of(kind: &RuleKind) -> Option<Count>
+    ensures { result ≡ count_of kind.now }
+{
+    match kind {
+        RuleKind::GrossShares(_, count) => Some(*count),
+        RuleKind::GrossValue(_, count) => Some(*count),
+        RuleKind::Rate(_, count) => Some(*count),
+        RuleKind::Repeat(_, count) => Some(*count),
+        _ => None,
+    }
+}
+
+/// The groups of a rule: one for each account of the policy, in its order, one for all in scope, or
+/// none.
+#[derive(Drop)]
+pub struct Groups {
+    items: Vec<Group>,
+}
+
+impl Model for Groups {
+    ghost use Rattle.std.specs.Prelude.{List};
+    ghost use Rattle.gx_ledger.specs.declared.group.Group.{Group};
+
+    ghost Value = { List Group };
+
+    ghost view = { λ list. list.items.items };
+}
+
+impl Groups {
+    fn none(alloc: Global) -> Groups
+        ensures { result ≡ [] }
+    {
+        Groups {
+            items: Vec::new(alloc),
+        }
+    }
+
+    fn each(alloc: Global, asks: Asks, accounts: &[Account]) -> Result<Groups, OutOfMemory>
+        ensures { IfOk result (λ groups. groups
+            ≡ map (λ a. new_group (room_for_moments asks) (room_for_enters asks)) accounts.now) }
+    {
+        let mut items = Vec::new(alloc);
+        for _account in accounts {
+            items.push(Group::new(alloc, asks.moments(), asks.enters())?)?;
+        }
+        Ok(Groups { items })
+    }
+
+    fn together(alloc: Global, asks: Asks) -> Result<Groups, OutOfMemory>
+        ensures { IfOk result (λ groups. groups
+            ≡ new_group (room_for_moments asks) (room_for_enters asks) ∷ []) }
+    {
+        let mut items = Vec::new(alloc);
+        items.push(Group::new(alloc, asks.moments(), asks.enters())?)?;
+        Ok(Groups { items })
+    }
+
+    fn of(
+        alloc: Global,
+        count: Option<Count>,
+        asks: Asks,
+        accounts: &[Account],
+    ) -> Result<Groups, OutOfMemory>
+        ensures { IfOk result (λ groups. groups ≡ new_groups count asks accounts.now) }
+    {
+        match count {
+            None => Ok(Groups::none(alloc)),
+            Some(Count::Each) => Groups::each(alloc, asks, accounts),
+            Some(Count::Together) => Groups::together(alloc, asks),
+        }
+    }
+
+    fn note(&mut self, place: usize, change: &Change)
+        ensures { self.new ≡ changed_at place (changed_group change.now) self.old }
+    {
+        if place < self.items.len() {
+            self.items[place].note(change);
+        }
+    }
+
+    fn at(&self, place: usize) -> Option<&Group>
+        ensures { option_copied result ≡ slice_get self.now place }
+    {
+        self.items.get(place)
+    }
+}
+
+/// What a rule asks for, for which accounts, and the running figures of their groups.
+#[derive(Drop)]
+pub struct Tally {
+    pub scope: Scope,
+    pub asks: Asks,
+    pub count: Option<Count>,
+    pub groups: Groups,
+}
+
+/// What a request asks the figures for.
+#[derive(Clone, Copy)]
+pub struct Wanted {
+    pub account: AccountName,
+    /// The account's place in the policy.
+    pub place: Option<usize>,
+    pub request: Request,
+    /// The order that would be replaced.
+    pub replaced: Option<NamedOrder>,
+    /// The price of the last fill in the order's stock, or the policy's.
+    pub reference: u32,
+    pub moment: u64,
+}
+
+fn open_of(order: Option<NamedOrder>) -> u128
+    ensures { result ≡ option_map_or (λ o. o.open_shares) order 0 }
+{
+    match order {
+        Some(order) => u128::from(order.open_shares),
+        None => 0,
+    }
+}
+
+fn open_value_of(order: Option<NamedOrder>) -> u128
+    ensures { result ≡ option_map_or (λ o. value o.open_shares o.price) order 0 }
+{
+    match order {
+        Some(order) => value_of(order.open_shares, order.price),
+        None => 0,
+    }
+}
+
+/// The figures of a group that the rule asks for.
+fn figures_of_group(asks: Asks, group: &Group, wanted: &Wanted) -> RuleFigures
+    ensures { result ≡ figures_of_group asks wanted.now group.now }
+{
+    match asks {
+        Asks::Shares => RuleFigures {
+            live_shares: group.sums.live_shares,
+            done_shares: group.sums.done_shares,
+            replaced_shares: open_of(wanted.replaced),
+            ..NO_FIGURES
+        },
+        Asks::Values => RuleFigures {
+            live_value: group.sums.live_value,
+            done_value: group.sums.done_value,
+            replaced_value: open_value_of(wanted.replaced),
+            ..NO_FIGURES
+        },
+        Asks::Recent(rate) => RuleFigures {
+            recent: group.recent(rate.window, wanted.moment),
+            ..NO_FIGURES
+        },
+        Asks::Alike(_) => RuleFigures {
+            equal_recent: group.alike(&wanted.request),
+            ..NO_FIGURES
+        },
+        Asks::Reference => RuleFigures {
+            reference: wanted.reference,
+            ..NO_FIGURES
+        },
+        Asks::Nothing => NO_FIGURES,
+    }
+}
+
+/// The place of the group of an account in scope, which has this place in the policy.
+fn place_in(count: Option<Count>, place: Option<usize>) -> Option<usize>
+    ensures { result ≡ place_in count place }
+{
+    match count {
+        None => None,
+        Some(Count::Each) => place,
+        Some(Count::Together) => Some(0),
+    }
+}
+
+impl Tally {
+    pub fn new(alloc: Global, rule: &FileRule, accounts: &[Account]) -> Result<Tally, OutOfMemory>
+        ensures { IfOk result (λ tally. tally ≡ new_tally accounts.now rule.now) }
+    {
+        let asks = Asks::of(&rule.kind);
+        let count = count_of(&rule.kind);
+        let groups = Groups::of(alloc, count, asks, accounts)?;
+        let scope = rule.scope.copied(alloc)?;
+        Ok(Tally {
+            scope,
+            asks,
+            count,
+            groups,
+        })
+    }
+
+    /// Takes note of a change of an order of the account that has this place in the policy.
+    pub fn note(&mut self, change: &Change, place: Option<usize>)
+        ensures { self.new ≡ tally_after change.now place self.old }
+    {
+        if !self.scope.covers(change.account()) {
+            return;
+        }
+        if let Some(place) = place_in(self.count, place) {
+            self.groups.note(place, change);
+        }
+    }
+
+    fn group(&self, place: Option<usize>) -> Option<&Group>
+        ensures { option_copied result ≡ group_in self.now place }
+    {
+        match place_in(self.count, place) {
+            Some(place) => self.groups.at(place),
+            None => None,
+        }
+    }
+
+    /// The figures that the rule asks for.
+    pub fn figures(&self, wanted: &Wanted) -> RuleFigures
+        ensures { result ≡ tally_figures wanted.now self.now }
+    {
+        if !self.scope.covers(wanted.account) {
+            return NO_FIGURES;
+        }
+        match self.asks {
+            Asks::Nothing => NO_FIGURES,
+            Asks::Reference => RuleFigures {
+                reference: wanted.reference,
+                ..NO_FIGURES
+            },
+            asks => match self.group(wanted.place) {
+                Some(group) => figures_of_group(asks, group, wanted),
+                None => NO_FIGURES,
+            },
+        }
+    }
+}

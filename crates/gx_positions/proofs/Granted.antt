@@ -1,0 +1,106 @@
+-- The shares and the price of a granted order are within bounds.
+use Rattle.std.proofs.Common.{◌≡◌, ℕ, ◌<◌, ◌≤◌, ◌^◌, Bool, true, false, List, [], ◌∷◌, refl, ◌∙◌, ap, sym, arith, drop}
+use Rattle.std.specs.Prelude.{Option, Some, ◌%◌, ◌&&◌, ◌||◌, ◌==◌, not, nat_lt, nat_le, option_map}
+use Rattle.std.specs.Option.{option_map_or}
+use Rattle.std.proofs.lemmas.Bool.{leb-false, ltb-false}
+use Rattle.gx_units.specs.Money.{is_bad_price}
+use Rattle.gx_ouch.specs.declared.inbound.EnterOrder.{EnterOrder}
+use Rattle.gx_ouch.specs.declared.inbound.ReplaceOrder.{ReplaceOrder}
+use Rattle.gx_history.specs.declared.facts.NamedOrder.{NamedOrder}
+use Rattle.gx_history.specs.declared.facts.ProposedOrder.{ProposedOrder}
+use Rattle.gx_history.specs.declared.policy.PolicyData.{PolicyData}
+use Rattle.gx_history.specs.declared.record.Asked.{Asked}
+use Rattle.gx_history.specs.declared.record.RecordData.{RecordData}
+use Rattle.gx_history.specs.declared.record.Request.TheVariants as requests
+use Rattle.gx_history.specs.declared.record.RuleName.{RuleName}
+use Rattle.gx_history.specs.declared.record.RuleName.TheVariants.{L1, L2, L3, G1, G2, G3, I1, I2, I3, P1, P2, P3, P4, P5, P6}
+use Rattle.gx_history.specs.declared.record.Step.TheVariants as steps
+use Rattle.gx_history.specs.declared.record.Verdict.TheVariants as verdicts
+use Rattle.gx_history.specs.Asking.{named_order}
+use Rattle.gx_history.specs.Executions.{Standing, executions, live_orders, standing_under}
+use Rattle.gx_history.specs.RuleNames.{rules_before}
+use Rattle.gx_history.specs.Rules.{forbids}
+use Rattle.gx_history.specs.Verdicts.{facts_now, next}
+use Rattle.gx_history_laws.proofs.Granting.{granted_passes_before}
+use Rattle.gx_history_laws.proofs.Order.{none_among}
+use Rattle.gx_effects.proofs.NamedOrders.{named_is}
+
+size_is_no_bar : (policy : PolicyData) (history : List RecordData) (a : Asked) (r : RecordData)
+    → next policy history (steps.Asked a) ≡ Some r → r.verdict ≡ verdicts.Granted → forbids P5 (facts_now policy history a) a.request ≡ false
+unfolding rules_before
+size_is_no_bar policy history a r e granted =
+    none_among (λ (name : RuleName). forbids name (facts_now policy history a) a.request)
+    (L1 ∷ L2 ∷ L3 ∷ G1 ∷ G2 ∷ G3 ∷ I1 ∷ I2 ∷ I3 ∷ P1 ∷ P2 ∷ P3 ∷ P4 ∷ []) P5 (drop 14 rules_before)
+    (granted_passes_before policy history a r e granted)
+
+price_is_no_bar : (policy : PolicyData) (history : List RecordData) (a : Asked) (r : RecordData)
+    → next policy history (steps.Asked a) ≡ Some r → r.verdict ≡ verdicts.Granted → forbids P6 (facts_now policy history a) a.request ≡ false
+unfolding rules_before
+price_is_no_bar policy history a r e granted =
+    none_among (λ (name : RuleName). forbids name (facts_now policy history a) a.request)
+    (L1 ∷ L2 ∷ L3 ∷ G1 ∷ G2 ∷ G3 ∷ I1 ∷ I2 ∷ I3 ∷ P1 ∷ P2 ∷ P3 ∷ P4 ∷ P5 ∷ []) P6 (drop 15 rules_before)
+    (granted_passes_before policy history a r e granted)
+
+few : (n : ℕ) → (n == 0 || nat_le 1000000 n) ≡ false → n < 2 ^ 32
+few n h = by (n == 0) (nat_le 1000000 n) refl h
+  where
+    by : (a b : Bool) → nat_le 1000000 n ≡ b → (a || b) ≡ false → n < 2 ^ 32
+    by true b e k = let no : true ≡ false = k in cc
+    by false b e k = let less : n < 1000000 = leb-false 1000000 n (e ∙ k) in omega (arith, less)
+
+low : (n : ℕ) → is_bad_price n ≡ false → n < 2 ^ 32
+low n h = by (n == 0) (nat_lt 1999999900 n) (nat_le 10000 n && not (n % 100 == 0)) refl h
+  where
+    by : (a b c : Bool) → nat_lt 1999999900 n ≡ b → (a || b || c) ≡ false → n < 2 ^ 32
+    by true b c e k = let no : true ≡ false = k in cc
+    by false true c e k = let no : true ≡ false = k in cc
+    by false false c e k = let most : n ≤ 1999999900 = ltb-false 1999999900 n e in omega (arith, most)
+
+-- an Enter's shares
+pub entered_shares : (policy : PolicyData) (history : List RecordData) (a : Asked) (r : RecordData) (m : EnterOrder)
+    → next policy history (steps.Asked a) ≡ Some r → r.verdict ≡ verdicts.Granted → a.request ≡ requests.Enter m → m.shares < 2 ^ 32
+entered_shares policy history a r m left granted asks =
+    few m.shares (sym (ap (forbids P5 (facts_now policy history a)) asks) ∙ size_is_no_bar policy history a r left granted)
+
+-- an Enter's price
+pub entered_price : (policy : PolicyData) (history : List RecordData) (a : Asked) (r : RecordData) (m : EnterOrder)
+    → next policy history (steps.Asked a) ≡ Some r → r.verdict ≡ verdicts.Granted → a.request ≡ requests.Enter m → m.price < 2 ^ 32
+entered_price policy history a r m left granted asks =
+    low m.price (sym (ap (forbids P6 (facts_now policy history a)) asks) ∙ price_is_no_bar policy history a r left granted)
+
+-- the order that a Replace proposes
+abbrev proposed_by : ReplaceOrder → NamedOrder → ProposedOrder
+proposed_by m o = record {
+  side = o.side;
+  stock = o.stock;
+  shares = m.shares;
+  price = m.price;
+  time_in_force = m.time_in_force;
+  display = m.display;
+  intermarket_sweep = m.intermarket_sweep;
+  minimum_quantity = m.minimum_quantity;
+  done = o.done;
+  is_new = false;
+}
+
+abbrev is_bad_size : ProposedOrder → Bool
+is_bad_size w = w.shares == 0 || nat_le 1000000 w.shares
+
+abbrev has_bad_price : ProposedOrder → Bool
+has_bad_price w = is_bad_price w.price
+
+-- a granted Replace of the order
+module _ (policy : PolicyData) (history : List RecordData) (a : Asked) (r : RecordData) (m : ReplaceOrder) (s : Standing) (left : next policy history (steps.Asked a) ≡ Some r) (granted : r.verdict ≡ verdicts.Granted)
+    (asks : a.request ≡ requests.Replace m) (found : standing_under (live_orders policy history) a.user m.existing_token ≡ Some s) where
+  proposes : (test : ProposedOrder → Bool) → option_map_or test (option_map (proposed_by m) (facts_now policy history a).named) false ≡ test (proposed_by m (named_order (executions policy history) s))
+  proposes test =
+      ap (λ (o : Option NamedOrder). option_map_or test (option_map (proposed_by m) o) false)
+      (named_is policy history a (requests.Replace m) m.existing_token asks refl ∙ ap (option_map (named_order (executions policy history))) found)
+
+  -- its shares
+  pub replaced_shares : m.shares < 2 ^ 32
+  replaced_shares = few m.shares (sym (ap (forbids P5 (facts_now policy history a)) asks ∙ proposes is_bad_size) ∙ size_is_no_bar policy history a r left granted)
+
+  -- its price
+  pub replaced_price : m.price < 2 ^ 32
+  replaced_price = low m.price (sym (ap (forbids P6 (facts_now policy history a)) asks ∙ proposes has_bad_price) ∙ price_is_no_bar policy history a r left granted)

@@ -1,0 +1,5 @@
+use Rattle.gx_positions.proofs.GoingOn.{positions_go_on, records_may_come}
+use Rattle.gx_positions.proofs.laws.positions_go_on.Goals as goal
+
+pub returns : goal.returns
+returns c = record { change = positions_go_on; may_come = records_may_come }

@@ -1,0 +1,3 @@
+pub mod Changing
+pub mod Sound
+pub mod Laws

@@ -1,0 +1,27 @@
+//! Laws of what the figures are taken from, each as what a function without a body ensures.
+
+ghost use Rattle.gx_positions.specs.Laws.{DaysBeginEmpty, FiguresAreOfLiveOrders};
+ghost use Rattle.gx_positions.specs.Laws.{PositionsAreSound, PositionsGoOn, RecordsMayCome};
+
+/// A day begins without an order.
+pub fn days_begin_empty()
+    ensures { DaysBeginEmpty }
+{}
+
+/// Whatever one more record is, orders, fills and grants after it are those before it, changed by
+/// one word for what the record does; and what it does may be done.
+pub fn positions_go_on()
+    ensures change { PositionsGoOn }
+    ensures may_come { RecordsMayCome }
+{}
+
+/// In every legal history the numbers of live orders differ, their stocks are listed, moments do
+/// not fall from grant to grant, and the sums over all accounts fit 128 bits.
+pub fn positions_are_sound()
+    ensures { PositionsAreSound }
+{}
+
+/// The figures of a rule are the same over all orders as over the live ones alone.
+pub fn figures_are_of_live_orders()
+    ensures { FiguresAreOfLiveOrders }
+{}
