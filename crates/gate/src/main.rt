@@ -24,6 +24,12 @@ const SCRIPT_LINES: &str = "Lines:
   M USER cancel TOKEN SHARES                          cut an order to a new size; 0 ends it
   M USER kill TAG ACCOUNT                             kill an account (officers)
   M USER lift TAG ACCOUNT                             lift a kill (officers)
+  M USER limit TAG RULE VALUE                         set the limit of a rule (officers)
+  M USER restrict TAG RULE STOCK                      put a stock on the list of a rule (officers)
+  M USER unrestrict TAG RULE STOCK                    take a stock off the list of a rule (officers)
+  M USER grant TAG READER ACCOUNT                     let a reader see an account (officers)
+  M USER revoke TAG READER ACCOUNT                    let a reader see an account no longer (officers)
+  M USER close TAG                                    end all orders, and take none any more (officers)
   M USER raw HEX                                      what the bytes of a message ask for
   M match                                             make one matching step
   M settle                                            make matching steps until no order waits

@@ -1,23 +1,20 @@
 -- What the keepers answer is what the rules ask of the records.
-use Rattle.std.proofs.Common.{◌≡◌, ℕ, ◌+◌, ◌<◌, ◌^◌, max, pred, arith, length, drop, List, refl, ◌∙◌, ap}
+use Rattle.std.proofs.Common.{◌≡◌, ℕ, ◌+◌, ◌<◌, ◌^◌, max, pred, arith, length, drop, List, ◌∙◌, ap}
 use Rattle.std.proofs.lemmas.List.{length-take, length-drop}
 use Rattle.gx_history.specs.Lists.{slice}
-use Rattle.std.specs.Prelude.{Option, Some, None, false, is_some, option_map, option_and_then}
+use Rattle.std.specs.Prelude.{false, is_some, option_map, option_and_then}
 use Rattle.std.specs.Option.{option_map_or}
 use Rattle.gx_units.specs.declared.names.AccountName.{AccountName}
 use Rattle.gx_units.specs.declared.names.Password.{Password}
 use Rattle.gx_units.specs.declared.names.Token.{Token}
 use Rattle.gx_units.specs.declared.names.UserName.{UserName}
 use Rattle.gx_desk.specs.declared.Action.{Action}
-use Rattle.gx_desk.specs.declared.Action.TheVariants as actions
 use Rattle.gx_history.specs.declared.policy.PolicyData.{PolicyData}
-use Rattle.gx_history.specs.declared.policy.Role.{Role}
-use Rattle.gx_history.specs.declared.policy.Role.TheVariants as roles
 use Rattle.gx_history.specs.declared.policy.User.{User}
 use Rattle.gx_history.specs.declared.record.RecordData.{RecordData}
 use Rattle.gx_history.specs.declared.record.Request.{Request}
 use Rattle.gx_history.specs.declared.report.Report.{Report}
-use Rattle.gx_history.specs.Asking.{are_his, has_power, live_named, named_order, takes_nothing}
+use Rattle.gx_history.specs.Asking.{has_power, live_named, named_order, takes_nothing}
 use Rattle.gx_history.specs.Executions.{executions}
 use Rattle.gx_history.specs.InForce.{is_closed, is_killed, line_of}
 use Rattle.gx_history.specs.Logins.{password_is}
@@ -65,14 +62,6 @@ powers_are_known policy history k user action kept = ap (λ (users : List User).
 pub scopes_are_known : (policy : PolicyData) (history : List RecordData) (k : Keepers) (user : UserName) (account : AccountName) → IsKept policy history k
     → holds k.people user account ≡ holds_in_role (role_in policy.users user) account
 scopes_are_known policy history k user account kept = ap (λ (users : List User). holds users user account) kept.in_force.people ∙ scopes_stay policy history user account
-
--- a Kill or a Lift concerns the account that it names
-pub his_account : (policy : PolicyData) (history : List RecordData) (role : Option Role) (account : AccountName)
-    → (are_his policy history role (actions.Kill account) ≡ holds_in_role role account) × (are_his policy history role (actions.Lift account) ≡ holds_in_role role account)
-his_account policy history None account = (refl, refl)
-his_account policy history (Some (roles.Trader named)) account = (refl, refl)
-his_account policy history (Some (roles.Officer powers scope)) account = (refl, refl)
-his_account policy history (Some (roles.Reader names)) account = (refl, refl)
 
 -- the day
 pub line_is_known : (policy : PolicyData) (history : List RecordData) (k : Keepers) (user : UserName) → IsKept policy history k → line_in k.day user ≡ line_of history user

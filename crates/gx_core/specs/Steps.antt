@@ -1,5 +1,5 @@
 -- What a step answers for: its verdict, and what it changes.
-use Rattle.std.specs.Prelude.{◌≡◌, ◌≤◌, Bool, ◌++◌, ◌∷◌, [], length, IsTrue, IsFalse, List, Option, Some, None, ◌↔◌}
+use Rattle.std.specs.Prelude.{◌≡◌, ◌≤◌, Bool, true, false, ◌++◌, ◌∷◌, [], length, IsTrue, IsFalse, List, Option, Some, None, ◌↔◌}
 use Rattle.gx_units.specs.declared.names.AccountName.{AccountName}
 use Rattle.gx_units.specs.declared.names.UserName.{UserName}
 use Rattle.gx_desk.specs.declared.Action.{Action}
@@ -14,8 +14,9 @@ use Rattle.gx_history.specs.declared.record.RuleName.{RuleName}
 use Rattle.gx_history.specs.declared.record.Step.TheVariants as steps
 use Rattle.gx_history.specs.declared.record.Verdict.{Verdict}
 use Rattle.gx_history.specs.declared.record.Verdict.TheVariants as verdicts
+use Rattle.gx_history.specs.Commanded.{ChangesRule, ChangesSight, ClosesDay}
 use Rattle.gx_history.specs.Effects.{ChangesLine, CutsOrder, DeniesRequest, IsGrantedLift, KillsAccount, LiftsAccount, ReplacesOrder, TakesEffect}
-use Rattle.gx_history.specs.InForce.{is_killed}
+use Rattle.gx_history.specs.InForce.{is_killed, adding, removing, with_limit, with_stocks}
 use Rattle.gx_history.specs.Rules.{first_forbidding, IsFirstForbidding}
 use Rattle.gx_history.specs.Verdicts.{day_limit, facts_now, next, rules_now, verdict}
 use Rattle.gx_exposure.specs.Exposure.{HasNothing, NoneIsGranted}
@@ -48,16 +49,16 @@ pub record IsJudged (gate : GateData) (a : Asked) (given : Verdict) : Type 0 whe
   pub denied : (name : RuleName) → given ≡ verdicts.Denied name
       → IsFirstForbidding (rules_now gate.policy gate.records a) (facts_now gate.policy gate.records a) a.request name
 
--- what a granted command does; ⊥ where none is granted so far
+-- what a granted command does
 abbrev pub CommandEffect : PolicyData → (before after : List RecordData) → RecordData → UserName → Command → Action → Type 0
 CommandEffect policy before after r officer c (actions.Kill account) = KillsAccount policy before after r officer c account
 CommandEffect policy before after r officer c (actions.Lift account) = LiftsAccount policy before after r officer c account
-CommandEffect policy before after r officer c (actions.SetLimit rule limit) = ⊥
-CommandEffect policy before after r officer c (actions.Restrict rule stock) = ⊥
-CommandEffect policy before after r officer c (actions.Unrestrict rule stock) = ⊥
-CommandEffect policy before after r officer c (actions.Grant reader account) = ⊥
-CommandEffect policy before after r officer c (actions.Revoke reader account) = ⊥
-CommandEffect policy before after r officer c actions.CloseDay = ⊥
+CommandEffect policy before after r officer c (actions.SetLimit rule limit) = ChangesRule policy before after r officer c rule (with_limit limit)
+CommandEffect policy before after r officer c (actions.Restrict rule stock) = ChangesRule policy before after r officer c rule (with_stocks (adding stock))
+CommandEffect policy before after r officer c (actions.Unrestrict rule stock) = ChangesRule policy before after r officer c rule (with_stocks (removing stock))
+CommandEffect policy before after r officer c (actions.Grant reader account) = ChangesSight policy before after r officer c reader account true
+CommandEffect policy before after r officer c (actions.Revoke reader account) = ChangesSight policy before after r officer c reader account false
+CommandEffect policy before after r officer c actions.CloseDay = ClosesDay policy before after r officer c
 
 -- what a granted request does; what cannot be read is never granted
 abbrev pub GrantEffect : PolicyData → (before after : List RecordData) → RecordData → Asked → Request → Type 0

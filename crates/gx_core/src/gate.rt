@@ -2,7 +2,6 @@
 
 ghost use Rattle.std.specs.Prelude.{◌≡◌, ◌+◌, ◌<◌, max, [], length, IsTrue, IfOk, IfErr, IfSome, OnErr, None, Some, is_some, option_map};
 ghost use Rattle.gx_exposure.specs.Exposure.{SharesStayWithin, ValuesStayWithin};
-ghost use Rattle.gx_history.specs.Brought.{is_brought};
 ghost use Rattle.gx_history.specs.Effects.{HasNoOrders};
 ghost use Rattle.gx_history.specs.InForce.{line_of, is_closed, is_killed};
 ghost use Rattle.gx_history.specs.Lists.{slice};
@@ -88,11 +87,10 @@ impl Gate {
 
     /// Judges the request on all earlier records, and puts its record last.
     ///
-    /// The request's line is above 0, its user in upper case, and its kind one that is brought so far.
+    /// The request's line is above 0, and its user in upper case.
     /// `DayFull` comes before `OutOfMemory`, and only where the day has as many records as it may have.
     pub fn step(&mut self, a: Asked) -> Result<Outcome, StepFault>
         requires askable { IsTrue (is_askable a) }
-        requires brought { IsTrue (is_brought a.request) }
         ensures policy { self.new.policy ≡ self.old.policy }
         ensures next { IfOk result (λ o. next_of self.old a ≡ Some (left_by a o)) }
         ensures records { IfOk result (λ o. self.new.records ≡ with_record self.old a o) }

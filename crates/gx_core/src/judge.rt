@@ -3,7 +3,6 @@
 ghost use Rattle.std.specs.Prelude.{◌≡◌, ◌≤◌, ◌<◌, is_some, length, IsTrue, Some};
 ghost use Rattle.gx_history.specs.declared.record.Step.TheVariants as steps;
 ghost use Rattle.gx_history.specs.Asking.{changes, facts, fits_role, has_power, is_on_line, knows_user};
-ghost use Rattle.gx_history.specs.Brought.{is_brought};
 ghost use Rattle.gx_history.specs.People.{account_named, account_of, role_in};
 ghost use Rattle.gx_history.specs.Showing.{answers, is_askable, is_showable};
 ghost use Rattle.gx_history.specs.Verdicts.{day_limit, moment_of, next, verdict};
@@ -64,23 +63,6 @@ fn cuts_nothing(request: &Request, order: &LiveOrder) -> bool
         _ => false,
     }
 }
-
-/// What the rules ask about a command.
-#[derive(Clone, Copy)]
-struct CommandFacts {
-    names_are_known: bool,
-    has_power: bool,
-    accounts_are_his: bool,
-    would_change: bool,
-}
-
-/// What is said of requests that are no commands.
-const NO_COMMAND: CommandFacts = CommandFacts {
-    names_are_known: true,
-    has_power: true,
-    accounts_are_his: true,
-    would_change: true,
-};
 
 impl Gate {
     /// Whether a Login's user is in the policy, and its password is right.
@@ -153,55 +135,9 @@ impl Gate {
         }
     }
 
-    /// What the rules ask about a Kill or a Lift of the account.
-    #[tactic(auto, using(crate::proofs::Judged::powers_are_known, crate::proofs::Judged::scopes_are_known))]
-    fn on_account(
-        &self,
-        a: &Asked,
-        action: &Action,
-        account: AccountName,
-        would_change: bool,
-    ) -> CommandFacts
-        ensures names { result.names_are_known ≡ is_some (account_named self.now.policy account) }
-        ensures power { result.has_power ≡ has_power (role_asking self.now a.now) action.now }
-        ensures his { result.accounts_are_his ≡ holds_in_role (role_asking self.now a.now) account }
-        ensures changes { result.would_change ≡ would_change }
-    {
-        CommandFacts {
-            names_are_known: account_named(&self.policy, account).is_some(),
-            has_power: self.keepers.people.has(a.user, Power::of(action)),
-            accounts_are_his: self.keepers.people.holds(a.user, account),
-            would_change,
-        }
-    }
-
-    /// What the rules ask about a command, where it is brought.
-    #[tactic(auto, using(crate::proofs::Judged::his_account))]
-    fn command_facts(&self, a: &Asked) -> CommandFacts
-        requires { IsTrue (is_brought a.now.request) }
-        ensures names { result.names_are_known ≡ names_known self.now a.now }
-        ensures power { result.has_power ≡ power_held self.now a.now }
-        ensures his { result.accounts_are_his ≡ accounts_held self.now a.now }
-        ensures changes { result.would_change ≡ change_asked self.now a.now }
-    {
-        let Request::Command(c) = a.request else {
-            return NO_COMMAND;
-        };
-        match c.action {
-            Action::Kill(account) => {
-                self.on_account(a, &c.action, account, !self.is_killed(account))
-            }
-            Action::Lift(account) => {
-                self.on_account(a, &c.action, account, self.is_killed(account))
-            }
-            _ => NO_COMMAND,
-        }
-    }
-
-    /// What the rules ask of the records, for a request that is brought and at this moment.
+    /// What the rules ask of the records, for a request at this moment.
     #[tactic(auto, unfolding(gx_history::specs::Asking::facts))]
     fn facts_of(&self, a: &Asked, moment: Moment) -> Facts
-        requires { IsTrue (is_brought a.now.request) }
         ensures { result ≡ facts self.now.policy self.now.records a.now moment }
     {
         let account = self.account_of(a.user);
@@ -229,10 +165,9 @@ impl Gate {
         }
     }
 
-    /// The verdict on a request that is brought, at the moment of its record: denied by the first rule of the written
+    /// The verdict on a request, at the moment of its record: denied by the first rule of the written
     /// order that forbids it, and else granted.
     fn judge(&self, a: &Asked, moment: Moment) -> Verdict
-        requires brought { IsTrue (is_brought a.now.request) }
         requires moment { moment ≡ moment_of self.now.records (steps.Asked a.now) }
         ensures verdict { result ≡ verdict_of self.now a.now }
         ensures shown { IsTrue (answers a.now.request result) }
@@ -248,7 +183,6 @@ impl Gate {
     #[tactic(auto, using(gx_history_laws::proofs::Granting::next_in_parts))]
     pub(crate) fn outcome_of(&self, a: &Asked) -> Outcome
         requires askable { IsTrue (is_askable a.now) }
-        requires brought { IsTrue (is_brought a.now.request) }
         requires room { length self.now.records < day_limit }
         ensures next { next_of self.now a.now ≡ Some (left_by a.now result) }
         ensures verdict { result.verdict ≡ verdict_of self.now a.now }

@@ -1,3 +1,4 @@
 pub mod Names
 pub mod Messages
+pub mod Reading
 pub mod Writing

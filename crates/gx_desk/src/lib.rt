@@ -1,10 +1,13 @@
 //! Commands of officers, their answers, and what readers are told.
 #![tactic(auto)]
 
+mod laws;
+mod reading;
 mod writing;
 
 use gx_ouch::Executed;
 use gx_units::{AccountName, RuleId, Symbol};
+pub use laws::{commands_have_no_gaps, commands_keep_their_type};
 
 /// Tag: any 14 bytes that an officer gives a command, echoed in its answer.
 #[derive(Clone, Copy, PartialEq, Eq)]

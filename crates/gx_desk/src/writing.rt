@@ -59,7 +59,8 @@ impl DropCopy {
     pub fn write(&self, timestamp: u64, room: &mut [u8; MESSAGE_ROOM]) -> usize
         ensures len { result ≡ drop_copy.size }
         ensures bytes { take result room.new ≡ drop_copy_bytes timestamp self.now }
-        ensures fields { LiesIn drop_copy (drop_copy_contents timestamp self.now) (take result room.new) }
+        ensures fields { LiesIn drop_copy (drop_copy_contents timestamp self.now)
+            (take result room.new) }
         ensures rest { drop result room.new ≡ drop result room.old }
     {
         self.draft(timestamp).copy_to(room)

@@ -1,6 +1,6 @@
 -- A granted Kill takes effect: the account's orders are live no more, and the others keep their places.
 use Rattle.std.proofs.Common.{◌≡◌, ℕ, ◌+◌, ◌<◌, Bool, true, false, not, List, [], ◌∷◌, ◌++◌, refl, ◌∙◌, ap, sym, map, cond, length}
-use Rattle.std.specs.Prelude.{Option, Some, ◌&&◌, unwrap_or, nat_lt}
+use Rattle.std.specs.Prelude.{Some, ◌&&◌, nat_lt}
 use Rattle.std.specs.List.{filter, filter_map, AllByRecursion}
 use Rattle.gx_units.specs.Names.{same_account, same_stock}
 use Rattle.gx_units.specs.declared.names.AccountName.{AccountName}
@@ -19,21 +19,20 @@ use Rattle.gx_history.specs.declared.record.Verdict.TheVariants as verdicts
 use Rattle.gx_history.specs.Book.{incoming, resting, rested, has_rested, by_price, is_on_side}
 use Rattle.gx_history.specs.Effects.{KillsAccount}
 use Rattle.gx_history.specs.Executions.{Standing, standing, standings, standing_numbered, executions, open_shares, is_live, live_orders}
-use Rattle.gx_history.specs.InForce.{is_killed, kill_or_lift_of}
 use Rattle.gx_history.specs.Lists.{where_true}
 use Rattle.gx_history.specs.Orders.{Order, orders, ends_account}
 use Rattle.gx_history.specs.Verdicts.{next, IsLegal}
 use Rattle.gx_history_laws.proofs.Ends.{ended, nothing_open, sooner}
 use Rattle.gx_history_laws.proofs.Keeping.{AddsNothing, orders_kept, executions_kept, open_kept, incoming_of_live, resting_of_standings}
-use Rattle.gx_history_laws.proofs.NextInForce.{is_killed_next}
 use Rattle.gx_history_laws.proofs.NextOrders.{standing_after, rests}
 use Rattle.gx_history_laws.proofs.Numbers.{number_left, numbers_are_within}
 use Rattle.gx_history_laws.proofs.Names.{account_is_itself}
 use Rattle.gx_effects.specs.OneMore.{not_ended}
-use Rattle.gx_effects.proofs.Commanding.{GrantsCommand, grants_the_command, mark_granted, action_granted, command_adds_nothing, ends_by_command, IsKillOrLift, only_kill_changes, told_by_command}
+use Rattle.gx_effects.proofs.Commanding.{GrantsCommand, grants_the_command, action_granted, command_adds_nothing, ends_by_command, killed_by_command, IsKillOrLift, only_kill_changes, told_without_end}
 use Rattle.gx_effects.proofs.Lessening.{all_found_changed, rest_on_side}
 use Rattle.gx_effects.proofs.Placing.{filter_swap}
 use Rattle.gx_effects.proofs.Priority.{by_price_filter}
+use Rattle.gx_effects.proofs.Ungranted.{and_never}
 
 -- what a Kill leaves in force
 kill_marks_one : (account : AccountName) → IsKillOrLift account (actions.Kill account)
@@ -55,10 +54,6 @@ order_struck policy history r a action o g early = ap (λ (shares : ℕ). stands
     stands : ℕ → Standing
     stands shares = record { order = o; open_shares = shares }
 
-    and_false : (b : Bool) → (b && false) ≡ false
-    and_false true = refl
-    and_false false = refl
-
     at : (b : Bool) → ends_account o.account action ≡ b
         → open_shares (executions policy (history ++ r ∷ [])) (history ++ r ∷ []) o ≡ cond (ends_account o.account action) 0 (open_shares (executions policy history) history o)
     at true e =
@@ -66,7 +61,7 @@ order_struck policy history r a action o g early = ap (λ (shares : ℕ). stands
         ∙ sym (ap (λ (b : Bool). cond b 0 (open_shares (executions policy history) history o)) e)
     at false e =
         open_kept policy history r o (command_adds_nothing policy history r a action g)
-        (ends_by_command o r a action g ∙ ap (λ (b : Bool). nat_lt o.number r.number && b) e ∙ and_false (nat_lt o.number r.number))
+        (ends_by_command o r a action g ∙ ap (λ (b : Bool). nat_lt o.number r.number && b) e ∙ and_never (nat_lt o.number r.number))
         ∙ sym (ap (λ (b : Bool). cond b 0 (open_shares (executions policy history) history o)) e)
 
 all_struck : (policy : PolicyData) (history : List RecordData) (r : RecordData) (a : Asked) (action : Action) → GrantsCommand r a action
@@ -154,14 +149,12 @@ kill_takes_effect policy history a r c account legal left asks kills granted =
     standings_struck policy history r a (actions.Kill account) g legal (number_left policy history (steps.Asked a) r left) in
     record {
       is_killed_now =
-          is_killed_next policy history r account
-          ∙ ap (λ (m : Option Bool). unwrap_or m (is_killed policy history account))
-          (mark_granted (kill_or_lift_of account) r a (actions.Kill account) g ∙ ap (λ (b : Bool). where_true b true) (account_is_itself account));
+          killed_by_command policy history r a (actions.Kill account) account (Some true) g (ap (λ (b : Bool). where_true b true) (account_is_itself account));
       live_left = live_left policy history r (actions.Kill account) strikes;
       incoming_left = incoming_left policy history r (actions.Kill account) nothing strikes;
       resting_left = λ (stock : Symbol) (buy : Bool). resting_left policy history r (actions.Kill account) stock buy nothing strikes;
       orders_kept = orders_kept policy history r nothing;
       executions_kept = executions_kept policy history r nothing;
       in_force = only_kill_changes policy history r a (actions.Kill account) account g (kill_marks_one account);
-      told = λ (user : UserName). told_by_command policy history r a (actions.Kill account) user g refl;
+      told = λ (user : UserName). told_without_end policy history r a c (actions.Kill account) user g asks kills refl;
     }

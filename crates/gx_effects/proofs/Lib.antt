@@ -37,3 +37,8 @@ pub mod FairFills
 pub mod OneMore
 pub mod Settling
 pub mod Sweeps
+pub mod Allowed
+pub mod Commanded
+pub mod RuleChanges
+pub mod SightChanges
+pub mod Closing

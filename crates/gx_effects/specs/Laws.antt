@@ -3,6 +3,7 @@ use Rattle.std.specs.Prelude.{◌≡◌, ℕ, ◌+◌, List, [], ◌∷◌, ◌+
 use Rattle.std.specs.List.{AllByRecursion, filter}
 use Rattle.gx_units.specs.Names.{same_stock}
 use Rattle.gx_units.specs.declared.names.AccountName.{AccountName}
+use Rattle.gx_units.specs.declared.names.RuleId.{RuleId}
 use Rattle.gx_units.specs.declared.names.Token.{Token}
 use Rattle.gx_units.specs.declared.names.Symbol.{Symbol}
 use Rattle.gx_units.specs.declared.names.UserName.{UserName}
@@ -11,6 +12,7 @@ use Rattle.gx_ouch.specs.declared.inbound.EnterOrder.{EnterOrder}
 use Rattle.gx_ouch.specs.declared.inbound.ReplaceOrder.{ReplaceOrder}
 use Rattle.gx_desk.specs.declared.Action.TheVariants as actions
 use Rattle.gx_desk.specs.declared.Command.{Command}
+use Rattle.gx_desk.specs.declared.WrittenName.{WrittenName}
 use Rattle.gx_history.specs.declared.policy.PolicyData.{PolicyData}
 use Rattle.gx_history.specs.declared.record.Asked.{Asked}
 use Rattle.gx_history.specs.declared.record.Fill.{Fill}
@@ -22,11 +24,12 @@ use Rattle.gx_history.specs.declared.record.Step.{Step}
 use Rattle.gx_history.specs.declared.record.Step.TheVariants as steps
 use Rattle.gx_history.specs.declared.record.Verdict.TheVariants as verdicts
 use Rattle.gx_history.specs.Book.{IsAtRest, by_time, has_price, has_rested, incoming, is_ahead, is_on_side, resting}
+use Rattle.gx_history.specs.Commanded.{ChangesRule, ChangesSight, ClosesDay}
 use Rattle.gx_history.specs.Effects.{IsAsBefore, DeniesRequest, ChangesLine, TakesEffect, CutsOrder, ReplacesOrder, KillsAccount, LiftsAccount, IsGrantedLift, HasNoOrders}
 use Rattle.gx_history.specs.Executions.{Standing, standing_numbered, standing_under, executions, done, live_orders, open_shares}
 use Rattle.gx_history.specs.Orders.{Order, orders, order_under, total}
 use Rattle.gx_history.specs.Requests.{is_order}
-use Rattle.gx_history.specs.InForce.{is_killed}
+use Rattle.gx_history.specs.InForce.{is_killed, with_limit, with_stocks, adding, removing}
 use Rattle.gx_history.specs.Lists.{IsInOrder}
 use Rattle.gx_history.specs.Matched.{AreUncrossed, FillsOrders, IsFair, RestsOrder, ExpiresOrder}
 use Rattle.gx_history.specs.Matching.{matching}
@@ -101,6 +104,42 @@ abbrev pub LiftsTakeEffect : Type 0
 LiftsTakeEffect = (policy : PolicyData) (history : List RecordData) (a : Asked) (r : RecordData) (c : Command) (account : AccountName)
     → IsLegal policy history → next policy history (steps.Asked a) ≡ Some r → a.request ≡ requests.Command c → c.action ≡ actions.Lift account → r.verdict ≡ verdicts.Granted
     → LiftsAccount policy history (history ++ r ∷ []) r a.user c account
+
+-- a granted Set Limit gives the rule of this name its limit, and changes nothing else
+abbrev pub SetLimitsTakeEffect : Type 0
+SetLimitsTakeEffect = (policy : PolicyData) (history : List RecordData) (a : Asked) (r : RecordData) (c : Command) (name : RuleId) (limit : ℕ)
+    → IsLegal policy history → next policy history (steps.Asked a) ≡ Some r → a.request ≡ requests.Command c → c.action ≡ actions.SetLimit name limit → r.verdict ≡ verdicts.Granted
+    → ChangesRule policy history (history ++ r ∷ []) r a.user c name (with_limit limit)
+
+-- a granted Restrict puts the stock on the list of the rule of this name, and changes nothing else
+abbrev pub RestrictsTakeEffect : Type 0
+RestrictsTakeEffect = (policy : PolicyData) (history : List RecordData) (a : Asked) (r : RecordData) (c : Command) (name : RuleId) (stock : Symbol)
+    → IsLegal policy history → next policy history (steps.Asked a) ≡ Some r → a.request ≡ requests.Command c → c.action ≡ actions.Restrict name stock → r.verdict ≡ verdicts.Granted
+    → ChangesRule policy history (history ++ r ∷ []) r a.user c name (with_stocks (adding stock))
+
+-- a granted Unrestrict takes the stock off the list of the rule of this name, and changes nothing else
+abbrev pub UnrestrictsTakeEffect : Type 0
+UnrestrictsTakeEffect = (policy : PolicyData) (history : List RecordData) (a : Asked) (r : RecordData) (c : Command) (name : RuleId) (stock : Symbol)
+    → IsLegal policy history → next policy history (steps.Asked a) ≡ Some r → a.request ≡ requests.Command c → c.action ≡ actions.Unrestrict name stock → r.verdict ≡ verdicts.Granted
+    → ChangesRule policy history (history ++ r ∷ []) r a.user c name (with_stocks (removing stock))
+
+-- a granted Grant shows the reader so written the account's fills from then on, and changes nothing else
+abbrev pub GrantsTakeEffect : Type 0
+GrantsTakeEffect = (policy : PolicyData) (history : List RecordData) (a : Asked) (r : RecordData) (c : Command) (written : WrittenName) (account : AccountName)
+    → IsLegal policy history → next policy history (steps.Asked a) ≡ Some r → a.request ≡ requests.Command c → c.action ≡ actions.Grant written account → r.verdict ≡ verdicts.Granted
+    → ChangesSight policy history (history ++ r ∷ []) r a.user c written account true
+
+-- a granted Revoke shows him them no longer, and changes nothing else
+abbrev pub RevokesTakeEffect : Type 0
+RevokesTakeEffect = (policy : PolicyData) (history : List RecordData) (a : Asked) (r : RecordData) (c : Command) (written : WrittenName) (account : AccountName)
+    → IsLegal policy history → next policy history (steps.Asked a) ≡ Some r → a.request ≡ requests.Command c → c.action ≡ actions.Revoke written account → r.verdict ≡ verdicts.Granted
+    → ChangesSight policy history (history ++ r ∷ []) r a.user c written account false
+
+-- a granted Close Day closes the day and ends every order, and changes nothing else that is in force
+abbrev pub ClosesTakeEffect : Type 0
+ClosesTakeEffect = (policy : PolicyData) (history : List RecordData) (a : Asked) (r : RecordData) (c : Command)
+    → IsLegal policy history → next policy history (steps.Asked a) ≡ Some r → a.request ≡ requests.Command c → c.action ≡ actions.CloseDay → r.verdict ≡ verdicts.Granted
+    → ClosesDay policy history (history ++ r ∷ []) r a.user c
 
 -- no Enter or Replace of a killed account is granted
 abbrev pub KilledPlaceNoOrders : Type 0

@@ -1,6 +1,6 @@
 //! Laws of what a record changes and of what matching comes to, each as what a function without a body ensures.
 
-ghost use Rattle.gx_effects.specs.Laws.{LiveOrdersGoOn, WaitingGoOn, RestingGoOn, DenialsChangeNothing, DenialsAreTold, LoginsTakeEffect, LogoutsTakeEffect, EntersTakeEffect, CancelsTakeEffect, ReplacesTakeEffect, TotalsAreOpenAndDone, LiveOrdersAreTheOne, LiveOrdersAreFound, KillsTakeEffect, LiftsTakeEffect, KilledPlaceNoOrders, KilledAreNotLive, KilledHaveNoOrders, KillsEndByLifts, IdleWhereNoneWaits, NothingWhereNoneWaits, RestingByPrice, RestingByTime, RestingAlone, RestingWhole, FillsTakeEffect, FillsAreFair, RestsTakeEffect, ExpiriesTakeEffect, NeverCrossed, SettledWhereIdle, SettledStepByStep, SettledByMatches, SettledLeavesNone, KilledAreNotFilled};
+ghost use Rattle.gx_effects.specs.Laws.{LiveOrdersGoOn, WaitingGoOn, RestingGoOn, DenialsChangeNothing, DenialsAreTold, LoginsTakeEffect, LogoutsTakeEffect, EntersTakeEffect, CancelsTakeEffect, ReplacesTakeEffect, TotalsAreOpenAndDone, LiveOrdersAreTheOne, LiveOrdersAreFound, KillsTakeEffect, LiftsTakeEffect, SetLimitsTakeEffect, RestrictsTakeEffect, UnrestrictsTakeEffect, GrantsTakeEffect, RevokesTakeEffect, ClosesTakeEffect, KilledPlaceNoOrders, KilledAreNotLive, KilledHaveNoOrders, KillsEndByLifts, IdleWhereNoneWaits, NothingWhereNoneWaits, RestingByPrice, RestingByTime, RestingAlone, RestingWhole, FillsTakeEffect, FillsAreFair, RestsTakeEffect, ExpiriesTakeEffect, NeverCrossed, SettledWhereIdle, SettledStepByStep, SettledByMatches, SettledLeavesNone, KilledAreNotFilled};
 
 /// A denied record changes no order, no figure, no book and nothing in force; at most who asked is told of it.
 pub fn denials_change_nothing()
@@ -45,6 +45,21 @@ pub fn granted_kills_take_effect()
 /// A granted Lift lifts the account, and brings no order back.
 pub fn granted_lifts_take_effect()
     ensures { LiftsTakeEffect }
+{}
+
+/// A granted command about a rule or a reader changes that one setting: no other rule, no order and nobody else's sight;
+/// the officer has his answer, and nobody is told anything else.
+pub fn granted_settings_take_effect()
+    ensures limits { SetLimitsTakeEffect }
+    ensures restricts { RestrictsTakeEffect }
+    ensures unrestricts { UnrestrictsTakeEffect }
+    ensures grants { GrantsTakeEffect }
+    ensures revokes { RevokesTakeEffect }
+{}
+
+/// A granted Close Day closes the day and ends every order, each reported with what was open, and tells each trader of it.
+pub fn granted_closes_take_effect()
+    ensures { ClosesTakeEffect }
 {}
 
 /// A killed account is granted no Enter and no Replace, and none of its orders is live until an officer lifts it.

@@ -1,22 +1,17 @@
 -- What a record makes of the keepers.
-use Rattle.std.proofs.Common.{◌≡◌, ℕ, ◌+◌, ◌-◌, ◌<◌, ◌≤◌, arith, true, false, Bool, List, [], ◌∷◌, ◌++◌, length, refl, ◌∙◌, ap, sym, cond, map}
+use Rattle.std.proofs.Common.{◌≡◌, ℕ, ◌<◌, arith, true, false, Bool, List, [], ◌∷◌, ◌++◌, length, refl, ◌∙◌, ap, sym, cond, map}
 use Rattle.std.proofs.Math.Path.{subst}
 use Rattle.std.proofs.lemmas.List.{append-nil, append_cancel_left}
-use Rattle.std.specs.Prelude.{Option, Some, None, IfSome, IsFalse, is_some, option_and_then, option_to_list, ◌&&◌, drop, filter}
+use Rattle.std.specs.Prelude.{Option, Some, None, IfSome, IsFalse, is_some, option_and_then, option_to_list, drop}
 use Rattle.std.specs.Option.{option_map_or}
-use Rattle.std.specs.List.{flat_map}
-use Rattle.gx_units.specs.Names.{same_account, same_user}
+use Rattle.gx_units.specs.Names.{same_user}
 use Rattle.gx_units.specs.declared.names.AccountName.{AccountName}
 use Rattle.gx_units.specs.declared.names.Token.{Token}
 use Rattle.gx_units.specs.declared.names.UserName.{UserName}
 use Rattle.gx_ouch.specs.declared.inbound.CancelOrder.{CancelOrder}
 use Rattle.gx_ouch.specs.declared.inbound.ReplaceOrder.{ReplaceOrder}
 use Rattle.gx_ouch.specs.declared.inbound.EnterOrder.{EnterOrder}
-use Rattle.gx_ouch.specs.declared.letters.CancelReason.TheVariants as cancels
 use Rattle.gx_desk.specs.declared.Action.{Action}
-use Rattle.gx_desk.specs.declared.Action.TheVariants as actions
-use Rattle.gx_desk.specs.declared.AnswerCode.{AnswerCode}
-use Rattle.gx_desk.specs.declared.AnswerCode.TheVariants as codes
 use Rattle.gx_desk.specs.declared.Command.{Command}
 use Rattle.gx_history.specs.declared.policy.FileRule.{FileRule}
 use Rattle.gx_history.specs.declared.policy.PolicyData.{PolicyData}
@@ -32,49 +27,35 @@ use Rattle.gx_history.specs.declared.record.Step.TheVariants as steps
 use Rattle.gx_history.specs.declared.record.Verdict.{Verdict}
 use Rattle.gx_history.specs.declared.record.Verdict.TheVariants as verdicts
 use Rattle.gx_history.specs.declared.report.Message.{Message}
-use Rattle.gx_history.specs.declared.report.Report.{Report}
-use Rattle.gx_history.specs.Effects.{CutsOrder, KillsAccount, LiftsAccount, ReplacesOrder, TakesEffect, replacement}
-use Rattle.gx_history.specs.Asking.{knows_limit, knows_names, rule_in_force}
-use Rattle.gx_history.specs.Executions.{Standing, live_orders}
-use Rattle.gx_history.specs.InForce.{changed, limit_of, rules_in_force}
-use Rattle.gx_history.specs.Orders.{ends_account, entered}
+use Rattle.gx_history.specs.Effects.{TakesEffect}
+use Rattle.gx_history.specs.InForce.{rules_in_force}
+use Rattle.gx_history.specs.Orders.{entered}
 use Rattle.gx_history.specs.People.{account_of, account_of_role, role_in}
-use Rattle.gx_history.specs.Reasons.{denial_code}
 use Rattle.gx_history.specs.Requests.{action_of, asked, granted, granted_action, is_granted, is_judged, is_unreadable}
 use Rattle.gx_history.specs.RuleNames.{rules_before}
 use Rattle.gx_history.specs.Rules.{forbids}
-use Rattle.gx_history.specs.Streams.{accepted, answer, canceled, day_end, ended, rejected, replaced, reported, reports_of, reports_of_denial, stream, to_user}
+use Rattle.gx_history.specs.Streams.{accepted, reported, reports_of, reports_of_denial, stream, to_user}
 use Rattle.gx_history.specs.Verdicts.{facts_now, next}
 use Rattle.gx_history_laws.proofs.Adding.{user_is_itself}
-use Rattle.gx_history_laws.proofs.Judging.{both}
 use Rattle.gx_history_laws.proofs.Granting.{asked_is_judged, granted_passes_before, verdict_of_next}
 use Rattle.gx_history_laws.proofs.NextInForce.{rules_in_force_next, rules_with}
 use Rattle.gx_history_laws.proofs.NextReports.{stream_next}
 use Rattle.gx_history_laws.proofs.Numbers.{number_left}
 use Rattle.gx_history_laws.proofs.Order.{none_among}
 use Rattle.gx_history_laws.proofs.Runs.{step_left}
-use Rattle.gx_effects.proofs.Cutting.{cancel_takes_effect}
-use Rattle.gx_effects.proofs.Commanding.{GrantsCommand, grants_the_command, told_by_command}
 use Rattle.gx_effects.proofs.Effects.{is_told}
-use Rattle.gx_effects.proofs.Killing.{kill_takes_effect}
-use Rattle.gx_effects.proofs.Lifting.{lift_takes_effect}
 use Rattle.gx_effects.proofs.Lines.{login_takes_effect, logout_takes_effect}
-use Rattle.gx_effects.proofs.Replacing.{replace_takes_effect}
 use Rattle.gx_effects.proofs.Taking.{takes_effect}
-use Rattle.gx_day.specs.DayData.{DayData, at_moment, with_kill, with_line}
-use Rattle.gx_day.specs.InForce.{day_asked, day_commanded, day_in_force}
-use Rattle.gx_day.proofs.Answering.{command_is_known}
+use Rattle.gx_day.specs.DayData.{at_moment, with_line}
+use Rattle.gx_day.specs.InForce.{day_asked, day_in_force}
 use Rattle.gx_day.proofs.Going.{day_next}
-use Rattle.gx_orders.specs.Changes.{denied_token, ended_message, entering, is_lasting, keeps_orders, marking, waiting_order, with_live}
+use Rattle.gx_orders.specs.Changes.{denied_token, entering, keeps_orders, marking, waiting_order}
 use Rattle.gx_orders.specs.InForce.{orders_in_force}
 use Rattle.gx_orders.specs.Laws.{CanEnter}
-use Rattle.gx_orders.specs.LiveOrders.{AreBelow, OrdersData, is_of_user, is_used, of_others}
+use Rattle.gx_orders.specs.LiveOrders.{AreBelow, OrdersData, is_used}
 use Rattle.gx_orders.specs.declared.live_order.LiveOrder.{LiveOrder}
-use Rattle.gx_orders.proofs.Granted.{denials_keep, enters_more, enters_new, kills_end, others_keep}
-use Rattle.gx_orders.proofs.Telling.{ends_are_told}
+use Rattle.gx_orders.proofs.Granted.{denials_keep, enters_more, enters_new, others_keep}
 use Rattle.gx_orders.proofs.Tokens.{denied_is_new}
-use Rattle.gx_book.specs.Books.{on_each_side}
-use Rattle.gx_book.specs.Queue.{without_account}
 use Rattle.gx_market.specs.BookInForce.{book_in_force}
 use Rattle.gx_market.specs.Changes.{keeps_book}
 use Rattle.gx_market.proofs.Requested as booked
@@ -83,19 +64,15 @@ use Rattle.gx_people.proofs.Keeping.{accounts_stay, next_users}
 use Rattle.gx_streams.specs.Kept.{places_in}
 use Rattle.gx_streams.specs.Laws.{TellsNobody, TellsOne}
 use Rattle.gx_streams.specs.Streams.{AllStreams}
-use Rattle.gx_streams.specs.Telling.{each_told, owed_to, shown, told_after, with_all_owed, with_owed}
-use Rattle.gx_streams.proofs.Places.{owed_taken}
-use Rattle.gx_streams.proofs.Telling.{GoesOn, all_owed_shown, more_told, stays_by_none, stays_by_one}
+use Rattle.gx_streams.specs.Telling.{shown, told_after}
+use Rattle.gx_streams.proofs.Telling.{stays_by_none, stays_by_one}
 use Rattle.gx_ledger.specs.declared.placed.Placed.{Placed}
-use Rattle.gx_ledger.specs.Following.{ClosesAll}
 use Rattle.gx_ledger.specs.StandsFor.{Accepts}
 use Rattle.gx_keepers.specs.declared.keepers.Keepers.{Keepers}
-use Rattle.gx_keepers.specs.Ends.{HaveOwedPlaces, owed_by_end, owed_by_ends}
-use Rattle.gx_keepers.specs.Keepers.{AreInForce, AreInForceBut, HavePlaces, Takes, killed_account, killed_by_action, with_told}
-use Rattle.gx_keepers.specs.Ledgers.{StandsForDay, ended_orders, placed}
+use Rattle.gx_keepers.specs.Keepers.{AreInForce, AreInForceBut, HavePlaces, Takes, with_told}
+use Rattle.gx_keepers.specs.Ledgers.{StandsForDay, placed}
 use Rattle.gx_keepers.specs.Messages.{accepted_message}
-use Rattle.gx_keepers.specs.Settings.{HasSetting, is_carried, is_carried_command, is_setting}
-use Rattle.gx_keepers.proofs.Figuring.{denial_figured, enter_figured, kill_figured, quiet_figured}
+use Rattle.gx_keepers.proofs.Figuring.{denial_figured, enter_figured, quiet_figured}
 
 -- what is unreadable is denied
 pub unreadable_is_denied : (policy : PolicyData) (history : List RecordData) (a : Asked) (r : RecordData)
@@ -162,32 +139,18 @@ pub book_stays : (policy : PolicyData) (history : List RecordData) (a : Asked) (
     → Takes policy history a r before → r.verdict ≡ verdicts.Granted → keeps_book a.request ≡ true → k.book ≡ before.book → k.book ≡ book_in_force policy (history ++ r ∷ [])
 book_stays policy history a r before k t grants keeps book_is = book_is ∙ t.in_force.book ∙ sym (booked.others_keep policy history a r t.legal t.left keeps grants)
 
--- no answer is sent to an officer yet, so a denial is told by its Rejected alone
-denial_told : (policy : PolicyData) (r : RecordData) (rule : RuleName) (q : Request) → reports_of_denial policy r rule q ≡ rejected policy q rule
-denial_told policy r rule (requests.Login m) = refl
-denial_told policy r rule requests.Logout = refl
-denial_told policy r rule (requests.Unreadable m) = refl
-denial_told policy r rule (requests.Enter m) = refl
-denial_told policy r rule (requests.Replace m) = refl
-denial_told policy r rule (requests.Cancel m) = refl
-denial_told policy r rule (requests.Command c) = unanswered (denial_code rule)
-  where
-    unanswered : (found : Option AnswerCode) → flat_map (answer r c) (option_to_list found) ≡ []
-    unanswered None = refl
-    unanswered (Some code) = refl
-
 -- what is told of a denial
 abbrev DenialTells : PolicyData → List RecordData → Asked → RecordData → List Message → Type 0
 DenialTells policy history a r told = TellsOne policy history (history ++ r ∷ []) r a.user told
 
 pub denial_tells : (policy : PolicyData) (history : List RecordData) (a : Asked) (r : RecordData) (rule : RuleName) (k : Keepers) (found : Option Message)
-    → Takes policy history a r k → r.verdict ≡ verdicts.Denied rule → option_to_list found ≡ rejected policy a.request rule
+    → Takes policy history a r k → r.verdict ≡ verdicts.Denied rule → option_to_list found ≡ reports_of_denial policy r rule a.request
     → DenialTells policy history a r (option_to_list found)
 denial_tells policy history a r rule k found t denied is user =
     (is_told policy history a r rule t.left denied).told user
-    ∙ ap (λ (told : List Message). stream policy history user ++ map (reported r) (to_user a.user user told)) (denial_told policy r rule a.request ∙ sym is)
+    ∙ ap (λ (told : List Message). stream policy history user ++ map (reported r) (to_user a.user user told)) (sym is)
 
-no_message : (b : Bool) → cond {A = List Message} b [] [] ≡ []
+pub no_message : (b : Bool) → cond {A = List Message} b [] [] ≡ []
 no_message true = refl
 no_message false = refl
 
@@ -222,7 +185,7 @@ denied_unused policy history a r rule k t denied = by (denied_token rule a.reque
 
 -- who is told of a denial has a place
 pub denied_place : (policy : PolicyData) (history : List RecordData) (a : Asked) (r : RecordData) (rule : RuleName) (k : Keepers) (found : Option Message)
-    → Takes policy history a r k → HavePlaces policy history r k.streams → r.verdict ≡ verdicts.Denied rule → option_to_list found ≡ rejected policy a.request rule
+    → Takes policy history a r k → HavePlaces policy history r k.streams → r.verdict ≡ verdicts.Denied rule → option_to_list found ≡ reports_of_denial policy r rule a.request
     → IfSome found (λ (message : Message). 0 < places_in k.streams.told a.user)
 denied_place policy history a r rule k None t places denied is = tt
 denied_place policy history a r rule k (Some message) t places denied is =
@@ -230,7 +193,7 @@ denied_place policy history a r rule k (Some message) t places denied is =
 
 -- a denial
 pub denial_goes_on : (policy : PolicyData) (history : List RecordData) (a : Asked) (r : RecordData) (rule : RuleName) (before k : Keepers) (found : Option Message)
-    → Takes policy history a r before → r.verdict ≡ verdicts.Denied rule → option_to_list found ≡ rejected policy a.request rule
+    → Takes policy history a r before → r.verdict ≡ verdicts.Denied rule → option_to_list found ≡ reports_of_denial policy r rule a.request
     → k.people ≡ before.people → k.rules ≡ before.rules → k.day ≡ before.day
     → k.orders ≡ marking a.user (denied_token rule a.request) before.orders → k.book ≡ before.book → k.ledger ≡ before.ledger → k.streams ≡ with_told a.user r.moment found before.streams
     → AreInForceBut policy history r k
@@ -241,7 +204,7 @@ denial_goes_on policy history a r rule before k found t denied is people_are rul
     (denial_figured policy history a r rule before k.ledger t denied ledger_is)
     (ap shown streams_are ∙ told found is)
   where
-    told : (found : Option Message) → option_to_list found ≡ rejected policy a.request rule → shown (with_told a.user r.moment found before.streams) ≡ told_after policy (history ++ r ∷ [])
+    told : (found : Option Message) → option_to_list found ≡ reports_of_denial policy r rule a.request → shown (with_told a.user r.moment found before.streams) ≡ told_after policy (history ++ r ∷ [])
     told None is = stays_by_none policy history (history ++ r ∷ []) before.streams t.in_force.streams (tells_nobody policy history r a.user (denial_tells policy history a r rule before None t denied is))
     told (Some message) is = stays_by_one policy history (history ++ r ∷ []) r before.streams a.user message t.in_force.streams (denial_tells policy history a r rule before (Some message) t denied is)
 
@@ -321,83 +284,6 @@ logout_goes_on policy history a r before k t grants asks people_are rules_are da
     (quiet_figured policy history a r requests.Logout before k.ledger t grants asks refl ledger_is)
     (ap shown streams_are ∙ stays_by_none policy history (history ++ r ∷ []) before.streams t.in_force.streams (logout_takes_effect policy history a r t.left asks grants).told_nothing)
 
--- a granted Lift
-pub lift_goes_on : (policy : PolicyData) (history : List RecordData) (a : Asked) (r : RecordData) (c : Command) (account : AccountName) (before k : Keepers)
-    → Takes policy history a r before → r.verdict ≡ verdicts.Granted → a.request ≡ requests.Command c → c.action ≡ actions.Lift account
-    → k.people ≡ before.people → k.rules ≡ before.rules → k.day ≡ with_kill account false before.day → k.orders ≡ before.orders → k.book ≡ before.book → k.ledger ≡ before.ledger → k.streams ≡ before.streams
-    → AreInForceBut policy history r k
-lift_goes_on policy history a r c account before k t grants asks lifts people_are rules_are day_is orders_are book_is ledger_is streams_are =
-    let is : LiftsAccount policy history (history ++ r ∷ []) r a.user c account = lift_takes_effect policy history a r c account t.legal t.left asks lifts grants in
-    by_grant policy history a r before k (requests.Command c) t.in_force grants (step_left policy history (steps.Asked a) r t.left) asks
-    (people_are ∙ sym (ap (λ (action : Action). given before.people action) lifts))
-    (rules_are ∙ sym (ap (λ (action : Action). rules_with before.rules (Some action)) lifts))
-    (day_is ∙ sym (ap (λ (action : Action). day_commanded action before.day) lifts))
-    (orders_are ∙ t.in_force.orders ∙ sym (others_keep policy history a r t.legal t.left grants (ap keeps_orders asks ∙ ap is_lasting lifts)))
-    (book_stays policy history a r before k t grants (ap keeps_book asks ∙ ap is_lasting lifts) book_is)
-    (quiet_figured policy history a r (requests.Command c) before k.ledger t grants asks (ap is_lasting lifts) ledger_is)
-    (ap shown streams_are ∙ stays_by_none policy history (history ++ r ∷ []) before.streams t.in_force.streams (tells_nobody policy history r a.user is.told))
-
--- what is owed to one user of the orders that a Kill ends, by the orders that are kept
-pub owed_is : (account : AccountName) (moment : ℕ) (user : UserName) (live : List LiveOrder)
-    → owed_to (owed_by_ends account moment live) user
-    ≡ map (λ (message : Message). record { timestamp = moment; message = message })
-    (map ended_message (filter (λ (o : LiveOrder). is_of_user user o && ends_account o.account (actions.Kill account)) live))
-owed_is account moment user [] = refl
-owed_is account moment user (o ∷ os) =
-    let more : List LiveOrder = filter (λ (x : LiveOrder). same_account account x.account) os in
-    let theirs : List LiveOrder = filter (λ (x : LiveOrder). is_of_user user x && same_account account x.account) os in
-    let shown_by : List LiveOrder → List Report = λ (xs : List LiveOrder). map (λ (message : Message). record { timestamp = moment; message = message }) (map ended_message xs) in
-    let owed_by : List (UserName × Report) → List Report = λ (xs : List (UserName × Report)). map (λ (x : UserName × Report). x.1) xs in
-    let for_him : List (UserName × Report) = filter (λ (x : UserName × Report). same_user x.0 user) (map (owed_by_end moment) more) in
-    let rest : owed_by for_him ≡ shown_by theirs = owed_is account moment user os in
-    elim (same_account account o.account) as (λ b. owed_to (map (owed_by_end moment) (cond b (o ∷ more) more)) user ≡ shown_by (cond (same_user o.user user && b) (o ∷ theirs) theirs)) [
-      | true ↦ elim (same_user o.user user) as (λ u. owed_by (cond u (owed_by_end moment o ∷ for_him) for_him) ≡ shown_by (cond (u && true) (o ∷ theirs) theirs))
-          [ true ↦ ap (λ (rs : List Report). record { timestamp = moment; message = ended_message o } ∷ rs) rest | false ↦ rest ]
-      | false ↦ elim (same_user o.user user) as (λ u. owed_by for_him ≡ shown_by (cond (u && false) (o ∷ theirs) theirs)) [ true ↦ rest | false ↦ rest ]
-    ]
-
--- what each user is told of a Kill
-pub kill_tells : (policy : PolicyData) (history : List RecordData) (a : Asked) (r : RecordData) (c : Command) (account : AccountName) (k : Keepers)
-    → Takes policy history a r k → r.verdict ≡ verdicts.Granted → a.request ≡ requests.Command c → c.action ≡ actions.Kill account
-    → GoesOn policy history (history ++ r ∷ []) (owed_to (owed_by_ends account r.moment k.orders.live))
-kill_tells policy history a r c account k t grants asks kills user =
-    let is : KillsAccount policy history (history ++ r ∷ []) r a.user c account = kill_takes_effect policy history a r c account t.legal t.left asks kills grants in
-    is.told user
-    ∙ ap (λ (told : List Message). stream policy history user ++ map (reported r) (ended policy history (actions.Kill account) user ++ told)) (no_message (same_user a.user user))
-    ∙ ap (λ (told : List Message). stream policy history user ++ map (reported r) told) (append-nil (ended policy history (actions.Kill account) user) ∙ ends_are_told policy history (actions.Kill account) user)
-    ∙ ap (λ (told : List Report). stream policy history user ++ told) (sym (owed_is account r.moment user (orders_in_force policy history).live))
-    ∙ ap (λ (live : List LiveOrder). stream policy history user ++ owed_to (owed_by_ends account r.moment live) user) (sym (ap (λ (orders : OrdersData). orders.live) t.in_force.orders))
-
--- each has a place for what he is told
-pub kill_places : (policy : PolicyData) (history : List RecordData) (a : Asked) (r : RecordData) (c : Command) (account : AccountName) (k : Keepers)
-    → Takes policy history a r k → HavePlaces policy history r k.streams → r.verdict ≡ verdicts.Granted → a.request ≡ requests.Command c → c.action ≡ actions.Kill account
-    → HaveOwedPlaces (owed_by_ends account r.moment k.orders.live) k.streams
-kill_places policy history a r c account k t places grants asks kills user =
-    let owed : reports_of policy user (history, r) ≡ owed_to (owed_by_ends account r.moment k.orders.live) user =
-    append_cancel_left (stream policy history user) _ _ (sym (stream_next policy history r user) ∙ kill_tells policy history a r c account k t grants asks kills user) in
-    subst (λ (reports : List Report). length reports ≤ places_in k.streams.told user) owed (places user)
-
--- a granted Kill
-pub kill_goes_on : (policy : PolicyData) (history : List RecordData) (a : Asked) (r : RecordData) (c : Command) (account : AccountName) (before k : Keepers)
-    → Takes policy history a r before → r.verdict ≡ verdicts.Granted → a.request ≡ requests.Command c → c.action ≡ actions.Kill account
-    → k.people ≡ before.people → k.rules ≡ before.rules → k.day ≡ with_kill account true before.day
-    → k.orders ≡ with_live (of_others account before.orders.live) before.orders → k.book ≡ on_each_side (without_account account) before.book
-    → ClosesAll (ended_orders account before.orders.live) before.ledger k.ledger → k.streams ≡ with_all_owed (owed_by_ends account r.moment before.orders.live) before.streams
-    → AreInForceBut policy history r k
-kill_goes_on policy history a r c account before k t grants asks kills people_are rules_are day_is orders_are book_is closes streams_are =
-    let owed : List (UserName × Report) = owed_by_ends account r.moment before.orders.live in
-    by_grant policy history a r before k (requests.Command c) t.in_force grants (step_left policy history (steps.Asked a) r t.left) asks
-    (people_are ∙ sym (ap (λ (action : Action). given before.people action) kills))
-    (rules_are ∙ sym (ap (λ (action : Action). rules_with before.rules (Some action)) kills))
-    (day_is ∙ sym (ap (λ (action : Action). day_commanded action before.day) kills))
-    (orders_are ∙ ap (λ (orders : OrdersData). with_live (of_others account orders.live) orders) t.in_force.orders
-    ∙ sym (kills_end policy history a r account t.legal t.left (ap action_of asks ∙ ap (λ (action : Action). Some action) kills) grants))
-    (book_is ∙ ap (on_each_side (without_account account)) t.in_force.book
-    ∙ sym (booked.kills_take policy history a r account t.legal t.left (ap action_of asks ∙ ap (λ (action : Action). Some action) kills) grants))
-    (kill_figured policy history a r c account before k.ledger t grants asks kills closes)
-    (ap shown streams_are ∙ all_owed_shown before.streams owed ∙ ap (each_told (owed_to owed)) t.in_force.streams
-    ∙ sym (more_told policy history (history ++ r ∷ []) (owed_to owed) (kill_tells policy history a r c account before t grants asks kills)))
-
 -- the account that a user trades for, as people say
 pub account_is : (policy : PolicyData) (history : List RecordData) (k : Keepers) (user : UserName) (found : Option AccountName) → AreInForce policy history k
     → found ≡ option_and_then account_of_role (role_in k.people user) → account_of policy user ≡ found
@@ -411,142 +297,12 @@ pub has_account : (policy : PolicyData) (history : List RecordData) (a : Asked) 
 has_account policy history a r m k found t grants enters is =
     ap is_some (sym (account_is policy history k a.user found t.in_force is)) ∙ (can_enter policy history a r m k t grants enters).has_account
 
--- how many are for the user, where one more comes first
-one_more_owed : (o : UserName × Report) (owed : List (UserName × Report)) (user : UserName)
-    → length (owed_to (o ∷ owed) user) ≡ length (owed_to (o ∷ []) user) + length (owed_to owed user)
-one_more_owed o owed user =
-    elim (same_user o.0 user) as (λ b. length (map (λ (x : UserName × Report). x.1) (cond b (o ∷ filter (λ (x : UserName × Report). same_user x.0 user) owed) (filter (λ (x : UserName × Report). same_user x.0 user) owed)))
-    ≡ length (map (λ (x : UserName × Report). x.1) (cond b (o ∷ []) [])) + length (owed_to owed user))
-    [ true ↦ omega arith | false ↦ omega arith ]
-
--- once the first is told, the rest have their places
-places_left : (streams : AllStreams) (o : UserName × Report) (owed : List (UserName × Report)) → HaveOwedPlaces (o ∷ owed) streams → HaveOwedPlaces owed (with_owed streams o)
-places_left streams o owed enough user =
-    let taken : places_in (with_owed streams o).told user ≡ places_in streams.told user - length (owed_to (o ∷ []) user) = owed_taken streams (o ∷ []) user in
-    omega (arith, enough user, one_more_owed o owed user, taken)
-
--- telling one of those that are left
-pub one_end_told : (account : AccountName) (moment : ℕ) (o : LiveOrder) (rest left : List LiveOrder) (streams now all : AllStreams)
-    → left ≡ o ∷ rest → same_account account o.account ≡ true → now ≡ with_owed streams (owed_by_end moment o)
-    → HaveOwedPlaces (owed_by_ends account moment left) streams → with_all_owed (owed_by_ends account moment left) streams ≡ all
-    → HaveOwedPlaces (owed_by_ends account moment rest) now × (with_all_owed (owed_by_ends account moment rest) now ≡ all)
-one_end_told account moment o rest left streams now all left_is his now_is enough telling =
-    let owed_is : owed_by_ends account moment left ≡ owed_by_end moment o ∷ owed_by_ends account moment rest =
-    ap (owed_by_ends account moment) left_is
-    ∙ ap (λ b. map (owed_by_end moment) (cond b (o ∷ filter (λ (x : LiveOrder). same_account account x.account) rest) (filter (λ (x : LiveOrder). same_account account x.account) rest))) his in (
-      subst (HaveOwedPlaces (owed_by_ends account moment rest)) (sym now_is)
-          (places_left streams (owed_by_end moment o) (owed_by_ends account moment rest) (subst (λ (owed : List (UserName × Report)). HaveOwedPlaces owed streams) owed_is enough)),
-      ap (with_all_owed (owed_by_ends account moment rest)) now_is ∙ sym (ap (λ (owed : List (UserName × Report)). with_all_owed owed streams) owed_is) ∙ telling,
-    )
-
--- a setting ends no order, and is no Close Day
-pub none_ended : (policy : PolicyData) (history : List RecordData) (action : Action) (user : UserName) → is_setting action ≡ true → ended policy history action user ≡ []
-none_ended policy history action user sets =
-    ap (flat_map (λ (s : Standing). canceled cancels.Supervisory s.open_shares s.order)) (none_kept (live_orders policy history))
-  where
-    ends_none : (account : AccountName) (x : Action) → is_setting x ≡ true → ends_account account x ≡ false
-    ends_none account (actions.SetLimit rule limit) h = refl
-    ends_none account (actions.Restrict rule stock) h = refl
-    ends_none account (actions.Unrestrict rule stock) h = refl
-    ends_none account (actions.Grant reader named) h = refl
-    ends_none account (actions.Revoke reader named) h = refl
-    ends_none account (actions.Kill named) h = cc
-    ends_none account (actions.Lift named) h = cc
-    ends_none account actions.CloseDay h = cc
-
-    not_kept : (b e : Bool) (s : Standing) (found : List Standing) → e ≡ false → cond (b && e) (s ∷ found) found ≡ found
-    not_kept true e s found h = ap (λ x. cond x (s ∷ found) found) h
-    not_kept false e s found h = refl
-
-    none_kept : (found : List Standing) → filter (λ (s : Standing). same_user s.order.user user && ends_account s.order.account action) found ≡ []
-    none_kept [] = refl
-    none_kept (s ∷ found) = not_kept (same_user s.order.user user) (ends_account s.order.account action) s _ (ends_none s.order.account action sets) ∙ none_kept found
-
-pub no_end : (policy : PolicyData) (action : Action) (user : UserName) → is_setting action ≡ true → day_end policy action user ≡ []
-no_end policy (actions.SetLimit rule limit) user h = refl
-no_end policy (actions.Restrict rule stock) user h = refl
-no_end policy (actions.Unrestrict rule stock) user h = refl
-no_end policy (actions.Grant reader named) user h = refl
-no_end policy (actions.Revoke reader named) user h = refl
-no_end policy (actions.Kill named) user h = cc
-no_end policy (actions.Lift named) user h = cc
-no_end policy actions.CloseDay user h = cc
-
--- it ends no order
-lasts : (action : Action) → is_setting action ≡ true → is_lasting action ≡ true
-lasts (actions.SetLimit rule limit) h = refl
-lasts (actions.Restrict rule stock) h = refl
-lasts (actions.Unrestrict rule stock) h = refl
-lasts (actions.Grant reader named) h = refl
-lasts (actions.Revoke reader named) h = refl
-lasts (actions.Kill named) h = cc
-lasts (actions.Lift named) h = cc
-lasts actions.CloseDay h = cc
-
--- and leaves the day
-day_stays : (action : Action) (day : DayData) → is_setting action ≡ true → day_commanded action day ≡ day
-day_stays (actions.SetLimit rule limit) day h = refl
-day_stays (actions.Restrict rule stock) day h = refl
-day_stays (actions.Unrestrict rule stock) day h = refl
-day_stays (actions.Grant reader named) day h = refl
-day_stays (actions.Revoke reader named) day h = refl
-day_stays (actions.Kill named) day h = cc
-day_stays (actions.Lift named) day h = cc
-day_stays actions.CloseDay day h = cc
-
--- nobody is told of it
-pub setting_tells_nobody : (policy : PolicyData) (history : List RecordData) (a : Asked) (r : RecordData) (c : Command) (k : Keepers)
-    → Takes policy history a r k → r.verdict ≡ verdicts.Granted → a.request ≡ requests.Command c → is_setting c.action ≡ true
-    → TellsNobody policy history (history ++ r ∷ [])
-setting_tells_nobody policy history a r c k t grants asks sets user =
-    let g : GrantsCommand r a c.action = grants_the_command policy history a r c c.action t.left asks refl grants in
-    told_by_command policy history r a c.action user g (no_end policy c.action user sets)
-    ∙ ap (λ (told : List Message). stream policy history user ++ map (reported r) (told ++ to_user a.user user (answer r g.command codes.Done))) (none_ended policy history c.action user sets)
-    ∙ ap (λ (told : List Message). stream policy history user ++ map (reported r) told) (no_message (same_user a.user user))
-    ∙ append-nil (stream policy history user)
-
--- a granted setting
-pub setting_goes_on : (policy : PolicyData) (history : List RecordData) (a : Asked) (r : RecordData) (c : Command) (before k : Keepers)
-    → Takes policy history a r before → r.verdict ≡ verdicts.Granted → a.request ≡ requests.Command c → is_setting c.action ≡ true
-    → k.people ≡ given before.people c.action → k.rules ≡ changed before.rules c.action → k.day ≡ before.day → k.orders ≡ before.orders → k.book ≡ before.book
-    → k.ledger ≡ before.ledger → k.streams ≡ before.streams
-    → AreInForceBut policy history r k
-setting_goes_on policy history a r c before k t grants asks sets people_are rules_are day_is orders_are book_is ledger_is streams_are =
-    by_grant policy history a r before k (requests.Command c) t.in_force grants (step_left policy history (steps.Asked a) r t.left) asks people_are rules_are
-    (day_is ∙ sym (day_stays c.action before.day sets))
-    (orders_are ∙ t.in_force.orders ∙ sym (others_keep policy history a r t.legal t.left grants (ap keeps_orders asks ∙ lasts c.action sets)))
-    (book_stays policy history a r before k t grants (ap keeps_book asks ∙ lasts c.action sets) book_is)
-    (quiet_figured policy history a r (requests.Command c) before k.ledger t grants asks (lasts c.action sets) ledger_is)
-    (ap shown streams_are
-    ∙ stays_by_none policy history (history ++ r ∷ []) before.streams t.in_force.streams (setting_tells_nobody policy history a r c before t grants asks sets))
-
--- the rule that a granted setting names has it
-knows_setting : (policy : PolicyData) (history : List RecordData) (action : Action) → knows_names policy history action ≡ true → HasSetting (rules_in_force policy history) action
-knows_setting policy history (actions.SetLimit rule limit) h = limit_there (rule_in_force policy history rule) h
-  where
-    limit_there : (found : Option FileRule) → knows_limit found ≡ true → is_some (option_and_then (λ (r : FileRule). limit_of r.kind) found) ≡ true
-    limit_there None e = e
-    limit_there (Some rule) e = e
-knows_setting policy history (actions.Restrict rule stock) h = (both _ _ h).0
-knows_setting policy history (actions.Unrestrict rule stock) h = (both _ _ h).0
-knows_setting policy history (actions.Grant reader account) h = tt
-knows_setting policy history (actions.Revoke reader account) h = tt
-knows_setting policy history (actions.Kill account) h = tt
-knows_setting policy history (actions.Lift account) h = tt
-knows_setting policy history actions.CloseDay h = tt
-
-pub has_setting : (policy : PolicyData) (history : List RecordData) (a : Asked) (r : RecordData) (c : Command) (k : Keepers)
-    → Takes policy history a r k → r.verdict ≡ verdicts.Granted → a.request ≡ requests.Command c → HasSetting k.rules c.action
-has_setting policy history a r c k t grants asks =
-    subst (λ (rules : List FileRule). HasSetting rules c.action) (sym t.in_force.rules)
-    (knows_setting policy history c.action (command_is_known policy history a r c t.left grants asks))
-
--- a granted request that is carried is one of these
+-- a granted request is one of these
 pub no_other_request : (policy : PolicyData) (history : List RecordData) (a : Asked) (r : RecordData) (k : Keepers)
-    → Takes policy history a r k → r.verdict ≡ verdicts.Granted → is_carried a.request ≡ true
+    → Takes policy history a r k → r.verdict ≡ verdicts.Granted
     → ((m : Login) → a.request ≡ requests.Login m → ⊥) → (a.request ≡ requests.Logout → ⊥) → ((m : EnterOrder) → a.request ≡ requests.Enter m → ⊥)
     → ((m : ReplaceOrder) → a.request ≡ requests.Replace m → ⊥) → ((m : CancelOrder) → a.request ≡ requests.Cancel m → ⊥) → ((c : Command) → a.request ≡ requests.Command c → ⊥) → ⊥
-no_other_request policy history a r k t grants carried no_login no_logout no_enter no_replace no_cancel no_command = by a.request refl
+no_other_request policy history a r k t grants no_login no_logout no_enter no_replace no_cancel no_command = by a.request refl
   where
     by : (q : Request) → a.request ≡ q → ⊥
     by (requests.Login m) asks = no_login m asks
@@ -568,113 +324,3 @@ no_other_verdict policy history a r k t no_grant no_denial = by r.verdict refl
     by (verdicts.Filled f) is = let judged : false ≡ true = sym (ap is_judged is) ∙ asked_is_judged policy history a r t.left in cc
     by (verdicts.Rested number) is = let judged : false ≡ true = sym (ap is_judged is) ∙ asked_is_judged policy history a r t.left in cc
     by (verdicts.Expired number) is = let judged : false ≡ true = sym (ap is_judged is) ∙ asked_is_judged policy history a r t.left in cc
-
--- what is told to one user at most
-pub record TellsFew (policy : PolicyData) (history : List RecordData) (a : Asked) (r : RecordData) : Type 0 where
-  pub told : List Message
-  pub tells : TellsOne policy history (history ++ r ∷ []) r a.user told
-  pub few : length told ≤ 1
-
-none_told : (policy : PolicyData) (history : List RecordData) (a : Asked) (r : RecordData) → TellsNobody policy history (history ++ r ∷ []) → TellsFew policy history a r
-none_told policy history a r none = record {
-  told = [];
-  tells = λ (user : UserName).
-      none user ∙ sym (append-nil (stream policy history user))
-      ∙ sym (ap (λ (told : List Message). stream policy history user ++ map (reported r) told) (no_message (same_user a.user user)));
-  few = omega arith;
-}
-
-denial_few : (policy : PolicyData) (history : List RecordData) (a : Asked) (r : RecordData) (rule : RuleName) (k : Keepers)
-    → Takes policy history a r k → r.verdict ≡ verdicts.Denied rule → TellsFew policy history a r
-denial_few policy history a r rule k t denied = record {
-  told = rejected policy a.request rule;
-  tells = λ (user : UserName).
-      (is_told policy history a r rule t.left denied).told user
-      ∙ ap (λ (told : List Message). stream policy history user ++ map (reported r) (to_user a.user user told)) (denial_told policy r rule a.request);
-  few = one_or_none _;
-}
-  where
-    one_or_none : (found : Option Message) → length (option_to_list found) ≤ 1
-    one_or_none None = omega arith
-    one_or_none (Some message) = omega arith
-
--- a granted command but a Kill
-command_few : (policy : PolicyData) (history : List RecordData) (a : Asked) (r : RecordData) (c : Command) (k : Keepers)
-    → Takes policy history a r k → r.verdict ≡ verdicts.Granted → a.request ≡ requests.Command c → is_carried_command c.action ≡ true
-    → (action : Action) → c.action ≡ action → killed_by_action action ≡ None → TellsFew policy history a r
-command_few policy history a r c k t grants asks carried (actions.Kill account) is none = let killed : is_some (killed_by_action (actions.Kill account)) ≡ false = ap is_some none in cc
-command_few policy history a r c k t grants asks carried (actions.Lift account) is none =
-    record { told = []; tells = (lift_takes_effect policy history a r c account t.legal t.left asks is grants).told; few = omega arith }
-command_few policy history a r c k t grants asks carried (actions.SetLimit rule limit) is none = none_told policy history a r (setting_tells_nobody policy history a r c k t grants asks (ap is_setting is))
-command_few policy history a r c k t grants asks carried (actions.Restrict rule stock) is none = none_told policy history a r (setting_tells_nobody policy history a r c k t grants asks (ap is_setting is))
-command_few policy history a r c k t grants asks carried (actions.Unrestrict rule stock) is none = none_told policy history a r (setting_tells_nobody policy history a r c k t grants asks (ap is_setting is))
-command_few policy history a r c k t grants asks carried (actions.Grant reader account) is none = none_told policy history a r (setting_tells_nobody policy history a r c k t grants asks (ap is_setting is))
-command_few policy history a r c k t grants asks carried (actions.Revoke reader account) is none = none_told policy history a r (setting_tells_nobody policy history a r c k t grants asks (ap is_setting is))
-command_few policy history a r c k t grants asks carried actions.CloseDay is none = let off : false ≡ true = sym (ap is_carried_command is) ∙ carried in cc
-
-grant_few : (policy : PolicyData) (history : List RecordData) (a : Asked) (r : RecordData) (k : Keepers)
-    → Takes policy history a r k → r.verdict ≡ verdicts.Granted → is_carried a.request ≡ true
-    → (q : Request) → a.request ≡ q → option_and_then killed_by_action (action_of q) ≡ None → TellsFew policy history a r
-grant_few policy history a r k t grants carried (requests.Login m) asks none = none_told policy history a r (login_takes_effect policy history a r m t.left asks grants).told_nothing
-grant_few policy history a r k t grants carried requests.Logout asks none = none_told policy history a r (logout_takes_effect policy history a r t.left asks grants).told_nothing
-grant_few policy history a r k t grants carried (requests.Unreadable m) asks none =
-    let denied : true ≡ false = sym (ap is_unreadable asks) ∙ unreadable_is_denied policy history a r t.left grants in cc
-grant_few policy history a r k t grants carried (requests.Enter m) asks none =
-    let is : TakesEffect policy history (history ++ r ∷ []) r a.user m = takes_effect policy history a r m t.legal t.left asks grants in
-    record { told = accepted (entered policy r a.user is.account m); tells = is.told; few = omega arith }
-grant_few policy history a r k t grants carried (requests.Replace m) asks none =
-    let is : ReplacesOrder policy history (history ++ r ∷ []) r a.user m = replace_takes_effect policy history a r m t.legal t.left asks grants in
-    record { told = replaced (replacement policy history r m is.old.order); tells = is.told; few = omega arith }
-grant_few policy history a r k t grants carried (requests.Cancel m) asks none =
-    let is : CutsOrder policy history (history ++ r ∷ []) r a.user m = cancel_takes_effect policy history a r m t.legal t.left asks grants in
-    record { told = canceled cancels.UserRequested (is.cut.open_shares - is.left) is.cut.order; tells = is.told; few = omega arith }
-grant_few policy history a r k t grants carried (requests.Command c) asks none =
-    command_few policy history a r c k t grants asks (sym (ap is_carried asks) ∙ carried) c.action refl none
-
--- a record that kills no account tells one user one thing at most
-pub tells_few : (policy : PolicyData) (history : List RecordData) (a : Asked) (r : RecordData) (k : Keepers)
-    → Takes policy history a r k → is_carried a.request ≡ true → killed_account a.request r.verdict ≡ None → TellsFew policy history a r
-tells_few policy history a r k t carried none = by r.verdict refl
-  where
-    by : (v : Verdict) → r.verdict ≡ v → TellsFew policy history a r
-    by verdicts.Granted is = grant_few policy history a r k t is carried a.request refl (sym (ap (killed_account a.request) is) ∙ none)
-    by (verdicts.Denied rule) is = denial_few policy history a r rule k t is
-    by (verdicts.Filled f) is = let judged : false ≡ true = sym (ap is_judged is) ∙ asked_is_judged policy history a r t.left in cc
-    by (verdicts.Rested number) is = let judged : false ≡ true = sym (ap is_judged is) ∙ asked_is_judged policy history a r t.left in cc
-    by (verdicts.Expired number) is = let judged : false ≡ true = sym (ap is_judged is) ∙ asked_is_judged policy history a r t.left in cc
-
--- a request that kills an account is a granted Kill of it
-pub record AsksKill (q : Request) (v : Verdict) (account : AccountName) : Type 0 where
-  pub grants : v ≡ verdicts.Granted
-  pub command : Command
-  pub asks : q ≡ requests.Command command
-  pub kills : command.action ≡ actions.Kill account
-
-pub asks_kill : (q : Request) (v : Verdict) (account : AccountName) → killed_account q v ≡ Some account → AsksKill q v account
-asks_kill q verdicts.Granted account is = by q is
-  where
-    named : {x y : AccountName} → Some x ≡ Some y → x ≡ y
-    named e = cc
-
-    by_action : (c : Command) (action : Action) → c.action ≡ action → killed_by_action action ≡ Some account → AsksKill (requests.Command c) verdicts.Granted account
-    by_action c (actions.Kill other) e h = record { grants = refl; command = c; asks = refl; kills = e ∙ ap actions.Kill (named h) }
-    by_action c (actions.Lift other) e h = cc
-    by_action c (actions.SetLimit rule limit) e h = cc
-    by_action c (actions.Restrict rule stock) e h = cc
-    by_action c (actions.Unrestrict rule stock) e h = cc
-    by_action c (actions.Grant reader other) e h = cc
-    by_action c (actions.Revoke reader other) e h = cc
-    by_action c actions.CloseDay e h = cc
-
-    by : (q : Request) → option_and_then killed_by_action (action_of q) ≡ Some account → AsksKill q verdicts.Granted account
-    by (requests.Command c) h = by_action c c.action refl h
-    by (requests.Login m) h = cc
-    by requests.Logout h = cc
-    by (requests.Unreadable m) h = cc
-    by (requests.Enter m) h = cc
-    by (requests.Replace m) h = cc
-    by (requests.Cancel m) h = cc
-asks_kill q (verdicts.Denied rule) account is = cc
-asks_kill q (verdicts.Filled f) account is = cc
-asks_kill q (verdicts.Rested number) account is = cc
-asks_kill q (verdicts.Expired number) account is = cc

@@ -6,7 +6,6 @@ use Rattle.std.proofs.lemmas.List.{append-nil}
 use Rattle.std.specs.Prelude.{Option, Some, None, nat_eq, option_map}
 use Rattle.std.specs.Option.{option_map_or}
 use Rattle.std.specs.List.{filter, AllByRecursion, IsDistinct}
-use Rattle.gx_units.specs.Names.{same_account}
 use Rattle.gx_units.specs.declared.names.AccountName.{AccountName}
 use Rattle.gx_ouch.specs.declared.inbound.CancelOrder.{CancelOrder}
 use Rattle.gx_ouch.specs.declared.inbound.EnterOrder.{EnterOrder}
@@ -65,6 +64,7 @@ use Rattle.gx_ledger.specs.StandsFor.{Accepts, Carries, Closes, Cuts, Fills, IsH
 use Rattle.gx_ledger.proofs.Following.{all_are_ended, none_closes, one_more_closes}
 use Rattle.gx_keepers.specs.declared.keepers.Keepers.{Keepers}
 use Rattle.gx_keepers.specs.Keepers.{Takes}
+use Rattle.gx_keepers.specs.Ends.{is_ended}
 use Rattle.gx_keepers.specs.Ledgers.{StandsForDay, ended_orders, open_order, placed}
 use Rattle.gx_keepers.specs.Matching.{TakesMatch}
 
@@ -175,7 +175,7 @@ request_changes policy history a r q k t grants asks =
     ∙ ap (λ (s : Step). change_by policy history r verdicts.Granted s) (step_left policy history (steps.Asked a) r t.left)
     ∙ ap (change_by_request policy history r a.user) asks
 
-none_ends : (action : Action) → is_lasting action ≡ true → (account : AccountName) → ends_account account action ≡ false
+pub none_ends : (action : Action) → is_lasting action ≡ true → (account : AccountName) → ends_account account action ≡ false
 none_ends (actions.SetLimit rule limit) h account = refl
 none_ends (actions.Restrict rule stock) h account = refl
 none_ends (actions.Unrestrict rule stock) h account = refl
@@ -304,56 +304,64 @@ replace_figured policy history a r m before o gone handed new t grants asks foun
     (is_held policy history o gone k gone_is) (may_come policy history (steps.Asked a) r before.ledger (ones.Replaces gone.order by.new) comes does)
     (sound_then policy history (steps.Asked a) r before.ledger (ones.Replaces gone.order by.new) comes does))
 
--- ---- a Kill
+-- ---- a command
 
--- the orders of the account before what is left of them were closed
-pub record HaveClosed (account : AccountName) (live left : List LiveOrder) (old now : Kept) : Type 0 where
+-- the orders that the command is for before what is left of them were closed
+pub record HaveClosed (action : Action) (live left : List LiveOrder) (old now : Kept) : Type 0 where
   pub gone : List LiveOrder
   pub are_all : gone ++ left ≡ live
-  pub closes : ClosesAll (ended_orders account gone) old now
+  pub closes : ClosesAll (ended_orders action gone) old now
 
-pub none_closed : (account : AccountName) (live : List LiveOrder) (old : Kept) → HaveClosed account live live old old
-none_closed account live old = record { gone = []; are_all = refl; closes = none_closes old }
+pub none_closed : (action : Action) (live : List LiveOrder) (old : Kept) → HaveClosed action live live old old
+none_closed action live old = record { gone = []; are_all = refl; closes = none_closes old }
 
 next_left : (gone left rest live : List LiveOrder) (o : LiveOrder) → left ≡ o ∷ rest → gone ++ left ≡ live → (gone ++ o ∷ []) ++ rest ≡ live
 next_left [] left rest live o e all = sym e ∙ all
 next_left (x ∷ gone) left rest live o e all = ap (λ (xs : List LiveOrder). x ∷ xs) (next_left gone left rest (gone ++ left) o e refl) ∙ all
 
-one_more_ended : (account : AccountName) (gone : List LiveOrder) (o : LiveOrder)
-    → ended_orders account (gone ++ o ∷ []) ≡ ended_orders account gone ++ cond (same_account account o.account) (open_order o ∷ []) []
-one_more_ended account [] o = elim (same_account account o.account) as (λ b. map open_order (cond b (o ∷ []) []) ≡ cond b (open_order o ∷ []) []) [ true ↦ refl | false ↦ refl ]
-one_more_ended account (x ∷ gone) o =
-    let more : List OpenOrder = cond (same_account account o.account) (open_order o ∷ []) [] in
-    let rest : ended_orders account (gone ++ o ∷ []) ≡ ended_orders account gone ++ more = one_more_ended account gone o in
-    elim (same_account account x.account) as (λ b. map open_order (cond b (x ∷ filter (λ (y : LiveOrder). same_account account y.account) (gone ++ o ∷ [])) (filter (λ (y : LiveOrder). same_account account y.account) (gone ++ o ∷ [])))
-    ≡ map open_order (cond b (x ∷ filter (λ (y : LiveOrder). same_account account y.account) gone) (filter (λ (y : LiveOrder). same_account account y.account) gone)) ++ more)
+one_more_ended : (action : Action) (gone : List LiveOrder) (o : LiveOrder)
+    → ended_orders action (gone ++ o ∷ []) ≡ ended_orders action gone ++ cond (is_ended action o) (open_order o ∷ []) []
+one_more_ended action [] o = elim (is_ended action o) as (λ b. map open_order (cond b (o ∷ []) []) ≡ cond b (open_order o ∷ []) []) [ true ↦ refl | false ↦ refl ]
+one_more_ended action (x ∷ gone) o =
+    let more : List OpenOrder = cond (is_ended action o) (open_order o ∷ []) [] in
+    let rest : ended_orders action (gone ++ o ∷ []) ≡ ended_orders action gone ++ more = one_more_ended action gone o in
+    elim (is_ended action x) as (λ b. map open_order (cond b (x ∷ filter (is_ended action) (gone ++ o ∷ [])) (filter (is_ended action) (gone ++ o ∷ [])))
+    ≡ map open_order (cond b (x ∷ filter (is_ended action) gone) (filter (is_ended action) gone)) ++ more)
     [ true ↦ ap (λ (xs : List OpenOrder). open_order x ∷ xs) rest | false ↦ rest ]
 
-pub one_more_closed : (account : AccountName) (live left rest : List LiveOrder) (o : LiveOrder) (named : OpenOrder) (old now new : Kept)
-    → left ≡ o ∷ rest → same_account account o.account ≡ true → named ≡ open_order o → HaveClosed account live left old now → Closes named now new → HaveClosed account live rest old new
-one_more_closed account live left rest o named old now new left_is his is have closes = record {
+pub one_more_closed : (action : Action) (live left rest : List LiveOrder) (o : LiveOrder) (named : OpenOrder) (old now new : Kept)
+    → left ≡ o ∷ rest → is_ended action o ≡ true → named ≡ open_order o → HaveClosed action live left old now → Closes named now new → HaveClosed action live rest old new
+one_more_closed action live left rest o named old now new left_is his is have closes = record {
   gone = have.gone ++ o ∷ [];
   are_all = next_left have.gone left rest live o left_is have.are_all;
   closes =
       subst (λ (xs : List OpenOrder). ClosesAll xs old new)
-      (sym (one_more_ended account have.gone o ∙ ap (λ (b : Bool). ended_orders account have.gone ++ cond b (open_order o ∷ []) []) his))
-      (one_more_closes (ended_orders account have.gone) (open_order o) old now new have.closes (subst (λ (x : OpenOrder). Closes x now new) is closes));
+      (sym (one_more_ended action have.gone o ∙ ap (λ (b : Bool). ended_orders action have.gone ++ cond b (open_order o ∷ []) []) his))
+      (one_more_closes (ended_orders action have.gone) (open_order o) old now new have.closes (subst (λ (x : OpenOrder). Closes x now new) is closes));
 }
 
-pub one_more_passed : (account : AccountName) (live left rest : List LiveOrder) (o : LiveOrder) (old now : Kept)
-    → left ≡ o ∷ rest → same_account account o.account ≡ false → HaveClosed account live left old now → HaveClosed account live rest old now
-one_more_passed account live left rest o old now left_is others have = record {
+pub one_more_passed : (action : Action) (live left rest : List LiveOrder) (o : LiveOrder) (old now : Kept)
+    → left ≡ o ∷ rest → is_ended action o ≡ false → HaveClosed action live left old now → HaveClosed action live rest old now
+one_more_passed action live left rest o old now left_is others have = record {
   gone = have.gone ++ o ∷ [];
   are_all = next_left have.gone left rest live o left_is have.are_all;
   closes =
       subst (λ (xs : List OpenOrder). ClosesAll xs old now)
-      (sym (one_more_ended account have.gone o ∙ ap (λ (b : Bool). ended_orders account have.gone ++ cond b (open_order o ∷ []) []) others ∙ append-nil (ended_orders account have.gone)))
+      (sym (one_more_ended action have.gone o ∙ ap (λ (b : Bool). ended_orders action have.gone ++ cond b (open_order o ∷ []) []) others ∙ append-nil (ended_orders action have.gone)))
       have.closes;
 }
 
-pub all_have_closed : (account : AccountName) (live left : List LiveOrder) (old now : Kept) → left ≡ [] → HaveClosed account live left old now → ClosesAll (ended_orders account live) old now
-all_have_closed account live left old now none have =
-    subst (λ (xs : List LiveOrder). ClosesAll (ended_orders account xs) old now) (sym (append-nil have.gone) ∙ ap (λ (xs : List LiveOrder). have.gone ++ xs) (sym none) ∙ have.are_all) have.closes
+-- a command that ends no order closes none
+pub none_end : (action : Action) → is_lasting action ≡ true → (live : List LiveOrder) → filter (is_ended action) live ≡ []
+none_end action lasts [] = refl
+none_end action lasts (o ∷ live) = ap (λ (b : Bool). cond b (o ∷ filter (is_ended action) live) (filter (is_ended action) live)) (none_ends action lasts o.account) ∙ none_end action lasts live
+
+pub none_to_close : (action : Action) (live : List LiveOrder) (k : Kept) → is_lasting action ≡ true → ClosesAll (ended_orders action live) k k
+none_to_close action live k lasts = subst (λ (os : List LiveOrder). ClosesAll (map open_order os) k k) (sym (none_end action lasts live)) (none_closes k)
+
+pub all_have_closed : (action : Action) (live left : List LiveOrder) (old now : Kept) → left ≡ [] → HaveClosed action live left old now → ClosesAll (ended_orders action live) old now
+all_have_closed action live left old now none have =
+    subst (λ (xs : List LiveOrder). ClosesAll (ended_orders action xs) old now) (sym (append-nil have.gone) ∙ ap (λ (xs : List LiveOrder). have.gone ++ xs) (sym none) ∙ have.are_all) have.closes
 
 -- numbers that differ go on to differ where some are left out
 others_differ : (P : ℕ → Type 0) (p : Standing → Bool) (ss : List Standing) → AllByRecursion P (numbers_of ss) → AllByRecursion P (numbers_of (filter p ss))
@@ -374,36 +382,35 @@ some_differ p (s ∷ ss) h = by (p s) (others_differ (λ (n : ℕ). nat_eq s.ord
     by true rest = rest
     by false rest = rest.1
 
--- those that a Kill ends have their numbers
-ended_numbers : (policy : PolicyData) (history : List RecordData) (account : AccountName) (ss : List Standing)
-    → numbers (ended_orders account (map (kept policy history) ss)) ≡ numbers_of (filter (λ (s : Standing). ends_account s.order.account (actions.Kill account)) ss)
-ended_numbers policy history account [] = refl
-ended_numbers policy history account (s ∷ ss) =
-    let rest = ended_numbers policy history account ss in
-    elim (same_account account s.order.account) as (λ b. numbers (map open_order (cond b (kept policy history s ∷ filter (λ (o : LiveOrder). same_account account o.account) (map (kept policy history) ss))
-    (filter (λ (o : LiveOrder). same_account account o.account) (map (kept policy history) ss))))
-    ≡ numbers_of (cond b (s ∷ filter (λ (x : Standing). same_account account x.order.account) ss) (filter (λ (x : Standing). same_account account x.order.account) ss)))
+-- those that a command ends have their numbers
+ended_numbers : (policy : PolicyData) (history : List RecordData) (action : Action) (ss : List Standing)
+    → numbers (ended_orders action (map (kept policy history) ss)) ≡ numbers_of (filter (λ (s : Standing). ends_account s.order.account action) ss)
+ended_numbers policy history action [] = refl
+ended_numbers policy history action (s ∷ ss) =
+    let rest = ended_numbers policy history action ss in
+    elim (ends_account s.order.account action) as (λ b. numbers (map open_order (cond b (kept policy history s ∷ filter (is_ended action) (map (kept policy history) ss)) (filter (is_ended action) (map (kept policy history) ss))))
+    ≡ numbers_of (cond b (s ∷ filter (λ (x : Standing). ends_account x.order.account action) ss) (filter (λ (x : Standing). ends_account x.order.account action) ss)))
     [ true ↦ ap (λ (ns : List ℕ). s.order.number ∷ ns) rest | false ↦ rest ]
 
-pub kill_figured : (policy : PolicyData) (history : List RecordData) (a : Asked) (r : RecordData) (c : Command) (account : AccountName) (before : Keepers) (new : Kept)
-    → Takes policy history a r before → r.verdict ≡ verdicts.Granted → a.request ≡ requests.Command c → c.action ≡ actions.Kill account
-    → ClosesAll (ended_orders account before.orders.live) before.ledger new → StandsForDay policy new (history ++ r ∷ [])
-kill_figured policy history a r c account before new t grants asks kills closes =
+pub command_figured : (policy : PolicyData) (history : List RecordData) (a : Asked) (r : RecordData) (c : Command) (before : Keepers) (new : Kept)
+    → Takes policy history a r before → r.verdict ≡ verdicts.Granted → a.request ≡ requests.Command c
+    → ClosesAll (ended_orders c.action before.orders.live) before.ledger new → StandsForDay policy new (history ++ r ∷ [])
+command_figured policy history a r c before new t grants asks closes =
     let held : Positions = live_positions policy history in
     let live : List LiveOrder = (orders_in_force policy history).live in
     let sound : AreSound policy held = positions_are_sound policy history t.legal in
-    let does : change_of policy history r ≡ ones.EndsAll (actions.Kill account) = request_changes policy history a r (requests.Command c) before t grants asks ∙ ap ones.EndsAll kills in
-    let theirs : numbers (ended_orders account live) ≡ numbers_of (ended_by (actions.Kill account) held) = ended_numbers policy history account (live_orders policy history) in
-    let are_held : AreHeld held (ended_orders account live) = record {
+    let does : change_of policy history r ≡ ones.EndsAll c.action = request_changes policy history a r (requests.Command c) before t grants asks in
+    let theirs : numbers (ended_orders c.action live) ≡ numbers_of (ended_by c.action held) = ended_numbers policy history c.action (live_orders policy history) in
+    let are_held : AreHeld held (ended_orders c.action live) = record {
       all_held =
-          all_mapped (IsHeld held) open_order (filter (λ (o : LiveOrder). same_account account o.account) live)
-          (filtered (λ (o : LiveOrder). IsHeld held (open_order o)) (λ (o : LiveOrder). same_account account o.account) live
+          all_mapped (IsHeld held) open_order (filter (is_ended c.action) live)
+          (filtered (λ (o : LiveOrder). IsHeld held (open_order o)) (is_ended c.action) live
           (all_weaker (IsKept policy history) (λ (o : LiveOrder). IsHeld held (open_order o)) (λ (o : LiveOrder) k. is_held policy history o (open_order o) k refl) live (all_kept policy history t.legal)));
-      differ = subst (IsDistinct nat_eq) (sym theirs) (some_differ (λ (s : Standing). ends_account s.order.account (actions.Kill account)) held.standings sound.numbers_differ);
+      differ = subst (IsDistinct nat_eq) (sym theirs) (some_differ (λ (s : Standing). ends_account s.order.account c.action) held.standings sound.numbers_differ);
     } in
-    stands_then policy history (steps.Asked a) r before.ledger new (ones.EndsAll (actions.Kill account)) (asked_next policy history a r before t) does
-    (subst (StandsFor policy new) (all_are_ended policy held (actions.Kill account) (ended_orders account live) sound theirs)
-    (subst (λ (d : OrdersData). ClosesAll (ended_orders account d.live) before.ledger new) t.in_force.orders closes policy held t.in_force.ledger sound are_held))
+    stands_then policy history (steps.Asked a) r before.ledger new (ones.EndsAll c.action) (asked_next policy history a r before t) does
+    (subst (StandsFor policy new) (all_are_ended policy held c.action (ended_orders c.action live) sound theirs)
+    (subst (λ (d : OrdersData). ClosesAll (ended_orders c.action d.live) before.ledger new) t.in_force.orders closes policy held t.in_force.ledger sound are_held))
 
 -- ---- a fill
 

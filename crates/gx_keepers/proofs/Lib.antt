@@ -1,5 +1,6 @@
 pub mod Beginning
 pub mod Carrying
+pub mod Commanded
 pub mod Cutting
 pub mod Figuring
 pub mod Keepings

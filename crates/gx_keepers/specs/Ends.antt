@@ -1,28 +1,90 @@
--- What users are told of live orders that a Kill ends.
-use Rattle.std.specs.Prelude.{ℕ, ◌≤◌, List, length, map}
+-- What a granted command owes: of live orders that it ends, of the end of the day, and its answer; and which orders it leaves.
+use Rattle.std.specs.Prelude.{ℕ, ◌≤◌, Bool, List, [], ◌∷◌, ◌++◌, Some, length, map}
 use Rattle.std.specs.List.{filter}
-use Rattle.gx_units.specs.Names.{same_account}
-use Rattle.gx_units.specs.declared.names.AccountName.{AccountName}
 use Rattle.gx_units.specs.declared.names.UserName.{UserName}
+use Rattle.gx_desk.specs.declared.Action.{Action}
+use Rattle.gx_desk.specs.declared.Action.TheVariants as actions
+use Rattle.gx_desk.specs.declared.AnswerCode.TheVariants as codes
+use Rattle.gx_desk.specs.declared.Command.{Command}
+use Rattle.gx_history.specs.declared.policy.PolicyData.{PolicyData}
+use Rattle.gx_history.specs.declared.policy.User.{User}
+use Rattle.gx_history.specs.declared.record.RecordData.{RecordData}
 use Rattle.gx_history.specs.declared.report.Report.{Report}
+use Rattle.gx_history.specs.Orders.{ends_account}
+use Rattle.gx_history.specs.People.{is_trader}
 use Rattle.gx_orders.specs.declared.live_order.LiveOrder.{LiveOrder}
 use Rattle.gx_orders.specs.Changes.{ended_message}
+use Rattle.gx_orders.specs.LiveOrders.{of_others}
 use Rattle.gx_streams.specs.Kept.{places_in}
 use Rattle.gx_streams.specs.Streams.{AllStreams}
 use Rattle.gx_streams.specs.Telling.{owed_to, with_all_owed}
+use Rattle.gx_keepers.specs.declared.next_record.NextRecord.{NextRecord}
+use Rattle.gx_keepers.specs.Messages.{answer_message, day_end_message}
+
+-- the command ends the order
+abbrev pub is_ended : Action → LiveOrder → Bool
+is_ended action o = ends_account o.account action
+
+-- the orders that it leaves, in their places
+abbrev pub live_left : Action → List LiveOrder → List LiveOrder
+live_left (actions.Kill account) live = of_others account live
+live_left actions.CloseDay live = []
+live_left other live = live
 
 -- the report that the order has ended, for its user
 abbrev pub owed_by_end : ℕ → LiveOrder → UserName × Report
 owed_by_end moment o = (o.user, record { timestamp = moment; message = ended_message o })
 
--- for each live order of the account, by number
-abbrev pub owed_by_ends : AccountName → ℕ → List LiveOrder → List (UserName × Report)
-owed_by_ends account moment live = map (owed_by_end moment) (filter (λ (o : LiveOrder). same_account account o.account) live)
+-- for each live order that the command ends, by number
+abbrev pub owed_by_ends : Action → ℕ → List LiveOrder → List (UserName × Report)
+owed_by_ends action moment live = map (owed_by_end moment) (filter (is_ended action) live)
+
+-- the user trades for an account
+abbrev pub trades : User → Bool
+trades u = is_trader (Some u.role)
+
+-- the end of the day, for the user
+abbrev pub owed_by_day_end : ℕ → User → UserName × Report
+owed_by_day_end moment u = (u.name, record { timestamp = moment; message = day_end_message })
+
+-- for each of them who trades
+abbrev pub owed_by_day_ends : ℕ → List User → List (UserName × Report)
+owed_by_day_ends moment users = map (owed_by_day_end moment) (filter trades users)
+
+-- where the command closes the day
+abbrev pub owed_by_close : Action → ℕ → List User → List (UserName × Report)
+owed_by_close actions.CloseDay moment users = owed_by_day_ends moment users
+owed_by_close other moment users = []
+
+-- the answer, for the officer
+abbrev pub owed_by_answer : RecordData → UserName → Command → UserName × Report
+owed_by_answer r officer c = (officer, record { timestamp = r.moment; message = answer_message r c codes.Done })
+
+-- all that the record of a granted command owes: its answer comes last
+abbrev pub owed_by_command : PolicyData → RecordData → UserName → Command → List LiveOrder → List (UserName × Report)
+owed_by_command policy r officer c live =
+    owed_by_ends c.action r.moment live ++ (owed_by_close c.action r.moment policy.users ++ owed_by_answer r officer c ∷ [])
+
+-- where this is the next record
+abbrev pub owed_by_next : NextRecord → Command → List LiveOrder → List (UserName × Report)
+owed_by_next n c live = owed_by_command n.policy.now n.left.now n.asked.now.user c live
 
 -- each user has a place for each report that is for him
 abbrev pub HaveOwedPlaces : List (UserName × Report) → AllStreams → Type 0
 HaveOwedPlaces owed streams = (user : UserName) → length (owed_to owed user) ≤ places_in streams.told user
 
--- all of them told, in their order, in places that were kept
-abbrev pub told_of_ends : AccountName → ℕ → List LiveOrder → AllStreams → AllStreams
-told_of_ends account moment live streams = with_all_owed (owed_by_ends account moment live) streams
+-- the orders that end told to their users, in places that were kept
+abbrev pub told_of_ends : Action → ℕ → List LiveOrder → AllStreams → AllStreams
+told_of_ends action moment live streams = with_all_owed (owed_by_ends action moment live) streams
+
+-- the end of the day told to those who trade
+abbrev pub told_of_day_end : ℕ → List User → AllStreams → AllStreams
+told_of_day_end moment users streams = with_all_owed (owed_by_day_ends moment users) streams
+
+-- where the command closes the day
+abbrev pub told_of_close : Action → ℕ → List User → AllStreams → AllStreams
+told_of_close action moment users streams = with_all_owed (owed_by_close action moment users) streams
+
+-- all that the next record owes told
+abbrev pub told_by_next : NextRecord → Command → List LiveOrder → AllStreams → AllStreams
+told_by_next n c live streams = with_all_owed (owed_by_next n c live) streams

@@ -1,10 +1,12 @@
 -- What the keepers hold after these records.
-use Rattle.std.specs.Prelude.{◌≡◌, ℕ, ◌≤◌, IsTrue, IsFalse, IfSome, List, [], ◌∷◌, ◌++◌, length, Option, Some, None, is_some, option_and_then, if◌then◌else◌}
+use Rattle.std.specs.Prelude.{◌≡◌, ℕ, ◌+◌, ◌≤◌, IsTrue, IsFalse, IfSome, List, [], ◌∷◌, ◌++◌, length, Option, Some, None, is_some, option_and_then, if◌then◌else◌}
 use Rattle.std.specs.List.{filter}
+use Rattle.gx_units.specs.Names.{same_account}
 use Rattle.gx_units.specs.declared.names.AccountName.{AccountName}
 use Rattle.gx_units.specs.declared.names.UserName.{UserName}
 use Rattle.gx_desk.specs.declared.Action.{Action}
 use Rattle.gx_desk.specs.declared.Action.TheVariants as actions
+use Rattle.gx_history.specs.declared.policy.Role.{Role}
 use Rattle.gx_history.specs.declared.policy.Role.TheVariants as roles
 use Rattle.gx_history.specs.declared.policy.User.{User}
 use Rattle.gx_history.specs.declared.record.Asked.{Asked}
@@ -28,7 +30,7 @@ use Rattle.gx_market.specs.BookInForce.{book_in_force}
 use Rattle.gx_streams.specs.Telling.{shown, told_after}
 use Rattle.gx_orders.specs.declared.live_order.LiveOrder.{LiveOrder}
 use Rattle.gx_orders.specs.declared.live_order.UserToken.{UserToken}
-use Rattle.gx_orders.specs.Changes.{denied_token, marking}
+use Rattle.gx_orders.specs.Changes.{denied_token, is_lasting, marking}
 use Rattle.gx_orders.specs.LiveOrders.{OrdersData, is_of_user, is_used}
 use Rattle.gx_streams.specs.Kept.{is_known, places_in, with_kept_last}
 use Rattle.gx_streams.specs.Streams.{AllStreams, on_told}
@@ -60,14 +62,13 @@ pub record AreInForceBut (policy : PolicyData) (history : List RecordData) (r : 
   pub ledger : StandsForDay policy k.ledger (history ++ r ∷ [])
   pub streams : shown k.streams ≡ told_after policy (history ++ r ∷ [])
 
--- the account that an action kills
-abbrev pub killed_by_action : Action → Option AccountName
-killed_by_action (actions.Kill account) = Some account
-killed_by_action other = None
+-- the command, if it ends orders
+abbrev pub ending_command : Action → Option Action
+ending_command action = if is_lasting action then None else Some action
 
--- the account that a request of this verdict kills
-abbrev pub killed_account : Request → Verdict → Option AccountName
-killed_account q given = if is_granted given then option_and_then killed_by_action (action_of q) else None
+-- the command that ends orders, if a request of this verdict is one
+abbrev pub ending : Request → Verdict → Option Action
+ending q given = if is_granted given then option_and_then ending_command (action_of q) else None
 
 -- the streams know the policy's users
 abbrev pub KnowsUsers : PolicyData → AllStreams → Type 0
@@ -85,15 +86,33 @@ HaveNoFewer before after = (user : UserName) → places_in before.told user ≤ 
 abbrev pub HasPlaces : UserName → ℕ → AllStreams → Type 0
 HasPlaces user places streams = IsTrue (is_known streams.told user) → places ≤ places_in streams.told user
 
--- the user, if he trades for the account and is known, has a place for each of his live orders
-abbrev pub HasEndPlaces : AccountName → List LiveOrder → AllStreams → User → Type 0
-HasEndPlaces account live streams u =
-    u.role ≡ roles.Trader account → HasPlaces u.name (length (filter (is_of_user u.name) live)) streams
+-- so many places does a command that ends orders want for a trader of the account with so many live ones: one for each of them that ends, and one for the end of the day
+abbrev pub end_places : Action → AccountName → ℕ → ℕ
+end_places (actions.Kill killed) account orders = if same_account killed account then orders else 0
+end_places actions.CloseDay account orders = orders + 1
+end_places other account orders = 0
 
--- each trader of the account has a place for each of his live orders
-abbrev pub HaveEndPlaces : PolicyData → AccountName → List LiveOrder → AllStreams → Type 0
-HaveEndPlaces policy account live streams =
-    (user : UserName) → account_of policy user ≡ Some account → length (filter (is_of_user user) live) ≤ places_in streams.told user
+-- and for a user of this role
+abbrev pub role_places : Action → Role → ℕ → ℕ
+role_places action (roles.Trader account) orders = end_places action account orders
+role_places action other orders = 0
+
+-- how many of the live orders are the user's
+abbrev pub count_of : List LiveOrder → UserName → ℕ
+count_of live user = length (filter (is_of_user user) live)
+
+-- and for this user
+abbrev pub user_places : Action → List LiveOrder → User → ℕ
+user_places action live u = role_places action u.role (count_of live u.name)
+
+-- the user, if he is known, has the places that the command wants for him
+abbrev pub HasEndPlaces : Action → List LiveOrder → AllStreams → User → Type 0
+HasEndPlaces action live streams u = HasPlaces u.name (user_places action live u) streams
+
+-- each trader has the places that the command wants for him
+abbrev pub HaveEndPlaces : PolicyData → Action → List LiveOrder → AllStreams → Type 0
+HaveEndPlaces policy action live streams = (user : UserName) (account : AccountName)
+    → account_of policy user ≡ Some account → end_places action account (count_of live user) ≤ places_in streams.told user
 
 -- the token that the denial uses, if it uses one, was not used before
 abbrev pub IsUnused : List UserToken → Asked → RuleName → Type 0

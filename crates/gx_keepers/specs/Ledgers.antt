@@ -1,8 +1,7 @@
 -- What the ledger keeps by the records of a day, and what it is handed of live orders.
 use Rattle.std.specs.Prelude.{ℕ, ◌-◌, Bool, List, map}
 use Rattle.std.specs.List.{filter}
-use Rattle.gx_units.specs.Names.{same_account}
-use Rattle.gx_units.specs.declared.names.AccountName.{AccountName}
+use Rattle.gx_desk.specs.declared.Action.{Action}
 use Rattle.gx_history.specs.declared.policy.PolicyData.{PolicyData}
 use Rattle.gx_history.specs.declared.record.RecordData.{RecordData}
 use Rattle.gx_orders.specs.declared.live_order.LiveOrder.{LiveOrder}
@@ -11,6 +10,7 @@ use Rattle.gx_ledger.specs.declared.placed.OpenOrder.{OpenOrder}
 use Rattle.gx_ledger.specs.declared.placed.Placed.{Placed}
 use Rattle.gx_ledger.specs.Keeping.{Kept}
 use Rattle.gx_ledger.specs.StandsFor.{StandsFor}
+use Rattle.gx_keepers.specs.Ends.{is_ended}
 
 -- it has the figures of the live orders, the fills and the grants of the day
 abbrev pub StandsForDay : PolicyData → Kept → List RecordData → Type 0
@@ -40,7 +40,6 @@ placed o moment replacement = record {
   moment = moment;
 }
 
--- the live orders of the account, by number
-abbrev pub ended_orders : AccountName → List LiveOrder → List OpenOrder
-ended_orders account live =
-    map open_order (filter (λ (o : LiveOrder). same_account account o.account) live)
+-- the live orders that the command ends, by number
+abbrev pub ended_orders : Action → List LiveOrder → List OpenOrder
+ended_orders action live = map open_order (filter (is_ended action) live)

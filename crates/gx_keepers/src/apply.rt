@@ -3,33 +3,27 @@
 //! Each function begins with the one call that can be refused, if it makes one; nothing has changed
 //! then. What follows takes no memory: the places for reports were kept before.
 
-ghost use Rattle.std.specs.Prelude.{◌≡◌, OnOk, OnErr, IsTrue};
-ghost use Rattle.gx_desk.specs.declared.Action.TheVariants as actions;
+ghost use Rattle.std.specs.Prelude.{◌≡◌, OnOk, OnErr};
 ghost use Rattle.gx_history.specs.declared.record.Request.TheVariants as requests;
 ghost use Rattle.gx_history.specs.declared.record.Verdict.TheVariants as verdicts;
 ghost use Rattle.gx_market.specs.Changes.{cut_from};
 ghost use Rattle.gx_orders.specs.Changes.{replacement_order, waiting_order};
 ghost use Rattle.gx_keepers.specs.Keepers.{marked_by, AreAfter, AreAfterBut, AreBefore, IsNext};
 ghost use Rattle.gx_keepers.specs.Keepers.{IsPlaced, IsUnused};
-ghost use Rattle.gx_keepers.specs.Ends.{owed_by_ends, told_of_ends, HaveOwedPlaces};
-ghost use Rattle.gx_keepers.specs.Settings.{is_carried, is_carried_command};
 
-use crate::figures::{close_all_of, open_order, placed};
+use crate::commands::apply_command;
+use crate::figures::{open_order, placed};
 use crate::keepers::Keepers;
 use crate::listed::firm_of;
 use crate::next_record::NextRecord;
 use crate::places::keep_places;
-use crate::reports::{accepted, canceled, ended, rejected, replaced, tell};
+use crate::reports::{accepted, canceled, replaced, reports_of_denial, tell};
 use crate::request::denied_token;
-use crate::settings::apply_setting;
-use gx_desk::{Action, Command};
 use gx_history::policy::Policy;
 use gx_history::record::{Asked, RecordData, Request, RuleName, Verdict};
-use gx_history::report::Report;
 use gx_orders::live_order::LiveOrder;
 use gx_orders::orders::Orders;
 use gx_ouch::{CancelOrder, CancelReason, EnterOrder, OrderTerms, ReplaceOrder};
-use gx_streams::streams::Streams;
 use gx_units::{AccountName, Moment, OutOfMemory, UserName};
 
 /// Uses the token of a request that this rule denies, if the rule is one whose denials are
@@ -45,7 +39,8 @@ fn mark_denied(orders: &mut Orders, a: &Asked, rule: RuleName) -> Result<(), Out
     }
 }
 
-/// A denial: it uses the token and is told, where its rule is one whose denials are answered.
+/// A denial: it uses the token and is told to who asked, where its rule is one whose denials are
+/// answered.
 fn apply_denial(
     keepers: &mut Keepers,
     next: NextRecord<'_>,
@@ -58,7 +53,7 @@ fn apply_denial(
     ensures err { OnErr result (AreBefore next.entry keepers.new) }
 {
     mark_denied(&mut keepers.orders, next.asked, rule)?;
-    let message = rejected(next.policy, rule, &next.asked.request);
+    let message = reports_of_denial(next.policy, next.left, rule, &next.asked.request);
     tell(
         &mut keepers.streams,
         next.asked.user,
@@ -217,79 +212,11 @@ fn apply_replace(
     Ok(())
 }
 
-/// Tells each user, by number, of his live orders of the account, which end now.
-fn tell_of_ends(streams: &mut Streams, orders: &Orders, account: AccountName, moment: Moment)
-    requires { HaveOwedPlaces (owed_by_ends account moment orders.now.live) streams.old }
-    ensures { streams.new ≡ told_of_ends account moment orders.now.live streams.old }
-{
-    for order in orders.live() {
-        if account == order.account {
-            streams.append_reserved(
-                order.user,
-                Report {
-                    timestamp: moment,
-                    message: ended(order),
-                },
-            );
-        }
-    }
-}
-
-/// A granted Kill: the account is killed, each of its orders ends, leaves the book and is counted
-/// no more, and their users are told.
-fn apply_kill(keepers: &mut Keepers, next: NextRecord<'_>, c: &Command, account: AccountName)
-    requires takes { IsNext next keepers.old }
-    requires places { IsPlaced next keepers.old }
-    requires granted { next.left.now.verdict ≡ verdicts.Granted }
-    requires commands { next.asked.now.request ≡ requests.Command c.now }
-    requires kills { c.now.action ≡ actions.Kill account }
-    ensures { AreAfterBut next.entry keepers.new }
-{
-    tell_of_ends(
-        &mut keepers.streams,
-        &keepers.orders,
-        account,
-        next.left.moment,
-    );
-    close_all_of(&mut keepers.ledger, &keepers.orders, account);
-    keepers.orders.end_account(account);
-    keepers.book.remove_account(account);
-    keepers.day.kill(account);
-}
-
-/// A granted command.
-fn apply_command(
-    keepers: &mut Keepers,
-    next: NextRecord<'_>,
-    c: &Command,
-) -> Result<(), OutOfMemory>
-    requires takes { IsNext next keepers.old }
-    requires places { IsPlaced next keepers.old }
-    requires granted { next.left.now.verdict ≡ verdicts.Granted }
-    requires commands { next.asked.now.request ≡ requests.Command c.now }
-    requires carried { IsTrue (is_carried_command c.now.action) }
-    ensures ok { OnOk result (AreAfterBut next.entry keepers.new) }
-    ensures err { OnErr result (AreBefore next.entry keepers.new) }
-{
-    match c.action {
-        Action::Kill(account) => {
-            apply_kill(keepers, next, c, account);
-            Ok(())
-        }
-        Action::Lift(account) => {
-            keepers.day.lift(account);
-            Ok(())
-        }
-        _ => apply_setting(keepers, next, c),
-    }
-}
-
 /// A granted request.
 fn apply_grant(keepers: &mut Keepers, next: NextRecord<'_>) -> Result<(), OutOfMemory>
     requires takes { IsNext next keepers.old }
     requires places { IsPlaced next keepers.old }
     requires granted { next.left.now.verdict ≡ verdicts.Granted }
-    requires carried { IsTrue (is_carried next.asked.now.request) }
     ensures ok { OnOk result (AreAfterBut next.entry keepers.new) }
     ensures err { OnErr result (AreBefore next.entry keepers.new) }
 {
@@ -318,7 +245,6 @@ fn apply_grant(keepers: &mut Keepers, next: NextRecord<'_>) -> Result<(), OutOfM
 fn apply_verdict(keepers: &mut Keepers, next: NextRecord<'_>) -> Result<(), OutOfMemory>
     requires takes { IsNext next keepers.old }
     requires places { IsPlaced next keepers.old }
-    requires carried { IsTrue (is_carried next.asked.now.request) }
     ensures ok { OnOk result (AreAfterBut next.entry keepers.new) }
     ensures err { OnErr result (AreBefore next.entry keepers.new) }
 {
@@ -333,7 +259,6 @@ fn apply_verdict(keepers: &mut Keepers, next: NextRecord<'_>) -> Result<(), OutO
 fn apply(keepers: &mut Keepers, next: NextRecord<'_>) -> Result<(), OutOfMemory>
     requires takes { IsNext next keepers.old }
     requires places { IsPlaced next keepers.old }
-    requires carried { IsTrue (is_carried next.asked.now.request) }
     ensures ok { OnOk result (AreAfter next.entry keepers.new) }
     ensures err { OnErr result (AreBefore next.entry keepers.new) }
 {
@@ -350,7 +275,6 @@ fn apply(keepers: &mut Keepers, next: NextRecord<'_>) -> Result<(), OutOfMemory>
 /// they are as they were, but for places that were kept.
 pub fn carry_on(keepers: &mut Keepers, next: NextRecord<'_>) -> Result<(), OutOfMemory>
     requires takes { IsNext next keepers.old }
-    requires carried { IsTrue (is_carried next.asked.now.request) }
     ensures ok { OnOk result (AreAfter next.entry keepers.new) }
     ensures err { OnErr result (AreBefore next.entry keepers.new) }
 {

@@ -1,14 +1,11 @@
 //! What the ledger is handed of orders.
 
 ghost use Rattle.std.specs.Prelude.{◌≡◌};
-ghost use Rattle.gx_keepers.specs.Ledgers.{ended_orders, open_order, placed};
-ghost use Rattle.gx_ledger.specs.Following.{ClosesAll};
+ghost use Rattle.gx_keepers.specs.Ledgers.{open_order, placed};
 
-use gx_ledger::ledger::Ledger;
 use gx_ledger::placed::{OpenOrder, Placed};
 use gx_orders::live_order::LiveOrder;
-use gx_orders::orders::Orders;
-use gx_units::{AccountName, Moment};
+use gx_units::Moment;
 
 /// A live order, with what is open of it.
 pub fn open_order(order: &LiveOrder) -> OpenOrder
@@ -37,16 +34,5 @@ pub fn placed(order: &LiveOrder, moment: Moment, replacement: bool) -> Placed
         done: u64::from(order.done),
         replacement,
         moment,
-    }
-}
-
-/// Takes note that each live order of the account ends.
-pub fn close_all_of(ledger: &mut Ledger, orders: &Orders, account: AccountName)
-    ensures { ClosesAll (ended_orders account orders.now.live) ledger.old ledger.new }
-{
-    for order in orders.live() {
-        if account == order.account {
-            ledger.close(&open_order(order));
-        }
     }
 }

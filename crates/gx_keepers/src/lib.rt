@@ -8,6 +8,8 @@
 #![tactic(auto)]
 
 pub mod apply;
+mod commands;
+mod ends;
 mod figures;
 pub mod keepers;
 pub mod listed;

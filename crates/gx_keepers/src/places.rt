@@ -1,14 +1,15 @@
 //! Every place that a record can want, made before anything changes.
 
-ghost use Rattle.std.specs.Prelude.{◌≡◌, [], ◌∷◌, OnOk, IsTrue};
+ghost use Rattle.std.specs.Prelude.{◌≡◌, ◌≤◌, [], ◌∷◌, length, OnOk};
+ghost use Rattle.gx_history.specs.Verdicts.{day_limit};
 ghost use Rattle.gx_streams.specs.Telling.{shown};
-ghost use Rattle.gx_keepers.specs.Keepers.{killed_account, AreBefore, HasEndPlaces, IsNext};
-ghost use Rattle.gx_keepers.specs.Keepers.{IsPlaced, HasPlaces, HaveEndPlaces, HaveNoFewer};
-ghost use Rattle.gx_keepers.specs.Keepers.{KnowTheSame, KnowsUsers};
+ghost use Rattle.gx_keepers.specs.Keepers.{count_of, end_places, ending, user_places, AreBefore};
+ghost use Rattle.gx_keepers.specs.Keepers.{HasPlaces, HaveEndPlaces, HaveNoFewer, IsNext};
+ghost use Rattle.gx_keepers.specs.Keepers.{IsPlaced, KnowTheSame, KnowsUsers};
 ghost use Rattle.gx_keepers.specs.Matching.{AreBeforeMatch, HavePlacesEach, IsMatchPlaced};
 ghost use Rattle.gx_keepers.specs.Matching.{IsNextMatch};
-ghost use Rattle.gx_keepers.specs.Settings.{is_carried};
 
+use crate::ends::is_lasting;
 use crate::keepers::Keepers;
 use crate::next_record::{NextMatch, NextRecord};
 use gx_desk::Action;
@@ -18,15 +19,18 @@ use gx_orders::orders::Orders;
 use gx_streams::streams::Streams;
 use gx_units::{AccountName, OutOfMemory, UserName};
 
-/// The account that a request of this verdict kills.
-fn killed_account(request: &Request, given: Verdict) -> Option<AccountName>
-    ensures { result ≡ killed_account request.now given }
+/// The command that ends orders, if a request of this verdict is one.
+fn ending(request: &Request, given: Verdict) -> Option<Action>
+    ensures { result ≡ ending request.now given }
 {
     match (given, request) {
-        (Verdict::Granted, Request::Command(c)) => match c.action {
-            Action::Kill(account) => Some(account),
-            _ => None,
-        },
+        (Verdict::Granted, Request::Command(c)) => {
+            if is_lasting(&c.action) {
+                None
+            } else {
+                Some(c.action)
+            }
+        }
         _ => None,
     }
 }
@@ -45,58 +49,71 @@ fn keep(streams: &mut Streams, user: UserName, places: usize) -> Result<(), OutO
     Ok(())
 }
 
-/// Keeps a place for each live order of the user, if he trades for the account.
-fn keep_for_trader(
-    streams: &mut Streams,
-    orders: &Orders,
-    user: &User,
-    account: AccountName,
-) -> Result<(), OutOfMemory>
-    ensures shown { shown streams.new ≡ shown streams.old }
-    ensures known { KnowTheSame streams.old streams.new }
-    ensures more { HaveNoFewer streams.old streams.new }
-    ensures places { OnOk result (HasEndPlaces account orders.now.live streams.new user.now) }
+/// How many places a command that ends orders wants for a trader of the account: one for each live
+/// order of his that it ends, and one for the end of the day, if it closes the day.
+fn end_places(orders: &Orders, user: UserName, account: AccountName, action: &Action) -> usize
+    requires few { length orders.now.live ≤ day_limit }
+    ensures { result ≡ end_places action.now account (count_of orders.now.live user) }
 {
-    match user.role {
-        Role::Trader(named) if named == account => {
-            keep(streams, user.name, orders.count_of(user.name))
+    match *action {
+        Action::Kill(killed) => {
+            if killed == account {
+                orders.count_of(user)
+            } else {
+                0
+            }
         }
-        _ => Ok(()),
+        Action::CloseDay => orders.count_of(user) + 1,
+        _ => 0,
     }
 }
 
-/// Keeps places for what a Kill of the account tells its traders: one for each live order of
-/// theirs.
+/// How many it wants for the user.
+fn user_places(orders: &Orders, user: &User, action: &Action) -> usize
+    requires few { length orders.now.live ≤ day_limit }
+    ensures { result ≡ user_places action.now orders.now.live user.now }
+{
+    match user.role {
+        Role::Trader(account) => end_places(orders, user.name, account, action),
+        _ => 0,
+    }
+}
+
+/// Keeps the places that a command which ends orders wants for the traders.
 fn keep_for_ends(
     streams: &mut Streams,
     orders: &Orders,
     policy: &Policy,
-    account: AccountName,
+    action: &Action,
 ) -> Result<(), OutOfMemory>
     requires known { KnowsUsers policy.now streams.old }
+    requires few { length orders.now.live ≤ day_limit }
     ensures shown { shown streams.new ≡ shown streams.old }
-    ensures places { OnOk result (HaveEndPlaces policy.now account orders.now.live streams.new) }
+    ensures more { HaveNoFewer streams.old streams.new }
+    ensures places { OnOk result (HaveEndPlaces policy.now action.now orders.now.live streams.new) }
 {
     for user in policy.users() {
-        keep_for_trader(streams, orders, user, account)?;
+        keep(streams, user.name, user_places(orders, user, action))?;
     }
     Ok(())
 }
 
-/// Keeps a place for each report that the record owes.
+/// Keeps a place for each report that the record owes: one for who asked, and those for what ends.
 ///
 /// # Errors
 ///
 /// `OutOfMemory`: some stream could not grow, and nobody was told anything.
 pub fn keep_places(keepers: &mut Keepers, next: NextRecord<'_>) -> Result<(), OutOfMemory>
     requires takes { IsNext next keepers.old }
-    requires carried { IsTrue (is_carried next.asked.now.request) }
     ensures kept { AreBefore next.entry keepers.new }
     ensures places { OnOk result (IsPlaced next.entry keepers.new) }
 {
-    match killed_account(&next.asked.request, next.left.verdict) {
-        Some(account) => keep_for_ends(&mut keepers.streams, &keepers.orders, next.policy, account),
-        None => keep(&mut keepers.streams, next.asked.user, 1),
+    keep(&mut keepers.streams, next.asked.user, 1)?;
+    match ending(&next.asked.request, next.left.verdict) {
+        Some(action) => {
+            keep_for_ends(&mut keepers.streams, &keepers.orders, next.policy, &action)
+        }
+        None => Ok(()),
     }
 }
 

@@ -1,23 +1,25 @@
-//! What users are told: the messages of OUCH, from orders, fills and denials.
+//! What users are told: the messages of OUCH, from orders, fills and denials, and the answers to
+//! officers.
 
 ghost use Rattle.std.specs.Prelude.{◌≡◌, ◌<◌, option_copied, find, option_to_list, IfSome};
 ghost use Rattle.gx_units.specs.Names.{same_rule};
-ghost use Rattle.gx_history.specs.Reasons.{kind_reason, reject_reason};
-ghost use Rattle.gx_history.specs.Streams.{rejected};
+ghost use Rattle.gx_history.specs.Reasons.{denial_code, kind_reason, reject_reason};
+ghost use Rattle.gx_history.specs.Streams.{rejected, reports_of_denial};
 ghost use Rattle.gx_orders.specs.Changes.{ended_message};
 ghost use Rattle.gx_streams.specs.Kept.{places_in};
 ghost use Rattle.gx_keepers.specs.Keepers.{with_told};
-ghost use Rattle.gx_keepers.specs.Messages.{accepted_message, canceled_message, executed_message};
-ghost use Rattle.gx_keepers.specs.Messages.{replaced_message};
+ghost use Rattle.gx_keepers.specs.Messages.{accepted_message, answer_message, canceled_message};
+ghost use Rattle.gx_keepers.specs.Messages.{day_end_message, executed_message, replaced_message};
 
 use crate::request::new_token;
+use gx_desk::{Answer, AnswerCode, Command};
 use gx_history::policy::{FileRule, Policy, RuleKind};
 use gx_history::record::{Fill, RecordData, Request, RuleName};
 use gx_history::report::{Message, Report};
 use gx_orders::live_order::LiveOrder;
 use gx_ouch::{
-    Accepted, CancelReason, Canceled, Executed, Liquidity, OrderTerms, Outbound, RejectReason,
-    Rejected, Replaced,
+    Accepted, CancelReason, Canceled, EventCode, Executed, Liquidity, OrderTerms, Outbound,
+    RejectReason, Rejected, Replaced,
 };
 use gx_streams::streams::Streams;
 use gx_units::{Moment, RuleId, Token, UserName};
@@ -81,12 +83,64 @@ fn reject_reason(policy: &Policy, rule: RuleName) -> Option<RejectReason>
 
 /// Rejected: to who asked for an order that a rule denies, if the rule is one whose denial is
 /// answered.
-pub fn rejected(policy: &Policy, rule: RuleName, request: &Request) -> Option<Message>
+fn rejected(policy: &Policy, rule: RuleName, request: &Request) -> Option<Message>
     ensures { option_to_list result ≡ rejected policy.now request.now rule }
 {
     let token = new_token(request)?;
     let reason = reject_reason(policy, rule)?;
     Some(Message::Order(Outbound::Rejected(Rejected { token, reason })))
+}
+
+/// Answer: to the officer whose command the record grants, or denies by a rule of this code.
+pub fn answer(left: &RecordData, c: &Command, code: AnswerCode) -> Message
+    ensures { result ≡ answer_message left.now c.now code }
+{
+    Message::Answer(Answer {
+        tag: c.tag,
+        command_type: c.action.command_type(),
+        code,
+        record_number: left.number,
+    })
+}
+
+/// The code of the answer to a command that this rule denies; None for a rule whose denial is told
+/// nobody.
+fn denial_code(rule: RuleName) -> Option<AnswerCode>
+    ensures { result ≡ denial_code rule }
+{
+    match rule {
+        RuleName::Q1 => Some(AnswerCode::UnknownName),
+        RuleName::Q2 => Some(AnswerCode::NoPower),
+        RuleName::Q3 => Some(AnswerCode::NotHisAccount),
+        RuleName::Q4 => Some(AnswerCode::NoChange),
+        _ => None,
+    }
+}
+
+/// What a denial tells who asked: Answer of a command, and Rejected of an order, if the rule is one
+/// whose denial is told.
+pub fn reports_of_denial(
+    policy: &Policy,
+    left: &RecordData,
+    rule: RuleName,
+    request: &Request,
+) -> Option<Message>
+    ensures { option_to_list result ≡ reports_of_denial policy.now left.now rule request.now }
+{
+    match request {
+        Request::Command(c) => {
+            let code = denial_code(rule)?;
+            Some(answer(left, c, code))
+        }
+        _ => rejected(policy, rule, request),
+    }
+}
+
+/// System Event: to a trader, at the end of the day.
+pub fn day_end() -> Message
+    ensures { result ≡ day_end_message }
+{
+    Message::Order(Outbound::SystemEvent(EventCode::EndOfDay))
 }
 
 /// Accepted: to who asked for the order.

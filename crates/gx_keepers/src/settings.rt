@@ -1,17 +1,12 @@
 //! Limits, lists of stocks and entitlements, as officers change them.
 
-ghost use Rattle.std.specs.Prelude.{◌≡◌, OnOk, OnErr, IsTrue};
+ghost use Rattle.std.specs.Prelude.{◌≡◌, OnOk, OnErr};
 ghost use Rattle.gx_desk.specs.declared.Action.TheVariants as actions;
-ghost use Rattle.gx_history.specs.declared.record.Request.TheVariants as requests;
-ghost use Rattle.gx_history.specs.declared.record.Verdict.TheVariants as verdicts;
 ghost use Rattle.gx_history.specs.InForce.{changed};
 ghost use Rattle.gx_people.specs.Entitled.{given};
-ghost use Rattle.gx_keepers.specs.Keepers.{AreAfterBut, AreBefore, IsNext};
-ghost use Rattle.gx_keepers.specs.Settings.{is_setting, HasSetting};
+ghost use Rattle.gx_keepers.specs.Settings.{HasSetting};
 
-use crate::keepers::Keepers;
-use crate::next_record::NextRecord;
-use gx_desk::{Action, Command, WrittenName};
+use gx_desk::{Action, WrittenName};
 use gx_people::people::People;
 use gx_rules::RuleBook;
 use gx_units::{AccountName, OutOfMemory};
@@ -44,7 +39,7 @@ fn revoke(people: &mut People, written: WrittenName, account: AccountName)
 ///
 /// `OutOfMemory`: there was no memory for one more account, or for one more stock, and nothing has
 /// changed.
-fn set(people: &mut People, rules: &mut RuleBook, action: &Action) -> Result<(), OutOfMemory>
+pub fn set(people: &mut People, rules: &mut RuleBook, action: &Action) -> Result<(), OutOfMemory>
     requires known { HasSetting rules.old action.now }
     ensures people { OnOk result (people.new ≡ given people.old action.now) }
     ensures rules { OnOk result (rules.new ≡ changed rules.old action.now) }
@@ -59,27 +54,5 @@ fn set(people: &mut People, rules: &mut RuleBook, action: &Action) -> Result<(),
         Action::Revoke(reader, account) => revoke(people, reader, account),
         Action::Kill(_) | Action::Lift(_) | Action::CloseDay => {}
     }
-    Ok(())
-}
-
-/// A granted change of a limit, of a list or of what a reader sees: it is in force from the next
-/// record on.
-///
-/// # Errors
-///
-/// `OutOfMemory`: as above, and nothing has changed.
-pub fn apply_setting(
-    keepers: &mut Keepers,
-    next: NextRecord<'_>,
-    c: &Command,
-) -> Result<(), OutOfMemory>
-    requires takes { IsNext next keepers.old }
-    requires granted { next.left.now.verdict ≡ verdicts.Granted }
-    requires commands { next.asked.now.request ≡ requests.Command c.now }
-    requires sets { IsTrue (is_setting c.now.action) }
-    ensures ok { OnOk result (AreAfterBut next.entry keepers.new) }
-    ensures err { OnErr result (AreBefore next.entry keepers.new) }
-{
-    set(&mut keepers.people, &mut keepers.rules, &c.action)?;
     Ok(())
 }

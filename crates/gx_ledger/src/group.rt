@@ -49,10 +49,11 @@ fn is_like(request: &Request, entered: &Entered) -> bool
 {
     match request {
         Request::Enter(m) => {
-            entered.side == m.side
+            // the price differs most often
+            entered.price == m.price
                 && entered.shares == m.shares
+                && entered.side == m.side
                 && entered.stock == m.stock
-                && entered.price == m.price
         }
         _ => false,
     }

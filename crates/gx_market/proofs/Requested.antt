@@ -159,7 +159,7 @@ replaces_take policy history a r m o legal left asks granted named = replaced_by
         (sym (named_is_kept policy history (standing_under (live_orders policy history) a.user m.existing_token) t.old o t.is_named (under_is policy history a.user m.existing_token ∙ named)))
 
 -- a command
-ends_by : (policy : PolicyData) (history : List RecordData) (a : Asked) (r : RecordData) (action : Action) → IsLegal policy history → next policy history (steps.Asked a) ≡ Some r → r.verdict ≡ verdicts.Granted
+pub ends_by : (policy : PolicyData) (history : List RecordData) (a : Asked) (r : RecordData) (action : Action) → IsLegal policy history → next policy history (steps.Asked a) ≡ Some r → r.verdict ≡ verdicts.Granted
     → (q : Request) → a.request ≡ q → action_of q ≡ Some action → book_in_force policy (history ++ r ∷ []) ≡ book_with (EndsAll action) (book_in_force policy history)
 ends_by policy history a r action legal left granted (requests.Login m) asks h = cc
 ends_by policy history a r action legal left granted requests.Logout asks h = cc

@@ -16,3 +16,4 @@ pub use letters::{CancelReason, EventCode, Liquidity, RejectReason};
 pub use outbound::{
     Accepted, Canceled, Executed, MESSAGE_ROOM, OrderTerms, Outbound, Rejected, Replaced,
 };
+pub use reading::text;

@@ -86,7 +86,7 @@ fn cancel_order(bytes: &[u8]) -> CancelOrder
 }
 
 /// The bytes of a field.
-fn text<const N: usize>(field: &[u8]) -> [u8; N]
+pub fn text<const N: usize>(field: &[u8]) -> [u8; N]
     requires { length field.now ≡ N }
     ensures { result ≡ field.now }
 {

@@ -24,7 +24,8 @@ impl Outbound {
         ensures len { result ≡ (outbound_layout self.now).size }
         ensures within { result ≤ MESSAGE_ROOM }
         ensures bytes { take result room.new ≡ outbound_bytes timestamp self.now }
-        ensures fields { LiesIn (outbound_layout self.now) (outbound_contents timestamp self.now) (take result room.new) }
+        ensures fields { LiesIn (outbound_layout self.now) (outbound_contents timestamp self.now)
+            (take result room.new) }
         ensures rest { drop result room.new ≡ drop result room.old }
     {
         self.draft(timestamp).copy_to(room)
@@ -70,8 +71,10 @@ impl OrderTerms {
     /// Writes what Accepted and Replaced say alike of an order.
     fn put(&self, order_reference: u64, draft: &mut Draft)
         requires { length draft.old ≡ 23 }
-        ensures bytes { draft.new ≡ with_fields draft.old (order_contents self.now order_reference) }
-        ensures sizes { map length (order_contents self.now order_reference) ≡ map (λ place. place.size) order_fields }
+        ensures bytes { draft.new
+            ≡ with_fields draft.old (order_contents self.now order_reference) }
+        ensures sizes { map length (order_contents self.now order_reference)
+            ≡ map (λ place. place.size) order_fields }
         ensures len { length draft.new ≡ 65 }
     {
         draft.put(&[self.side]);
@@ -93,7 +96,8 @@ impl OrderTerms {
 impl Accepted {
     fn put(&self, draft: &mut Draft)
         requires { length draft.old ≡ 9 }
-        ensures bytes { draft.new ≡ with_fields draft.old (contents_behind (outbounds.Accepted self.now)) }
+        ensures bytes { draft.new
+            ≡ with_fields draft.old (contents_behind (outbounds.Accepted self.now)) }
         ensures sizes { HasSizes accepted (outbound_contents 0 (outbounds.Accepted self.now)) }
         ensures len { length draft.new ≡ 66 }
     {
@@ -106,7 +110,8 @@ impl Accepted {
 impl Replaced {
     fn put(&self, draft: &mut Draft)
         requires { length draft.old ≡ 9 }
-        ensures bytes { draft.new ≡ with_fields draft.old (contents_behind (outbounds.Replaced self.now)) }
+        ensures bytes { draft.new
+            ≡ with_fields draft.old (contents_behind (outbounds.Replaced self.now)) }
         ensures sizes { HasSizes replaced (outbound_contents 0 (outbounds.Replaced self.now)) }
         ensures len { length draft.new ≡ 80 }
     {
@@ -120,7 +125,8 @@ impl Replaced {
 impl Canceled {
     fn put(&self, draft: &mut Draft)
         requires { length draft.old ≡ 9 }
-        ensures bytes { draft.new ≡ with_fields draft.old (contents_behind (outbounds.Canceled self.now)) }
+        ensures bytes { draft.new
+            ≡ with_fields draft.old (contents_behind (outbounds.Canceled self.now)) }
         ensures sizes { HasSizes canceled (outbound_contents 0 (outbounds.Canceled self.now)) }
         ensures len { length draft.new ≡ 28 }
     {
@@ -133,7 +139,8 @@ impl Canceled {
 impl Executed {
     fn put(&self, draft: &mut Draft)
         requires { length draft.old ≡ 9 }
-        ensures bytes { draft.new ≡ with_fields draft.old (contents_behind (outbounds.Executed self.now)) }
+        ensures bytes { draft.new
+            ≡ with_fields draft.old (contents_behind (outbounds.Executed self.now)) }
         ensures sizes { HasSizes executed (outbound_contents 0 (outbounds.Executed self.now)) }
         ensures len { length draft.new ≡ 40 }
     {
@@ -148,7 +155,8 @@ impl Executed {
 impl Rejected {
     fn put(&self, draft: &mut Draft)
         requires { length draft.old ≡ 9 }
-        ensures bytes { draft.new ≡ with_fields draft.old (contents_behind (outbounds.Rejected self.now)) }
+        ensures bytes { draft.new
+            ≡ with_fields draft.old (contents_behind (outbounds.Rejected self.now)) }
         ensures sizes { HasSizes rejected (outbound_contents 0 (outbounds.Rejected self.now)) }
         ensures len { length draft.new ≡ 24 }
     {

@@ -169,7 +169,9 @@ impl People {
     pub fn grant(&mut self, reader: UserName, account: AccountName) -> Result<(), OutOfMemory>
         requires known { IsTrue (is_reader (role_in self.old reader)) }
         ensures granted { OnOk result (self.new ≡ granted_to reader account self.old) }
-        ensures pair { OnOk result ((user : UserName) (other : AccountName) → sees self.new user other ≡ ((same_user user reader && same_account other account) || sees self.old user other)) }
+        ensures pair { OnOk result ((user : UserName) (other : AccountName)
+            → sees self.new user other ≡ ((same_user user reader && same_account other account)
+            || sees self.old user other)) }
         ensures again { IsTrue (sees self.old reader account) → IsOk result }
         ensures unchanged { OnErr result (self.new ≡ self.old) }
     {
@@ -183,7 +185,9 @@ impl People {
     pub fn revoke(&mut self, reader: UserName, account: AccountName)
         requires known { IsTrue (is_reader (role_in self.old reader)) }
         ensures revoked { self.new ≡ revoked_from reader account self.old }
-        ensures pair { (user : UserName) (other : AccountName) → sees self.new user other ≡ (not (same_user user reader && same_account other account) && sees self.old user other) }
+        ensures pair { (user : UserName) (other : AccountName) → sees self.new user other
+            ≡ (not (same_user user reader && same_account other account)
+            && sees self.old user other) }
     {
         let Some(person) = self.by_name.get_mut(&reader) else {
             return;

@@ -72,7 +72,8 @@ impl Standing {
 
     /// Gives a reader the account.
     pub(crate) fn grant(&mut self, account: AccountName) -> Result<(), OutOfMemory>
-        ensures granted { OnOk result (role_of_standing self.new ≡ with_account account (role_of_standing self.old)) }
+        ensures granted { OnOk result (role_of_standing self.new
+            ≡ with_account account (role_of_standing self.old)) }
         ensures again { IsTrue (in_role (role_of_standing self.old) account) → IsOk result }
         ensures unchanged { OnErr result (role_of_standing self.new ≡ role_of_standing self.old) }
     {

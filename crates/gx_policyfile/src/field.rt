@@ -67,7 +67,8 @@ fn unknown_key(entry: &Table, keys: &'static [&'static str]) -> PolicyFault
 
 /// Refuses any key but these.
 pub fn only_keys(entry: &Table, keys: &'static [&'static str]) -> Result<(), PolicyFault>
-    ensures { Gives (λ _. tt) result (only_keys (map (λ k. k.now) keys.now) (table_view entry.now)) }
+    ensures { Gives (λ _. tt) result (only_keys (map (λ k. k.now) keys.now)
+        (table_view entry.now)) }
 {
     if has_only(entry, keys) {
         Ok(())
@@ -137,7 +138,8 @@ pub fn number_at(
 
 /// The text of a string of one to `most` of these letters.
 fn text(value: &Value, letters: Letters, most: usize) -> Option<&[u8]>
-    ensures value { ok_or (option_map (λ s. s.now) result) BadValue ≡ text letters most (view value.now) }
+    ensures value { ok_or (option_map (λ s. s.now) result) BadValue
+        ≡ text letters most (view value.now) }
     ensures len { IfSome result (λ s. length s.now ≤ most) }
 {
     match value.as_str() {
@@ -192,7 +194,8 @@ fn word_in<T: Copy>(words: &[(&str, T)], s: &str) -> Option<T>
 
 /// What the value means, where it is one of these words.
 pub fn choice<T: Copy>(value: &Value, words: &[(&str, T)]) -> Option<T>
-    ensures { ok_or result BadValue ≡ choice (map (λ w. (w.0.now, w.1)) words.now) (view value.now) }
+    ensures { ok_or result BadValue
+        ≡ choice (map (λ w. (w.0.now, w.1)) words.now) (view value.now) }
 {
     match value.as_str() {
         Some(s) => word_in(words, s),
@@ -219,7 +222,8 @@ pub fn choice_at<T: Copy>(
 
 /// The word of a key, if it has one of these.
 pub fn word_at<T: Copy>(entry: &Table, key: &str, words: &[(&str, T)]) -> Option<T>
-    ensures { result ≡ word_at key.now (map (λ w. (w.0.now, w.1)) words.now) (table_view entry.now) }
+    ensures { result ≡ word_at key.now (map (λ w. (w.0.now, w.1)) words.now)
+        (table_view entry.now) }
 {
     match find(entry, key) {
         Some(value) => match value.as_str() {

@@ -143,7 +143,8 @@ fn each<E: Entry>(
     tables: &[&Table],
 ) -> Result<Vec<E>, PolicyFault>
     ensures { Gives (λ v. v.items) result
-        (each E.is_same (E.meant accounts.now stocks.now) [] (map (λ t. table_view t.now) tables.now)) }
+        (each E.is_same (E.meant accounts.now stocks.now) []
+        (map (λ t. table_view t.now) tables.now)) }
 {
     let mut found = Vec::new(alloc);
     for table in tables {
@@ -171,7 +172,8 @@ pub fn entries<E: Entry>(
     tables: &[&Table],
 ) -> Result<Vec<E>, PolicyFault>
     ensures { Gives (λ v. v.items) result
-        (place_of most E.is_same (E.meant accounts.now stocks.now) (map (λ t. table_view t.now) tables.now)) }
+        (place_of most E.is_same (E.meant accounts.now stocks.now)
+        (map (λ t. table_view t.now) tables.now)) }
 {
     if tables.len() > most {
         return Err(PolicyFault::at(FaultKind::TooMany, place, Allowed::Entries(most)));

@@ -20,7 +20,7 @@ use Rattle.gx_effects.proofs.Entered.{all_mapped}
 use Rattle.gx_effects.proofs.Known.{number_in, standings_apart}
 use Rattle.gx_effects.proofs.Orderly.{legal_is_orderly}
 use Rattle.gx_positions.specs.Changing.{live_positions}
-use Rattle.gx_positions.specs.Laws.{PositionsAreSound}
+use Rattle.gx_positions.specs.Laws.{LiveOrdersAreFew, PositionsAreSound}
 use Rattle.gx_positions.specs.Sound.{IsLive, SumsFit, anyone, numbers_of}
 use Rattle.gx_positions.proofs.Coming.{IsSmall, of_live}
 use Rattle.gx_positions.proofs.Sized.{IsSized, legal_is_sized}
@@ -50,6 +50,10 @@ few_live policy history =
     let some : length (live_orders policy history) ≤ length (standings policy history) = few_pass is_live (standings policy history) in
     let all : length (standings policy history) ≡ length (orders policy history) = length-map (orders policy history) (standing (executions policy history) history) in
     omega (arith, some, all)
+
+-- nor than a day has records
+pub live_are_few : LiveOrdersAreFew
+live_are_few policy history legal = omega (arith, few_live policy history, (legal_is_sized policy history legal).few_orders.1)
 
 fits : (sum n : ℕ) → sum ≤ n * 2 ^ 64 → n ≤ day_limit + day_limit → sum < 2 ^ 128
 fits sum n within few = omega (arith, within, few)

@@ -1,5 +1,5 @@
 -- What the figures are taken from, in every legal history.
-use Rattle.std.specs.Prelude.{ℕ, ◌≡◌, List, [], ◌∷◌, ◌++◌, Some}
+use Rattle.std.specs.Prelude.{ℕ, ◌≡◌, ◌≤◌, length, List, [], ◌∷◌, ◌++◌, Some}
 use Rattle.gx_units.specs.declared.names.AccountName.{AccountName}
 use Rattle.gx_units.specs.declared.names.UserName.{UserName}
 use Rattle.gx_history.specs.declared.policy.FileRule.{FileRule}
@@ -8,9 +8,9 @@ use Rattle.gx_history.specs.declared.record.RecordData.{RecordData}
 use Rattle.gx_history.specs.declared.record.Request.{Request}
 use Rattle.gx_history.specs.declared.record.Step.{Step}
 use Rattle.gx_history.specs.Asking.{live_named}
-use Rattle.gx_history.specs.Executions.{Standing}
+use Rattle.gx_history.specs.Executions.{Standing, live_orders}
 use Rattle.gx_history.specs.Figures.{figures, positions}
-use Rattle.gx_history.specs.Verdicts.{IsLegal, next}
+use Rattle.gx_history.specs.Verdicts.{IsLegal, day_limit, next}
 use Rattle.gx_effects.specs.OneMore.{change_of}
 use Rattle.gx_positions.specs.Changing.{live_positions, nothing, positions_with}
 use Rattle.gx_positions.specs.Sound.{AreSound, MayChange}
@@ -33,6 +33,10 @@ RecordsMayCome = (policy : PolicyData) (history : List RecordData) (step : Step)
 -- numbers differ, stocks are listed, moments never fall, and the sums fit
 abbrev pub PositionsAreSound : Type 0
 PositionsAreSound = (policy : PolicyData) (history : List RecordData) → IsLegal policy history → AreSound policy (live_positions policy history)
+
+-- no more orders are live than a day has records
+abbrev pub LiveOrdersAreFew : Type 0
+LiveOrdersAreFew = (policy : PolicyData) (history : List RecordData) → IsLegal policy history → length (live_orders policy history) ≤ day_limit
 
 -- a rule's figures for a request that may replace the live order which it names
 abbrev pub FiguresAreOfLiveOrders : Type 0

@@ -76,7 +76,7 @@ pub record MayReplace (policy : PolicyData) (held : Positions) (number : ℕ) (n
   pub is_his : new.order.account ≡ old.order.account
   pub may_come : MayCome policy held new
 
--- a fill between two live orders of one stock, at the price of the maker's, which is no worse than the taker's
+-- a fill between two live orders of one stock, of shares that both have open
 pub record MayFill (held : Positions) (f : Fill) : Type 0 where
   pub taker : Standing
   pub maker : Standing

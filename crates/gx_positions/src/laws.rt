@@ -1,7 +1,8 @@
 //! Laws of what the figures are taken from, each as what a function without a body ensures.
 
 ghost use Rattle.gx_positions.specs.Laws.{DaysBeginEmpty, FiguresAreOfLiveOrders};
-ghost use Rattle.gx_positions.specs.Laws.{PositionsAreSound, PositionsGoOn, RecordsMayCome};
+ghost use Rattle.gx_positions.specs.Laws.{LiveOrdersAreFew, PositionsAreSound, PositionsGoOn};
+ghost use Rattle.gx_positions.specs.Laws.{RecordsMayCome};
 
 /// A day begins without an order.
 pub fn days_begin_empty()
@@ -16,9 +17,11 @@ pub fn positions_go_on()
 {}
 
 /// In every legal history the numbers of live orders differ, their stocks are listed, moments do
-/// not fall from grant to grant, and the sums over all accounts fit 128 bits.
+/// not fall from grant to grant, and the sums over all accounts fit 128 bits; and no more orders
+/// are live than a day has records.
 pub fn positions_are_sound()
-    ensures { PositionsAreSound }
+    ensures sound { PositionsAreSound }
+    ensures few { LiveOrdersAreFew }
 {}
 
 /// The figures of a rule are the same over all orders as over the live ones alone.

@@ -1,5 +1,5 @@
 -- The written order in its three parts.
-use Rattle.std.proofs.Common.{◌≡◌, ◌<◌, ℕ, suc, ◌+◌, arith, subst, sym, length, List, [], ◌∷◌, ◌++◌, refl, ◌∙◌, ap, map, cond, Bool, true, false}
+use Rattle.std.proofs.Common.{◌≡◌, ℕ, suc, ◌+◌, arith, sym, List, [], ◌∷◌, ◌++◌, refl, ◌∙◌, ap, map, cond, Bool, true, false}
 use Rattle.std.specs.Prelude.{Option, Some, None, option_map, find}
 use Rattle.std.specs.Option.{option_or}
 use Rattle.std.proofs.lemmas.List.Folds.{find-append}

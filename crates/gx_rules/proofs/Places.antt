@@ -1,23 +1,22 @@
 -- Where a rule stands among the entries, and what a change of it there does to the rules.
-use Rattle.std.proofs.Common.{◌≡◌, ◌+◌, ℕ, zero, suc, ◌<◌, Bool, true, false, cond, not, List, [], ◌∷◌, map, length, slice_get, position, refl, sym, ap, ◌∙◌, Some, Option, is_some, arith}
+use Rattle.std.proofs.Common.{◌≡◌, ◌+◌, ℕ, zero, suc, ◌<◌, Bool, true, false, cond, not, List, [], ◌∷◌, map, length, slice_get, position, refl, sym, ap, ◌∙◌, Some, Option, is_some, option_map, arith}
 use Rattle.std.specs.List.{position_or_len, IsDistinct, AllByRecursion}
 use Rattle.std.specs.Map.{keys_of, values_of, lookup}
-use Rattle.std.specs.Option.{option_and_then, option_map_or}
 use Rattle.std.proofs.lemmas.Cmp.{nat_list_eq_equiv}
+use Rattle.std.proofs.lemmas.Slice.Eq.{bytes_eq-Decides}
 use Rattle.std.proofs.lemmas.Map.Keys.{IsDistinct-head, IsDistinct-tail}
 use Rattle.indexmap.specs.IndexMap.{set_value_at}
 use Rattle.indexmap.proofs.MapLemmas.{Found-position}
 use Rattle.gx_units.specs.Names.{same_rule}
 use Rattle.gx_units.specs.declared.names.RuleId.{RuleId}
-use Rattle.gx_units.specs.declared.names.Symbol.{Symbol}
-use Rattle.gx_history.specs.declared.policy.FileRule.{FileRule}
 use Rattle.gx_history.specs.declared.policy.RuleKind.{RuleKind}
-use Rattle.gx_history.specs.Asking.{knows_stocks}
-use Rattle.gx_history.specs.InForce.{change_rule, limit_of, lists_stock, stocks_of}
+use Rattle.gx_history.specs.InForce.{change_rule}
 use Rattle.gx_history.specs.People.{rule_in}
 use Rattle.gx_rules.specs.declared.book_rule.BookRule.{BookRule}
 use Rattle.gx_rules.specs.Books.{kind_of, rule_named, rules_of}
-use Rattle.gx_rules.specs.Settings.{limit_in, lists_in}
+
+rule_is : (a b : RuleId) → same_rule a b ≡ true → a ≡ b
+rule_is a b same = let name : List ℕ → RuleId = λ (bytes : List ℕ). record { bytes = bytes } in ap name ((bytes_eq-Decides a.bytes b.bytes).0 same)
 
 pub same_rule_symm : (a b : RuleId) → same_rule a b ≡ same_rule b a
 same_rule_symm a b = nat_list_eq_equiv.symm a.bytes b.bytes
@@ -102,45 +101,18 @@ same_at (e ∷ es) zero v w at kind scope =
     (λ i. record { name = e.0; scope = scope i; kind = kind i } ∷ rules_of es) ∙ ap (λ r. rule_named e.0 r ∷ rules_of es) (sym same)
 same_at (e ∷ es) (suc i) v w at kind scope = ap (λ rules. rule_named e.0 e.1 ∷ rules) (same_at es i v w at kind scope)
 
--- the limit of the rule of this name is that of its entry
-pub limit_found : (es : List (RuleId × BookRule)) (name : RuleId) (o : Option BookRule) → o ≡ lookup (same_rule name) es
-    → option_and_then (λ (r : BookRule). limit_of (kind_of r)) o ≡ limit_in (rules_of es) name
-limit_found es name o at = ap (option_and_then (λ (r : BookRule). limit_of (kind_of r))) at ∙ of_entries es
+-- the rule of this name is what its entry says
+pub rule_found : (es : List (RuleId × BookRule)) (name : RuleId) (o : Option BookRule) → o ≡ lookup (same_rule name) es
+    → option_map (rule_named name) o ≡ rule_in (rules_of es) name
+rule_found es name o at = ap (option_map (rule_named name)) at ∙ of_entries es
   where
-    of_entries : (es : List (RuleId × BookRule)) → option_and_then (λ (r : BookRule). limit_of (kind_of r)) (lookup (same_rule name) es) ≡ limit_in (rules_of es) name
+    of_entries : (es : List (RuleId × BookRule)) → option_map (rule_named name) (lookup (same_rule name) es) ≡ rule_in (rules_of es) name
     of_entries [] = refl
     of_entries (e ∷ es) =
-        (elim (same_rule name e.0) as (λ b. option_and_then (λ (r : BookRule). limit_of (kind_of r)) (cond b (Some e.1) (lookup (same_rule name) es))
-        ≡ option_and_then (λ (r : FileRule). limit_of r.kind) (cond b (Some (rule_named e.0 e.1)) (rule_in (rules_of es) name)))
-        [ true ↦ refl | false ↦ of_entries es ])
-        ∙ ap (λ b. option_and_then (λ (r : FileRule). limit_of r.kind) (cond b (Some (rule_named e.0 e.1)) (rule_in (rules_of es) name))) (same_rule_symm name e.0)
-
--- the kind has a list, and the stock is on it
-abbrev kind_lists : Symbol → RuleKind → Bool
-kind_lists stock kind = option_map_or (λ stocks. lists_stock stocks stock) (stocks_of kind) false
-
--- the stocks of the rule of this name are those of its entry
-pub lists_found : (es : List (RuleId × BookRule)) (name : RuleId) (stock : Symbol) (o : Option BookRule) → o ≡ lookup (same_rule name) es
-    → option_map_or (λ (r : BookRule). kind_lists stock (kind_of r)) o false ≡ lists_in (rules_of es) name stock
-lists_found es name stock o at = ap (λ o. option_map_or (λ (r : BookRule). kind_lists stock (kind_of r)) o false) at ∙ of_entries es
-  where
-    of_entries : (es : List (RuleId × BookRule)) → option_map_or (λ (r : BookRule). kind_lists stock (kind_of r)) (lookup (same_rule name) es) false ≡ lists_in (rules_of es) name stock
-    of_entries [] = refl
-    of_entries (e ∷ es) =
-        (elim (same_rule name e.0) as (λ b. option_map_or (λ (r : BookRule). kind_lists stock (kind_of r)) (cond b (Some e.1) (lookup (same_rule name) es)) false
-        ≡ option_map_or (λ (r : FileRule). kind_lists stock r.kind) (cond b (Some (rule_named e.0 e.1)) (rule_in (rules_of es) name)) false)
-        [ true ↦ refl | false ↦ of_entries es ])
-        ∙ ap (λ b. option_map_or (λ (r : FileRule). kind_lists stock r.kind) (cond b (Some (rule_named e.0 e.1)) (rule_in (rules_of es) name)) false) (same_rule_symm name e.0)
-
--- the rule of this name has a list where its entry has
-pub list_found : (es : List (RuleId × BookRule)) (name : RuleId) (o : Option BookRule) → o ≡ lookup (same_rule name) es
-    → option_map_or (λ (r : BookRule). is_some (stocks_of (kind_of r))) o false ≡ knows_stocks (rule_in (rules_of es) name)
-list_found es name o at = ap (λ o. option_map_or (λ (r : BookRule). is_some (stocks_of (kind_of r))) o false) at ∙ of_entries es
-  where
-    of_entries : (es : List (RuleId × BookRule)) → option_map_or (λ (r : BookRule). is_some (stocks_of (kind_of r))) (lookup (same_rule name) es) false ≡ knows_stocks (rule_in (rules_of es) name)
-    of_entries [] = refl
-    of_entries (e ∷ es) =
-        (elim (same_rule name e.0) as (λ b. option_map_or (λ (r : BookRule). is_some (stocks_of (kind_of r))) (cond b (Some e.1) (lookup (same_rule name) es)) false
-        ≡ knows_stocks (cond b (Some (rule_named e.0 e.1)) (rule_in (rules_of es) name)))
-        [ true ↦ refl | false ↦ of_entries es ])
-        ∙ ap (λ b. knows_stocks (cond b (Some (rule_named e.0 e.1)) (rule_in (rules_of es) name))) (same_rule_symm name e.0)
+        by (same_rule name e.0) refl (of_entries es)
+        ∙ ap (λ b. cond b (Some (rule_named e.0 e.1)) (rule_in (rules_of es) name)) (same_rule_symm name e.0)
+      where
+        by : (b : Bool) → same_rule name e.0 ≡ b → option_map (rule_named name) (lookup (same_rule name) es) ≡ rule_in (rules_of es) name
+            → option_map (rule_named name) (cond b (Some e.1) (lookup (same_rule name) es)) ≡ cond b (Some (rule_named e.0 e.1)) (rule_in (rules_of es) name)
+        by true same others = ap (λ (key : RuleId). Some (rule_named key e.1)) (rule_is name e.0 same)
+        by false apart others = others

@@ -1,10 +1,12 @@
 -- The file's rules with their settings: what they are, and what commands make of them.
-use Rattle.std.specs.Prelude.{ℕ, Bool, List, map, Option, option_and_then}
+use Rattle.std.specs.Prelude.{ℕ, Bool, false, List, map, Option, option_and_then}
+use Rattle.std.specs.Option.{option_map_or}
+use Rattle.gx_units.specs.declared.names.AccountName.{AccountName}
 use Rattle.gx_units.specs.declared.names.RuleId.{RuleId}
 use Rattle.gx_units.specs.declared.names.Symbol.{Symbol}
 use Rattle.gx_history.specs.declared.policy.FileRule.{FileRule}
 use Rattle.gx_history.specs.Asking.{has_stock}
-use Rattle.gx_history.specs.People.{rule_in}
+use Rattle.gx_history.specs.People.{covers, rule_in}
 use Rattle.gx_history.specs.InForce.{limit_of, with_limit, with_stocks, adding, removing, change_rule}
 
 -- the rule's limit, if it has one that Set Limit may change
@@ -14,6 +16,10 @@ limit_in rules name = option_and_then (λ (r : FileRule). limit_of r.kind) (rule
 -- the rule has a list of stocks, and the stock is on it
 abbrev pub lists_in : List FileRule → RuleId → Symbol → Bool
 lists_in rules name stock = has_stock (rule_in rules name) stock
+
+-- the account is in the rule's scope
+abbrev pub covers_in : List FileRule → RuleId → AccountName → Bool
+covers_in rules name account = option_map_or (λ (r : FileRule). covers r.scope account) (rule_in rules name) false
 
 -- the rules with this limit
 abbrev pub with_limit_of : RuleId → ℕ → List FileRule → List FileRule

@@ -122,14 +122,16 @@ impl BookRule {
 
     /// Whether the stock is on the rule's list.
     pub fn lists(&self, stock: Symbol) -> bool
-        ensures { result ≡ option_map_or (λ stocks. lists_stock stocks stock) (stocks_of (kind_of self.now)) false }
+        ensures { result ≡ option_map_or (λ stocks. lists_stock stocks stock)
+            (stocks_of (kind_of self.now)) false }
     {
         self.has_list() && self.stocks.contains(&stock)
     }
 
     /// Puts the stock on the rule's list, if it has one.
     pub fn restrict(&mut self, stock: Symbol) -> Result<(), OutOfMemory>
-        ensures kind { OnOk result (kind_of self.new ≡ with_stocks (adding stock) (kind_of self.old)) }
+        ensures kind { OnOk result (kind_of self.new
+            ≡ with_stocks (adding stock) (kind_of self.old)) }
         ensures refused { OnErr result (kind_of self.new ≡ kind_of self.old) }
         ensures scope { self.new.scope ≡ self.old.scope }
     {
@@ -162,7 +164,8 @@ impl BookRule {
         facts: &Facts,
         request: &Request,
     ) -> bool
-        ensures { result ≡ rule_forbids facts.now request.now (rule_named name self.now) figures.now }
+        ensures { result ≡ rule_forbids facts.now request.now
+            (rule_named name self.now) figures.now }
     {
         is_for_scope(&self.scope, facts)
             && proposed(facts, request).is_some_and(|w| self.forbids_order(figures, &w))

@@ -6,14 +6,14 @@ ghost use Rattle.gx_history.specs.Asking.{knows_stocks};
 ghost use Rattle.gx_history.specs.People.{rule_in};
 ghost use Rattle.gx_history.specs.Rules.{applies, figured, figured_from, first_forbidding, first_file_rule, written_order, IsFirstForbidding};
 ghost use Rattle.gx_rules.specs.Books.{lists_once, names_differ, rules_of};
-ghost use Rattle.gx_rules.specs.Settings.{limit_in, lists_in, restricted, unrestricted, with_limit_of};
+ghost use Rattle.gx_rules.specs.Settings.{covers_in, limit_in, lists_in, restricted, unrestricted, with_limit_of};
 
 use crate::book_rule::BookRule;
 use crate::order::{first_before, first_behind};
 use gx_history::facts::{Facts, TellsFigures};
 use gx_history::policy::{FileRule, Policy};
 use gx_history::record::{Request, RuleName};
-use gx_units::{OutOfMemory, RuleId, Symbol};
+use gx_units::{AccountName, OutOfMemory, RuleId, Symbol};
 use indexmap::IndexMap;
 use indexmap::map::Slice;
 use std::alloc::Global;
@@ -166,6 +166,16 @@ impl RuleBook {
     {
         match self.rules.get(&rule) {
             Some(found) => found.lists(stock),
+            None => false,
+        }
+    }
+
+    /// Whether the account is in the rule's scope; not where there is no such rule. No command changes it.
+    pub fn covers(&self, rule: RuleId, account: AccountName) -> bool
+        ensures covers { result ≡ covers_in self.now rule account }
+    {
+        match self.rules.get(&rule) {
+            Some(found) => found.scope.covers(account),
             None => false,
         }
     }

@@ -1,14 +1,19 @@
 -- What a line of a script means.
 use Rattle.std.specs.Prelude.{ℕ, ◌-◌, Bool, ◌&&◌, ◌||◌, ◌==◌, nat_lt, if◌then◌else◌, List, length, take, codes, bytes_eq, slice_index, Option, Some, None, option_map, IsTrue}
 use Rattle.gx_units.specs.declared.names.AccountName.{AccountName}
+use Rattle.gx_units.specs.declared.names.RuleId.{RuleId}
+use Rattle.gx_units.specs.declared.names.Symbol.{Symbol}
+use Rattle.gx_desk.specs.declared.Action.{Action}
+use Rattle.gx_desk.specs.declared.Action.TheVariants as actions
+use Rattle.gx_desk.specs.declared.Command.{Command}
 use Rattle.gx_desk.specs.declared.Tag.{Tag}
+use Rattle.gx_desk.specs.declared.WrittenName.{WrittenName}
 use Rattle.gx_ouch.specs.declared.inbound.EnterOrder.{EnterOrder}
 use Rattle.gx_ouch.specs.declared.inbound.ReplaceOrder.{ReplaceOrder}
-use Rattle.gx_history.specs.Brought.{is_brought}
 use Rattle.gx_history.specs.Payloads.{request_of}
 use Rattle.gx_history.specs.Showing.{has_its_first}
 use Rattle.gx_script.specs.declared.line.ScriptStep.{ScriptStep}
-use Rattle.gx_script.specs.declared.line.ScriptStep.TheVariants.{Login, Logout, Enter, Replace, Cancel, Kill, Lift, Raw}
+use Rattle.gx_script.specs.declared.line.ScriptStep.TheVariants as steps
 use Rattle.gx_script.specs.declared.line.ScriptLine.{ScriptLine}
 use Rattle.gx_script.specs.declared.line.ScriptLine.TheVariants.{Skipped, Step, Match, Settle, Stream}
 use Rattle.gx_script.specs.Words.{◌>>=◌, words_of, first, alone, is_done, itself, is_empty, name_of, user_of, number_of, byte_of, bytes_of}
@@ -18,7 +23,7 @@ unfoldable pub login_form : List (List ℕ) → Option ScriptStep
 login_form words = do
   given ← first (name_of 10) words
   wanted ← first (number_of 64) given.1
-  alone (Login (record { bytes = given.0 }) wanted.0) wanted.1
+  alone (steps.Login (record { bytes = given.0 }) wanted.0) wanted.1
 
 -- an order with a blank firm, displayed, by an agency, in no sweep, of any quantity, in no cross, for no retail customer
 abbrev pub plain_order : List ℕ → ℕ → ℕ → List ℕ → ℕ → ℕ → EnterOrder
@@ -47,7 +52,7 @@ enter_form words = do
   stock ← first (name_of 8) shares.1
   price ← first (number_of 32) stock.1
   time_in_force ← first (number_of 32) price.1
-  alone (Enter (plain_order token.0 side.0 shares.0 stock.0 price.0 time_in_force.0)) time_in_force.1
+  alone (steps.Enter (plain_order token.0 side.0 shares.0 stock.0 price.0 time_in_force.0)) time_in_force.1
 
 -- what is asked for in the place of an order: displayed, in no sweep, of any quantity
 abbrev pub plain_replace : (old new : List ℕ) → ℕ → ℕ → ℕ → ReplaceOrder
@@ -70,14 +75,14 @@ replace_form words = do
   shares ← first (number_of 32) new.1
   price ← first (number_of 32) shares.1
   time_in_force ← first (number_of 32) price.1
-  alone (Replace (plain_replace old.0 new.0 shares.0 price.0 time_in_force.0)) time_in_force.1
+  alone (steps.Replace (plain_replace old.0 new.0 shares.0 price.0 time_in_force.0)) time_in_force.1
 
 -- `TOKEN SHARES`: the shares are the new size of the order
 unfoldable pub cancel_form : List (List ℕ) → Option ScriptStep
 cancel_form words = do
   token ← first (name_of 14) words
   shares ← first (number_of 32) token.1
-  alone (Cancel (record { token = record { bytes = token.0 }; shares = shares.0 })) shares.1
+  alone (steps.Cancel (record { token = record { bytes = token.0 }; shares = shares.0 })) shares.1
 
 -- `TAG ACCOUNT`
 unfoldable pub account_form : List (List ℕ) → Option (Tag × AccountName)
@@ -86,24 +91,73 @@ account_form words = do
   account ← first (name_of 8) tag.1
   alone (record { bytes = tag.0 }, record { bytes = account.0 }) account.1
 
+-- `TAG RULE VALUE`
+unfoldable pub limit_form : List (List ℕ) → Option (Tag × (RuleId × ℕ))
+limit_form words = do
+  tag ← first (name_of 14) words
+  rule ← first (name_of 8) tag.1
+  limit ← first (number_of 64) rule.1
+  alone (record { bytes = tag.0 }, (record { bytes = rule.0 }, limit.0)) limit.1
+
+-- `TAG RULE STOCK`
+unfoldable pub stock_form : List (List ℕ) → Option (Tag × (RuleId × Symbol))
+stock_form words = do
+  tag ← first (name_of 14) words
+  rule ← first (name_of 8) tag.1
+  stock ← first (name_of 8) rule.1
+  alone (record { bytes = tag.0 }, (record { bytes = rule.0 }, record { bytes = stock.0 })) stock.1
+
+-- `TAG READER ACCOUNT`: the reader as he is written, in either case of letters
+unfoldable pub reader_form : List (List ℕ) → Option (Tag × (WrittenName × AccountName))
+reader_form words = do
+  tag ← first (name_of 14) words
+  reader ← first (name_of 6) tag.1
+  account ← first (name_of 8) reader.1
+  alone (record { bytes = tag.0 }, (record { bytes = reader.0 }, record { bytes = account.0 })) account.1
+
+-- `TAG`: Close Day
+unfoldable pub close_form : List (List ℕ) → Option Command
+close_form words = do
+  tag ← first (name_of 14) words
+  alone (record { tag = record { bytes = tag.0 }; action = actions.CloseDay }) tag.1
+
+-- what is asked for under the tag, of what else is named
+abbrev pub asking : {A : Type 0} → (A → Action) → Option (Tag × A) → Option Command
+asking action = option_map (λ named. record { tag = named.0; action = action named.1 })
+
+-- what is asked for of two names
+abbrev pub of_both : {A B : Type 0} → (A → B → Action) → A × B → Action
+of_both action named = action named.0 named.1
+
+-- the command that the word names, of the words behind it
+unfoldable pub command_form : List ℕ → List (List ℕ) → Option Command
+command_form name words =
+    if bytes_eq name (codes "kill") then asking actions.Kill (account_form words)
+    else (if bytes_eq name (codes "lift") then asking actions.Lift (account_form words)
+    else (if bytes_eq name (codes "limit") then asking (of_both actions.SetLimit) (limit_form words)
+    else (if bytes_eq name (codes "restrict") then asking (of_both actions.Restrict) (stock_form words)
+    else (if bytes_eq name (codes "unrestrict") then asking (of_both actions.Unrestrict) (stock_form words)
+    else (if bytes_eq name (codes "grant") then asking (of_both actions.Grant) (reader_form words)
+    else (if bytes_eq name (codes "revoke") then asking (of_both actions.Revoke) (reader_form words)
+    else (if bytes_eq name (codes "close") then close_form words
+    else None)))))))
+
 -- `HEX`: what these bytes ask for as the payload of Unsequenced Data
 unfoldable pub raw_form : List (List ℕ) → Option ScriptStep
 raw_form words = do
   payload ← first bytes_of words
-  alone (Raw (request_of payload.0)) payload.1
+  alone (steps.Raw (request_of payload.0)) payload.1
 
--- the form that the word names, of the words behind it
+-- the form that the word names, of the words behind it: a command's, where no other has this name
 unfoldable pub step_form : List ℕ → List (List ℕ) → Option ScriptStep
 step_form name words =
     if bytes_eq name (codes "login") then login_form words
-    else (if bytes_eq name (codes "logout") then alone Logout words
+    else (if bytes_eq name (codes "logout") then alone steps.Logout words
     else (if bytes_eq name (codes "enter") then enter_form words
     else (if bytes_eq name (codes "replace") then replace_form words
     else (if bytes_eq name (codes "cancel") then cancel_form words
-    else (if bytes_eq name (codes "kill") then option_map (λ named. Kill named.0 named.1) (account_form words)
-    else (if bytes_eq name (codes "lift") then option_map (λ named. Lift named.0 named.1) (account_form words)
     else (if bytes_eq name (codes "raw") then raw_form words
-    else None)))))))
+    else option_map steps.Command (command_form name words))))))
 
 -- `USER ..`, USER being the first word: what the user asks for at this moment
 unfoldable pub asked_line : ℕ → List ℕ → List (List ℕ) → Option ScriptLine
@@ -155,14 +209,13 @@ line_of line = if is_too_long line then None else line_within (without_cr line)
 
 -- a request that can be put to the gate
 abbrev pub IsAskable : ScriptStep → Type 0
-IsAskable (Raw request) = IsTrue (is_brought request) × IsTrue (has_its_first request)
-IsAskable (Login given wanted) = Unit {0}
-IsAskable Logout = Unit {0}
-IsAskable (Enter order) = Unit {0}
-IsAskable (Replace order) = Unit {0}
-IsAskable (Cancel order) = Unit {0}
-IsAskable (Kill tag account) = Unit {0}
-IsAskable (Lift tag account) = Unit {0}
+IsAskable (steps.Raw request) = IsTrue (has_its_first request)
+IsAskable (steps.Login given wanted) = Unit {0}
+IsAskable steps.Logout = Unit {0}
+IsAskable (steps.Enter order) = Unit {0}
+IsAskable (steps.Replace order) = Unit {0}
+IsAskable (steps.Cancel order) = Unit {0}
+IsAskable (steps.Command command) = Unit {0}
 
 abbrev pub IsAskableLine : ScriptLine → Type 0
 IsAskableLine (Step moment user step) = IsAskable step

@@ -2,18 +2,17 @@
 
 ghost use Rattle.std.specs.Prelude.{◌≡◌, ◌≢◌, ◌≤◌, ◌∷◌, [], length, bytes_eq, ◌&&◌, IsTrue, IfOk, IfSome, MatchResult, option_map};
 ghost use Rattle.std.specs.Result.{result_ok};
-ghost use Rattle.gx_history.specs.Brought.{is_brought};
 ghost use Rattle.gx_history.specs.Payloads.{request_of};
 ghost use Rattle.gx_history.specs.Showing.{has_its_first};
 ghost use Rattle.gx_script.specs.Words.{Takes, alone, is_done, name_of, user_of, number_of, byte_of, bytes_of, itself};
-ghost use Rattle.gx_script.specs.ScriptLines.{login_form, plain_order, enter_form, replace_form, cancel_form, account_form, raw_form, step_form, asked_line, step_line, stream_line, line_of_words, without_cr, is_too_long, is_skipped, line_of, IsAskable, IsAskableLine};
+ghost use Rattle.gx_script.specs.ScriptLines.{login_form, plain_order, enter_form, replace_form, cancel_form, account_form, limit_form, stock_form, reader_form, close_form, command_form, raw_form, step_form, asked_line, step_line, stream_line, line_of_words, without_cr, is_too_long, is_skipped, line_of, IsAskable, IsAskableLine};
 
 use crate::words::{Words, byte, name, number32, number64};
 use crate::wrong::{Wanted, Wrong};
-use gx_desk::Tag;
+use gx_desk::{Action, Command, Tag, WrittenName};
 use gx_history::record::Request;
 use gx_ouch::{CancelOrder, EnterOrder, ReplaceOrder};
-use gx_units::{AccountName, Firm, Password, Symbol, Token, UserName};
+use gx_units::{AccountName, Firm, Password, RuleId, Symbol, Token, UserName};
 
 /// What a line of a script asks for in a user's name.
 #[derive(Clone, Copy, PartialEq, Eq)]
@@ -28,10 +27,10 @@ pub enum ScriptStep {
     Replace(ReplaceOrder),
     /// `cancel TOKEN SHARES`: the shares are the new size of the order, what is executed of it included.
     Cancel(CancelOrder),
-    /// `kill TAG ACCOUNT`.
-    Kill(Tag, AccountName),
-    /// `lift TAG ACCOUNT`.
-    Lift(Tag, AccountName),
+    /// `kill TAG ACCOUNT`, `lift TAG ACCOUNT`, `limit TAG RULE VALUE`, `restrict TAG RULE STOCK`,
+    /// `unrestrict TAG RULE STOCK`, `grant TAG READER ACCOUNT`, `revoke TAG READER ACCOUNT` and `close TAG`: a command
+    /// of an officer, the reader as he is written.
+    Command(Command),
     /// `raw HEX`: what the bytes ask for as the payload of Unsequenced Data.
     Raw(Request),
 }
@@ -60,7 +59,8 @@ fn wanted<T: Drop>(words: &Words, found: Option<T>, wanted: Wanted) -> Result<T,
 }
 
 fn take_word<'a>(words: &mut Words<'a>, wants: Wanted) -> Result<&'a [u8], Wrong>
-    ensures first { MatchResult result (λ word. words.old ≡ word.now ∷ words.new) (λ _. words.old ≡ []) }
+    ensures first { MatchResult result (λ word. words.old ≡ word.now ∷ words.new)
+        (λ _. words.old ≡ []) }
     ensures short { IfOk result (λ word. length word.now ≤ 1024) }
 {
     let word = words.next();
@@ -211,11 +211,105 @@ fn account_form(words: &mut Words) -> Result<(Tag, AccountName), Wrong>
     Ok((Tag { bytes: tag }, AccountName { bytes: account }))
 }
 
+/// The tag, the rule and the limit of a command.
+#[tactic(auto, unfolding(crate::specs::ScriptLines::limit_form))]
+fn limit_form(words: &mut Words) -> Result<(Tag, (RuleId, u64)), Wrong>
+    ensures { result_ok result ≡ limit_form words.old }
+{
+    let tag = take_name(words, Wanted::Tag)?;
+    let rule = take_name(words, Wanted::Rule)?;
+    let limit = take_number64(words, Wanted::Value)?;
+    end(words)?;
+    Ok((Tag { bytes: tag }, (RuleId { bytes: rule }, limit)))
+}
+
+/// The tag, the rule and the stock of a command.
+#[tactic(auto, unfolding(crate::specs::ScriptLines::stock_form))]
+fn stock_form(words: &mut Words) -> Result<(Tag, (RuleId, Symbol)), Wrong>
+    ensures { result_ok result ≡ stock_form words.old }
+{
+    let tag = take_name(words, Wanted::Tag)?;
+    let rule = take_name(words, Wanted::Rule)?;
+    let stock = take_name(words, Wanted::Stock)?;
+    end(words)?;
+    let named = (RuleId { bytes: rule }, Symbol { bytes: stock });
+    Ok((Tag { bytes: tag }, named))
+}
+
+/// The tag, the reader and the account of a command.
+#[tactic(auto, unfolding(crate::specs::ScriptLines::reader_form))]
+fn reader_form(words: &mut Words) -> Result<(Tag, (WrittenName, AccountName)), Wrong>
+    ensures { result_ok result ≡ reader_form words.old }
+{
+    let tag = take_name(words, Wanted::Tag)?;
+    let reader = take_name(words, Wanted::Reader)?;
+    let account = take_name(words, Wanted::Account)?;
+    end(words)?;
+    let named = (
+        WrittenName { bytes: reader },
+        AccountName { bytes: account },
+    );
+    Ok((Tag { bytes: tag }, named))
+}
+
+#[tactic(auto, unfolding(crate::specs::ScriptLines::close_form))]
+fn close_form(words: &mut Words) -> Result<Command, Wrong>
+    ensures { result_ok result ≡ close_form words.old }
+{
+    let bytes = take_name(words, Wanted::Tag)?;
+    end(words)?;
+    Ok(command(Tag { bytes }, Action::CloseDay))
+}
+
+fn command(tag: Tag, action: Action) -> Command
+    ensures { result ≡ record { tag = tag; action = action } }
+{
+    Command { tag, action }
+}
+
+/// The command that the word names, of the words behind it.
+#[tactic(auto, unfolding(crate::specs::ScriptLines::command_form))]
+fn command_form(form: &[u8], words: &mut Words) -> Result<Command, Wrong>
+    ensures { result_ok result ≡ command_form form.now words.old }
+{
+    if is(form, b"kill") {
+        let (tag, account) = account_form(words)?;
+        return Ok(command(tag, Action::Kill(account)));
+    }
+    if is(form, b"lift") {
+        let (tag, account) = account_form(words)?;
+        return Ok(command(tag, Action::Lift(account)));
+    }
+    if is(form, b"limit") {
+        let (tag, (rule, limit)) = limit_form(words)?;
+        return Ok(command(tag, Action::SetLimit(rule, limit)));
+    }
+    if is(form, b"restrict") {
+        let (tag, (rule, stock)) = stock_form(words)?;
+        return Ok(command(tag, Action::Restrict(rule, stock)));
+    }
+    if is(form, b"unrestrict") {
+        let (tag, (rule, stock)) = stock_form(words)?;
+        return Ok(command(tag, Action::Unrestrict(rule, stock)));
+    }
+    if is(form, b"grant") {
+        let (tag, (reader, account)) = reader_form(words)?;
+        return Ok(command(tag, Action::Grant(reader, account)));
+    }
+    if is(form, b"revoke") {
+        let (tag, (reader, account)) = reader_form(words)?;
+        return Ok(command(tag, Action::Revoke(reader, account)));
+    }
+    if is(form, b"close") {
+        return close_form(words);
+    }
+    wanted(words, None, Wanted::Form)
+}
+
 /// What the bytes that hex digits spell ask for.
 fn request_of_hex(word: &[u8]) -> Option<Request>
     requires { length word.now ≤ 1024 }
     ensures meaning { result ≡ option_map request_of (bytes_of word.now) }
-    ensures brought { IfSome result (λ request. IsTrue (is_brought request)) }
     ensures shown { IfSome result (λ request. IsTrue (has_its_first request)) }
 {
     if word.is_empty() {
@@ -246,7 +340,7 @@ fn is(word: &[u8], name: &[u8]) -> bool
     word == name
 }
 
-/// The form that the word names, of the words behind it.
+/// The form that the word names, of the words behind it: a command's, where no other has this name.
 #[tactic(auto, unfolding(crate::specs::ScriptLines::step_form))]
 fn step_form(form: &[u8], words: &mut Words) -> Result<ScriptStep, Wrong>
     ensures meaning { result_ok result ≡ step_form form.now words.old }
@@ -268,18 +362,10 @@ fn step_form(form: &[u8], words: &mut Words) -> Result<ScriptStep, Wrong>
     if is(form, b"cancel") {
         return cancel_form(words);
     }
-    if is(form, b"kill") {
-        let (tag, account) = account_form(words)?;
-        return Ok(ScriptStep::Kill(tag, account));
-    }
-    if is(form, b"lift") {
-        let (tag, account) = account_form(words)?;
-        return Ok(ScriptStep::Lift(tag, account));
-    }
     if is(form, b"raw") {
         return raw_form(words);
     }
-    wanted(words, None, Wanted::Form)
+    Ok(ScriptStep::Command(command_form(form, words)?))
 }
 
 /// What the user of this name asks for at the moment.

@@ -37,7 +37,8 @@ pub fn open_gate(alloc: Global, file: Option<&[u8]>) -> Result<Gate, ProgramFaul
     ensures policy { IfOk result (λ gate. policy_for (option_copied file.entry) ≡ Ok gate.policy) }
     ensures records { IfOk result (λ gate. gate.records ≡ []) }
     ensures fault { IfErr result (IsFaultOf (policy_for (option_copied file.entry))) }
-    ensures sample { option_copied file.entry ≡ None → IfErr result (λ fault. fault ≡ out_of_memory) }
+    ensures sample { option_copied file.entry ≡ None
+        → IfErr result (λ fault. fault ≡ out_of_memory) }
 {
     let policy = policy_for(alloc, file)?;
     Ok(Gate::open(alloc, &policy)?)

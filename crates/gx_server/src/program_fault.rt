@@ -56,7 +56,8 @@ impl From<OutOfMemory> for ProgramFault {
 }
 
 impl From<PolicyFault> for ProgramFault {
-    ghost from_gives = { λ fault e. e ≡ (if is_memory fault.kind then out_of_memory else faults.Policy fault) };
+    ghost from_gives = { λ fault e. e
+        ≡ (if is_memory fault.kind then out_of_memory else faults.Policy fault) };
 
     fn from(fault: PolicyFault) -> ProgramFault {
         if fault.kind.is_memory() {

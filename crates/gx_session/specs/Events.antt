@@ -1,6 +1,5 @@
 -- What follows a row of happens.
 use Rattle.std.specs.Prelude.{ℕ, Bool, true, false, ◌&&◌, is_none, List, [], ◌∷◌, IsTrue}
-use Rattle.gx_history.specs.Brought.{is_brought}
 use Rattle.gx_history.specs.Showing.{has_its_first}
 use Rattle.gx_core.specs.declared.outcome.LoginAnswer.{LoginAnswer}
 use Rattle.gx_core.specs.declared.outcome.LoginAnswer.TheVariants as answers
@@ -67,7 +66,7 @@ asks_step Close = false
 abbrev pub CanAsk : Next → Type 0
 CanAsk Idle = Unit {0}
 CanAsk Login = Unit {0}
-CanAsk (Act request) = IsTrue (is_brought request) × IsTrue (has_its_first request)
+CanAsk (Act request) = IsTrue (has_its_first request)
 CanAsk Logout = Unit {0}
 CanAsk Close = Unit {0}
 

@@ -1,7 +1,6 @@
 //! What is asked of a gate on the one line of a connection, or of a script.
 
 ghost use Rattle.std.specs.Prelude.{◌≡◌, ◌-◌, ◌^◌, ◌<◌, length, IsTrue, IfOk, IfErr, OnOk, OnErr};
-ghost use Rattle.gx_history.specs.Brought.{is_brought};
 ghost use Rattle.gx_history.specs.Showing.{has_its_first, is_askable};
 ghost use Rattle.gx_session.specs.Devices.{IsToldFull};
 ghost use Rattle.gx_session.specs.Steps.{asked_by, stepped, login_of, login_asked_at, login_told};
@@ -34,7 +33,6 @@ pub fn asked(user: UserName, request: Request, moment: u64) -> Asked
 pub fn login_request(gate: &Gate, login: &LoginRequest) -> Request
     ensures asked { result ≡ login_of gate.now login.now }
     ensures first { IsTrue (has_its_first result) }
-    ensures brought { IsTrue (is_brought result) }
 {
     gate.login_request(login.user, login.password, login.session, login.wanted)
 }

@@ -104,7 +104,11 @@ fn cut(alloc: Global, bytes: &[u8]) -> Result<Split, OutOfMemory>
     ensures within { IfOk result (λ s. s.used ≤ length bytes.now) }
     ensures bounded { IfOk result (λ s. length (drop s.used bytes.now) < longest_packet) }
     ensures packets { IfOk result (λ s.
-        packets_of bytes.now ≡ record { packets = s.packets.items; fault = s.fault; rest = drop s.used bytes.now }) }
+        packets_of bytes.now ≡ record {
+          packets = s.packets.items;
+          fault = s.fault;
+          rest = drop s.used bytes.now;
+        }) }
 {
     let mut packets = Vec::new(alloc);
     let mut used = 0;

@@ -81,7 +81,7 @@ filter_both {X} p (x ∷ xs) ys = by (p x) (filter_both p xs ys)
     by true later = ap (λ rest. x ∷ rest) later
     by false later = later
 
-owed_both : (user : UserName) (xs ys : List (UserName × Report)) → owed_to (xs ++ ys) user ≡ owed_to xs user ++ owed_to ys user
+pub owed_both : (user : UserName) (xs ys : List (UserName × Report)) → owed_to (xs ++ ys) user ≡ owed_to xs user ++ owed_to ys user
 owed_both user xs ys =
     ap (map (λ (o : UserName × Report). o.1)) (filter_both (is_his user) xs ys) ∙ map_both (λ (o : UserName × Report). o.1) (filter (is_his user) xs) (filter (is_his user) ys)
 

@@ -2,7 +2,7 @@
 
 ghost use Rattle.std.specs.Prelude.{◌<◌};
 
-use gx_desk::{Answer, AnswerCode, DropCopy, Tag};
+use gx_desk::{Action, Answer, AnswerCode, Command, DropCopy, Tag, WrittenName};
 use gx_history::history::History;
 use gx_history::policy::{
     Account, AccountNames, Accounts, FileRule, FileRules, Role, RuleKind, Scope, Stock, Stocks,
@@ -35,6 +35,12 @@ const TEST: Symbol = Symbol {
     bytes: *b"TEST    ",
 };
 
+const SIZE: RuleId = RuleId {
+    bytes: *b"SIZE    ",
+};
+
+const ROSA: WrittenName = WrittenName { bytes: *b"Rosa  " };
+
 fn unreadable(length: u16, first: u8) -> Request {
     Request::Unreadable(Unreadable { length, first })
 }
@@ -59,6 +65,61 @@ fn payloads_are_read(rt: HostRuntime) {
     assert!(rt; Request::read(ENTER_T1) == enter);
     assert!(rt; Request::read(&ENTER_T1[..48]) == unreadable(48, b'O'));
     assert!(rt; Request::read(b"") == unreadable(0, 0));
+}
+
+/// Whether the bytes are the command under the tag T1, if their last one is left out, and unreadable with one less, or
+/// with all of them: those have these lengths.
+fn is_command(bytes: &[u8], lengths: [u16; 2], action: Action) -> [bool; 3] {
+    let [command @ .., _] = bytes else {
+        return [false; 3];
+    };
+    let [short @ .., _] = command else {
+        return [false; 3];
+    };
+    let first = bytes[0];
+    let tag = Tag {
+        bytes: *b"T1            ",
+    };
+    [
+        Request::read(command) == Request::Command(Command { tag, action }),
+        Request::read(short) == unreadable(lengths[0], first),
+        Request::read(bytes) == unreadable(lengths[1], first),
+    ]
+}
+
+#[test]
+fn commands_are_read(rt: HostRuntime) {
+    let read = [
+        is_command(b"KT1            ALFA    .", [22, 24], Action::Kill(ALFA)),
+        is_command(b"LT1            ALFA    .", [22, 24], Action::Lift(ALFA)),
+        is_command(
+            b"MT1            SIZE    \x01\x02\x03\x04\x05\x06\x07\x08.",
+            [30, 32],
+            Action::SetLimit(SIZE, 72_623_859_790_382_856),
+        ),
+        is_command(
+            b"RT1            SIZE    TEST    .",
+            [30, 32],
+            Action::Restrict(SIZE, TEST),
+        ),
+        is_command(
+            b"NT1            SIZE    TEST    .",
+            [30, 32],
+            Action::Unrestrict(SIZE, TEST),
+        ),
+        is_command(
+            b"GT1            Rosa  ALFA    .",
+            [28, 30],
+            Action::Grant(ROSA, ALFA),
+        ),
+        is_command(
+            b"VT1            Rosa  ALFA    .",
+            [28, 30],
+            Action::Revoke(ROSA, ALFA),
+        ),
+        is_command(b"ZT1            .", [14, 16], Action::CloseDay),
+    ];
+    assert!(rt; read == [[true; 3]; 8]);
 }
 
 /// Whether the message is written with the timestamp as these bytes, and the room behind them stays.
@@ -222,9 +283,7 @@ fn users_kept(alloc: Global) -> Result<[usize; 2], OutOfMemory> {
 /// How many a list of one rule has, and how many it gives back.
 fn rules_kept(alloc: Global) -> Result<[usize; 2], OutOfMemory> {
     let rule = FileRule {
-        name: RuleId {
-            bytes: *b"SIZE    ",
-        },
+        name: SIZE,
         kind: RuleKind::OrderShares(500_000),
         scope: Scope::All,
     };

@@ -1,5 +1,6 @@
 //! Lines as they are read and as they are printed.
 
+use gx_desk::{Action, Command, Tag, WrittenName};
 use gx_history::record::{Fill, RuleName, Verdict};
 use gx_history::report::{Message, Report};
 use gx_ouch::{CancelOrder, Outbound, RejectReason, Rejected};
@@ -7,11 +8,27 @@ use gx_script::{
     ScriptLine, ScriptStep, Wanted, Wrong, append, append_number, is_too_long, outcome_line,
     refused_line, report_lines, with_number,
 };
-use gx_units::{OutOfMemory, Password, RuleId, Token, UserName};
+use gx_units::{AccountName, OutOfMemory, Password, RuleId, Symbol, Token, UserName};
 use std::alloc::Global;
 use std::test::Fail;
 
 const ALICE: UserName = UserName { bytes: *b"ALICE " };
+
+const OLGA: UserName = UserName { bytes: *b"OLGA  " };
+
+const ROSA: WrittenName = WrittenName { bytes: *b"Rosa  " };
+
+const ALFA: AccountName = AccountName {
+    bytes: *b"ALFA    ",
+};
+
+const SIZE: RuleId = RuleId {
+    bytes: *b"SIZE    ",
+};
+
+const TEST: Symbol = Symbol {
+    bytes: *b"TEST    ",
+};
 
 fn read(line: &str) -> Result<ScriptLine, Wrong> {
     ScriptLine::read(line.as_bytes())
@@ -56,6 +73,43 @@ fn lines_that_match(rt: HostRuntime) {
     assert!(rt; found == [true; 4]);
 }
 
+/// Whether the line is OLGA's command at 9, under the tag C1, for this.
+fn commands(line: &str, action: Action) -> bool {
+    let command = Command {
+        tag: Tag {
+            bytes: *b"C1            ",
+        },
+        action,
+    };
+    match read(line) {
+        Ok(ScriptLine::Step(9, user, ScriptStep::Command(found))) => {
+            user == OLGA && found == command
+        }
+        _ => false,
+    }
+}
+
+#[test]
+fn lines_that_command(rt: HostRuntime) {
+    let found = [
+        commands("9 OLGA kill C1 ALFA", Action::Kill(ALFA)),
+        commands("9 OLGA lift C1 ALFA", Action::Lift(ALFA)),
+        commands(
+            "9 OLGA limit C1 SIZE 18446744073709551615",
+            Action::SetLimit(SIZE, u64::MAX),
+        ),
+        commands("9 OLGA restrict C1 SIZE TEST", Action::Restrict(SIZE, TEST)),
+        commands(
+            "9 OLGA unrestrict C1 SIZE TEST",
+            Action::Unrestrict(SIZE, TEST),
+        ),
+        commands("9 OLGA grant C1 Rosa ALFA", Action::Grant(ROSA, ALFA)),
+        commands("9 OLGA revoke C1 Rosa ALFA", Action::Revoke(ROSA, ALFA)),
+        commands("9 OLGA close C1", Action::CloseDay),
+    ];
+    assert!(rt; found == [true; 8]);
+}
+
 #[test]
 fn bad_lines(rt: HostRuntime) {
     let lines = [
@@ -77,6 +131,10 @@ fn bad_lines(rt: HostRuntime) {
         "1 ALICE replace A1 A2 1 10",
         "1 match 2",
         "1 Settle",
+        "1 OLGA limit C1 SIZE 18446744073709551616",
+        "1 OLGA restrict C1 SIZE",
+        "1 OLGA grant C1 ROSALIE ALFA",
+        "1 OLGA close C1 ALFA",
         "stream",
     ];
     for line in lines {
@@ -125,9 +183,7 @@ fn is_printed(alloc: Global, verdict: Verdict, line: &str) -> Result<bool, OutOf
 #[test]
 fn verdicts_are_printed(rt: HostRuntime) -> Result<(), Fail> {
     let alloc = rt.alloc();
-    let size = RuleName::File(RuleId {
-        bytes: *b"SIZE    ",
-    });
+    let size = RuleName::File(SIZE);
     let fill = Fill {
         taker: 5,
         maker: 3,

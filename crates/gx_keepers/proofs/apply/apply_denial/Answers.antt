@@ -7,10 +7,10 @@ mark_denied-requires c = record { new = denied_unused c.args.next.policy.now c.a
 
 pub tell-requires : goal.tell-requires
 tell-requires c =
-    denied_place c.args.next.policy.now c.args.next.history.now.records c.args.next.asked.now c.args.next.left.now c.args.rule c.args.keepers.now c.rejected-message.result
-    c.requires.takes c.requires.places c.requires.denied c.rejected-message.ensures
+    denied_place c.args.next.policy.now c.args.next.history.now.records c.args.next.asked.now c.args.next.left.now c.args.rule c.args.keepers.now c.reports_of_denial-message.result
+    c.requires.takes c.requires.places c.requires.denied c.reports_of_denial-message.ensures
 
 pub returns-clause-ok : goal.returns-clause-ok
 returns-clause-ok c =
-    denial_goes_on c.args.next.policy.now c.args.next.history.now.records c.args.next.asked.now c.args.next.left.now c.args.rule c.args.keepers.now _ c.rejected-message.result
-    c.requires.takes c.requires.denied c.rejected-message.ensures refl refl refl c.in_ok-mark_denied.ensures.ok refl refl c.tell.ensures
+    denial_goes_on c.args.next.policy.now c.args.next.history.now.records c.args.next.asked.now c.args.next.left.now c.args.rule c.args.keepers.now _ c.reports_of_denial-message.result
+    c.requires.takes c.requires.denied c.reports_of_denial-message.ensures refl refl refl c.in_ok-mark_denied.ensures.ok refl refl c.tell.ensures

@@ -14,5 +14,5 @@ returns-in-Logout-clause-ok c =
 
 pub unreachable-requires : goal.unreachable-requires
 unreachable-requires c =
-    no_other_request c.args.next.policy.now c.args.next.history.now.records c.args.next.asked.now c.args.next.left.now c.args.keepers.now c.requires.takes c.requires.granted c.requires.carried
+    no_other_request c.args.next.policy.now c.args.next.history.now.records c.args.next.asked.now c.args.next.left.now c.args.keepers.now c.requires.takes c.requires.granted
     c.in_default.not-Login c.in_default.not-Logout c.in_default.not-Enter c.in_default.not-Replace c.in_default.not-Cancel c.in_default.not-Command

@@ -1,7 +1,7 @@
-use Rattle.std.proofs.Common.{◌≡◌, take}
+use Rattle.std.proofs.Common.{◌≡◌, ◌≤◌, take}
 use Rattle.std.specs.List.{AllByRecursion}
 use Rattle.gx_units.specs.declared.names.UserName.{UserName}
-use Rattle.gx_streams.specs.Kept.{is_known}
+use Rattle.gx_streams.specs.Kept.{is_known, places_in}
 use Rattle.gx_streams.specs.Telling.{shown}
 use Rattle.gx_keepers.specs.Keepers.{HasEndPlaces}
 use Rattle.gx_keepers.proofs.places.keep_for_ends.Given as goal
@@ -11,5 +11,6 @@ invariant-loop-user l =
     record {
       shown : shown l.streams ≡ shown l.fn.streams;
       known : (other : UserName) → is_known l.streams.told other ≡ is_known l.fn.streams.told other;
-      places : AllByRecursion (HasEndPlaces l.fn.account l.fn.orders.live l.streams) (take l.user-index l.user-items);
+      more : (other : UserName) → places_in l.fn.streams.told other ≤ places_in l.streams.told other;
+      places : AllByRecursion (HasEndPlaces l.fn.action l.fn.orders.live l.streams) (take l.user-index l.user-items);
     }

@@ -1,4 +1,3 @@
-use Rattle.std.proofs.Common.{◌≡◌}
 use Rattle.gx_core.proofs.Keeping.{keep_none}
 use Rattle.gx_core.proofs.gate.Gate.open.Goals as goal
 

@@ -46,7 +46,7 @@ returns-clause-effect c =
     (c.push_reserved.ensures.records
     ∙ ap (λ (records : List RecordData). records ++ c.new-record.result ∷ []) c.reserve.ensures.records
     ∙ ap (λ (r : RecordData). c.self.inside.history.records ++ r ∷ []) (c.new-record.ensures ∙ c.record_of-entry.ensures)))
-    (effect_of c.self.inside.policy c.self.inside.history.records c.args.a (left_by c.args.a c.outcome_of-outcome.result) c.self.invariant.legal (ap (λ (g : GateData). next_of g c.args.a) c.self.view_is ∙ c.outcome_of-outcome.ensures.next) c.requires.brought))
+    (effect_of c.self.inside.policy c.self.inside.history.records c.args.a (left_by c.args.a c.outcome_of-outcome.result) c.self.invariant.legal (ap (λ (g : GateData). next_of g c.args.a) c.self.view_is ∙ c.outcome_of-outcome.ensures.next)))
 
 pub returns-clause-lifted_by : goal.returns-clause-lifted_by
 returns-clause-lifted_by c =

@@ -1,0 +1,64 @@
+-- A command that was granted names what is known, and is its officer's to give.
+use Rattle.std.proofs.Common.{◌≡◌, Bool, true, false, List, [], ◌∷◌, ◌∙◌, ap, sym, drop}
+use Rattle.std.specs.Prelude.{Some, ◌&&◌, not}
+use Rattle.std.proofs.lemmas.Bool.{not-false}
+use Rattle.gx_desk.specs.declared.Action.{Action}
+use Rattle.gx_history.specs.declared.policy.PolicyData.{PolicyData}
+use Rattle.gx_history.specs.declared.record.Asked.{Asked}
+use Rattle.gx_history.specs.declared.record.RecordData.{RecordData}
+use Rattle.gx_history.specs.declared.record.Request.{Request}
+use Rattle.gx_history.specs.declared.record.RuleName.{RuleName}
+use Rattle.gx_history.specs.declared.record.RuleName.TheVariants.{Q1, Q2, Q3}
+use Rattle.gx_history.specs.declared.record.Step.TheVariants as steps
+use Rattle.gx_history.specs.declared.record.Verdict.TheVariants as verdicts
+use Rattle.gx_history.specs.Asking.{facts, of_command, has_power, are_his, knows_names}
+use Rattle.gx_history.specs.People.{role_in}
+use Rattle.gx_history.specs.Requests.{is_command}
+use Rattle.gx_history.specs.RuleNames.{rules_behind}
+use Rattle.gx_history.specs.Rules.{forbids}
+use Rattle.gx_history.specs.Verdicts.{next, facts_now, rules_now}
+use Rattle.gx_history_laws.proofs.Granting.{granted_passes, none_behind}
+use Rattle.gx_history_laws.proofs.Order.{none_among}
+use Rattle.gx_effects.proofs.Commanding.{GrantsCommand}
+
+names_are_no_bar : (policy : PolicyData) (history : List RecordData) (a : Asked) (r : RecordData)
+    → next policy history (steps.Asked a) ≡ Some r → r.verdict ≡ verdicts.Granted → forbids Q1 (facts_now policy history a) a.request ≡ false
+unfolding rules_behind
+names_are_no_bar policy history a r left granted =
+    none_among (λ (name : RuleName). forbids name (facts_now policy history a) a.request) [] Q1 (drop 1 rules_behind)
+    (none_behind (rules_now policy history a) (facts_now policy history a) a.request (granted_passes policy history a r left granted))
+
+power_is_no_bar : (policy : PolicyData) (history : List RecordData) (a : Asked) (r : RecordData)
+    → next policy history (steps.Asked a) ≡ Some r → r.verdict ≡ verdicts.Granted → forbids Q2 (facts_now policy history a) a.request ≡ false
+unfolding rules_behind
+power_is_no_bar policy history a r left granted =
+    none_among (λ (name : RuleName). forbids name (facts_now policy history a) a.request) (Q1 ∷ []) Q2 (drop 2 rules_behind)
+    (none_behind (rules_now policy history a) (facts_now policy history a) a.request (granted_passes policy history a r left granted))
+
+scope_is_no_bar : (policy : PolicyData) (history : List RecordData) (a : Asked) (r : RecordData)
+    → next policy history (steps.Asked a) ≡ Some r → r.verdict ≡ verdicts.Granted → forbids Q3 (facts_now policy history a) a.request ≡ false
+unfolding rules_behind
+scope_is_no_bar policy history a r left granted =
+    none_among (λ (name : RuleName). forbids name (facts_now policy history a) a.request) (Q1 ∷ Q2 ∷ []) Q3 (drop 3 rules_behind)
+    (none_behind (rules_now policy history a) (facts_now policy history a) a.request (granted_passes policy history a r left granted))
+
+-- the action passes the test of a rule that does not forbid its command
+passes : (test : Action → Bool) (r : RecordData) (a : Asked) (action : Action) → GrantsCommand r a action → (is_command a.request && not (of_command test a.request)) ≡ false → test action ≡ true
+passes test r a action g no_bar =
+    ap test (sym g.is_for)
+    ∙ not-false (test g.command.action) (sym (ap (λ (q : Request). is_command q && not (of_command test q)) g.is_command) ∙ no_bar)
+
+pub names_are_known : (policy : PolicyData) (history : List RecordData) (a : Asked) (r : RecordData) (action : Action) → GrantsCommand r a action
+    → next policy history (steps.Asked a) ≡ Some r → knows_names policy history action ≡ true
+unfolding facts
+names_are_known policy history a r action g left = passes (knows_names policy history) r a action g (names_are_no_bar policy history a r left g.grants)
+
+pub has_the_power : (policy : PolicyData) (history : List RecordData) (a : Asked) (r : RecordData) (action : Action) → GrantsCommand r a action
+    → next policy history (steps.Asked a) ≡ Some r → has_power (role_in policy.users a.user) action ≡ true
+unfolding facts
+has_the_power policy history a r action g left = passes (has_power (role_in policy.users a.user)) r a action g (power_is_no_bar policy history a r left g.grants)
+
+pub has_the_accounts : (policy : PolicyData) (history : List RecordData) (a : Asked) (r : RecordData) (action : Action) → GrantsCommand r a action
+    → next policy history (steps.Asked a) ≡ Some r → are_his policy history (role_in policy.users a.user) action ≡ true
+unfolding facts
+has_the_accounts policy history a r action g left = passes (are_his policy history (role_in policy.users a.user)) r a action g (scope_is_no_bar policy history a r left g.grants)

@@ -1,0 +1,344 @@
+-- What a granted command makes of the keepers: what is told of it, and what is in force after it.
+use Rattle.std.proofs.Common.{◌≡◌, ℕ, ◌+◌, ◌<◌, ◌≤◌, arith, true, false, not, Bool, List, [], ◌∷◌, ◌++◌, length, length-append, refl, ◌∙◌, ap, sym, cond, map}
+use Rattle.std.proofs.Math.Path.{subst}
+use Rattle.std.proofs.lemmas.List.{append_assoc, append_cancel_left, map-append}
+use Rattle.std.specs.Prelude.{Option, Some, None, is_some, option_and_then, option_map, ◌&&◌, ◌||◌}
+use Rattle.std.specs.List.{AllByRecursion, filter, list_any}
+use Rattle.gx_units.specs.Names.{same_user}
+use Rattle.gx_units.specs.declared.names.AccountName.{AccountName}
+use Rattle.gx_units.specs.declared.names.UserName.{UserName}
+use Rattle.gx_desk.specs.declared.Action.{Action}
+use Rattle.gx_desk.specs.declared.Action.TheVariants as actions
+use Rattle.gx_desk.specs.declared.AnswerCode.TheVariants as codes
+use Rattle.gx_desk.specs.declared.Command.{Command}
+use Rattle.gx_history.specs.declared.policy.FileRule.{FileRule}
+use Rattle.gx_history.specs.declared.policy.PolicyData.{PolicyData}
+use Rattle.gx_history.specs.declared.policy.User.{User}
+use Rattle.gx_history.specs.declared.record.Asked.{Asked}
+use Rattle.gx_history.specs.declared.record.RecordData.{RecordData}
+use Rattle.gx_history.specs.declared.record.Request.TheVariants as requests
+use Rattle.gx_history.specs.declared.record.Step.TheVariants as steps
+use Rattle.gx_history.specs.declared.record.Verdict.TheVariants as verdicts
+use Rattle.gx_history.specs.declared.report.Message.{Message}
+use Rattle.gx_history.specs.declared.report.Report.{Report}
+use Rattle.gx_history.specs.Asking.{knows_limit, knows_names, rule_in_force}
+use Rattle.gx_history.specs.InForce.{changed, limit_of, rules_in_force}
+use Rattle.gx_history.specs.Lists.{are_distinct}
+use Rattle.gx_history.specs.Orders.{ends_account}
+use Rattle.gx_history.specs.People.{is_trader, role_in, user_in}
+use Rattle.gx_history.specs.Requests.{action_of}
+use Rattle.gx_history.specs.Soundness.{is_sound}
+use Rattle.gx_history.specs.Streams.{answer, day_end, ended, reported, reports_of, stream, to_user}
+use Rattle.gx_history.specs.Verdicts.{IsLegal, next}
+use Rattle.gx_history_laws.proofs.Adding.{user_is, user_is_itself}
+use Rattle.gx_history_laws.proofs.Judging.{both}
+use Rattle.gx_history_laws.proofs.Names.{same_user_flip, users_differ}
+use Rattle.gx_history_laws.proofs.NextReports.{stream_next}
+use Rattle.gx_history_laws.proofs.Runs.{step_left}
+use Rattle.gx_effects.proofs.Commanding.{GrantsCommand, grants_the_command, told_by_command}
+use Rattle.gx_day.specs.InForce.{day_commanded}
+use Rattle.gx_day.proofs.Answering.{command_is_known}
+use Rattle.gx_orders.specs.declared.live_order.LiveOrder.{LiveOrder}
+use Rattle.gx_orders.specs.Changes.{ended_message, is_lasting, keeps_orders, with_live}
+use Rattle.gx_orders.specs.InForce.{orders_in_force}
+use Rattle.gx_orders.specs.LiveOrders.{OrdersData, is_of_user}
+use Rattle.gx_orders.proofs.Granted.{closes_end, kills_end, others_keep}
+use Rattle.gx_orders.proofs.Telling.{ends_are_told}
+use Rattle.gx_book.specs.Books.{StockOrders}
+use Rattle.gx_market.specs.Changes.{ended_by}
+use Rattle.gx_market.proofs.Requested as booked
+use Rattle.gx_people.specs.Entitled.{given}
+use Rattle.gx_streams.specs.Kept.{places_in}
+use Rattle.gx_streams.specs.Streams.{AllStreams}
+use Rattle.gx_streams.specs.Telling.{each_told, owed_to, shown, with_all_owed, with_owed}
+use Rattle.gx_streams.proofs.Owing.{owed_both}
+use Rattle.gx_streams.proofs.Places.{owed_taken}
+use Rattle.gx_streams.proofs.Telling.{GoesOn, all_owed_shown, more_told}
+use Rattle.gx_ledger.specs.Following.{ClosesAll}
+use Rattle.gx_keepers.specs.declared.keepers.Keepers.{Keepers}
+use Rattle.gx_keepers.specs.Ends.{HaveOwedPlaces, is_ended, live_left, owed_by_answer, owed_by_close, owed_by_command, owed_by_day_end, owed_by_day_ends, owed_by_end, owed_by_ends, trades}
+use Rattle.gx_keepers.specs.Keepers.{AreInForceBut, HavePlaces, Takes}
+use Rattle.gx_keepers.specs.Ledgers.{ended_orders}
+use Rattle.gx_keepers.specs.Messages.{day_end_message}
+use Rattle.gx_keepers.specs.Settings.{HasSetting}
+use Rattle.gx_keepers.proofs.Carrying.{by_grant}
+use Rattle.gx_keepers.proofs.Figuring.{command_figured, none_end}
+
+-- ---- what is owed to one user
+
+-- of the orders that a command ends, by the orders that are kept
+owed_is : (action : Action) (moment : ℕ) (user : UserName) (live : List LiveOrder)
+    → owed_to (owed_by_ends action moment live) user
+    ≡ map (λ (message : Message). record { timestamp = moment; message = message })
+    (map ended_message (filter (λ (o : LiveOrder). is_of_user user o && ends_account o.account action) live))
+owed_is action moment user [] = refl
+owed_is action moment user (o ∷ os) =
+    let more : List LiveOrder = filter (is_ended action) os in
+    let theirs : List LiveOrder = filter (λ (x : LiveOrder). is_of_user user x && ends_account x.account action) os in
+    let shown_by : List LiveOrder → List Report = λ (xs : List LiveOrder). map (λ (message : Message). record { timestamp = moment; message = message }) (map ended_message xs) in
+    let owed_by : List (UserName × Report) → List Report = λ (xs : List (UserName × Report)). map (λ (x : UserName × Report). x.1) xs in
+    let for_him : List (UserName × Report) = filter (λ (x : UserName × Report). same_user x.0 user) (map (owed_by_end moment) more) in
+    let rest : owed_by for_him ≡ shown_by theirs = owed_is action moment user os in
+    elim (ends_account o.account action) as (λ b. owed_to (map (owed_by_end moment) (cond b (o ∷ more) more)) user ≡ shown_by (cond (same_user o.user user && b) (o ∷ theirs) theirs)) [
+      | true ↦ elim (same_user o.user user) as (λ u. owed_by (cond u (owed_by_end moment o ∷ for_him) for_him) ≡ shown_by (cond (u && true) (o ∷ theirs) theirs))
+          [ true ↦ ap (λ (rs : List Report). record { timestamp = moment; message = ended_message o } ∷ rs) rest | false ↦ rest ]
+      | false ↦ elim (same_user o.user user) as (λ u. owed_by for_him ≡ shown_by (cond (u && false) (o ∷ theirs) theirs)) [ true ↦ rest | false ↦ rest ]
+    ]
+
+-- another has this name
+abbrev IsAnother : UserName → User → Type 0
+IsAnother user u = same_user u.name user ≡ false
+
+is_false : (b : Bool) → not b ≡ true → b ≡ false
+is_false true h = cc
+is_false false h = refl
+
+all_others : (user : UserName) (users : List User) → list_any (λ (u : User). same_user user u.name) users ≡ false → AllByRecursion (IsAnother user) users
+all_others user [] h = tt
+all_others user (u ∷ us) h = by (same_user user u.name) refl h (all_others user us)
+  where
+    by : (b : Bool) → same_user user u.name ≡ b → (b || list_any (λ (x : User). same_user user x.name) us) ≡ false
+        → (list_any (λ (x : User). same_user user x.name) us ≡ false → AllByRecursion (IsAnother user) us) → (same_user u.name user ≡ false) × AllByRecursion (IsAnother user) us
+    by true is any rest = cc
+    by false is any rest = (same_user_flip u.name user ∙ is, rest any)
+
+-- of the end of the day nothing, where all these are others
+none_owed : (moment : ℕ) (user : UserName) (users : List User) → AllByRecursion (IsAnother user) users → owed_to (owed_by_day_ends moment users) user ≡ []
+none_owed moment user [] others = refl
+none_owed moment user (u ∷ us) others = by (trades u) (none_owed moment user us others.1)
+  where
+    his : List (UserName × Report)
+    his = filter (λ (x : UserName × Report). same_user x.0 user) (owed_by_day_ends moment us)
+
+    by : (b : Bool) → map (λ (x : UserName × Report). x.1) his ≡ [] → owed_to (map (owed_by_day_end moment) (cond b (u ∷ filter trades us) (filter trades us))) user ≡ []
+    by true rest = ap (λ (b : Bool). map (λ (x : UserName × Report). x.1) (cond b (owed_by_day_end moment u ∷ his) his)) others.0 ∙ rest
+    by false rest = rest
+
+-- and one report to who trades, among users of different names
+end_is : (moment : ℕ) (user : UserName) (users : List User) → are_distinct (λ (a b : User). same_user a.name b.name) users ≡ true
+    → owed_to (owed_by_day_ends moment users) user ≡ cond (is_trader (role_in users user)) (record { timestamp = moment; message = day_end_message } ∷ []) []
+end_is moment user [] differ = refl
+end_is moment user (u ∷ us) differ = by (same_user u.name user) refl (end_is moment user us (both _ _ differ).1)
+  where
+    his : List (UserName × Report)
+    his = filter (λ (x : UserName × Report). same_user x.0 user) (owed_by_day_ends moment us)
+
+    told : List Report
+    told = record { timestamp = moment; message = day_end_message } ∷ []
+
+    role : Bool → List Report
+    role b = cond (is_trader (option_map (λ (x : User). x.role) (cond b (Some u) (user_in us user)))) told []
+
+    found : (t : Bool) → same_user u.name user ≡ true → map (λ (x : UserName × Report). x.1) his ≡ []
+        → owed_to (map (owed_by_day_end moment) (cond t (u ∷ filter trades us) (filter trades us))) user ≡ cond t told []
+    found true is none = ap (λ (b : Bool). map (λ (x : UserName × Report). x.1) (cond b (owed_by_day_end moment u ∷ his) his)) is ∙ ap (λ (rs : List Report). record { timestamp = moment; message = day_end_message } ∷ rs) none
+    found false is none = none
+
+    passed : (t : Bool) → same_user u.name user ≡ false
+        → owed_to (map (owed_by_day_end moment) (cond t (u ∷ filter trades us) (filter trades us))) user ≡ map (λ (x : UserName × Report). x.1) his
+    passed true is = ap (λ (b : Bool). map (λ (x : UserName × Report). x.1) (cond b (owed_by_day_end moment u ∷ his) his)) is
+    passed false is = refl
+
+    by : (b : Bool) → same_user u.name user ≡ b → map (λ (x : UserName × Report). x.1) his ≡ cond (is_trader (role_in us user)) told []
+        → owed_to (owed_by_day_ends moment (u ∷ us)) user ≡ role (same_user u.name user)
+    by true is rest =
+        found (trades u) is
+        (none_owed moment user us
+        (subst (λ (x : UserName). AllByRecursion (IsAnother x) us) (user_is u.name user is) (all_others u.name us (is_false _ (both _ _ differ).0))))
+        ∙ sym (ap role is)
+    by false is rest = passed (trades u) is ∙ rest ∙ sym (ap role is)
+
+close_is : (policy : PolicyData) (r : RecordData) (action : Action) (user : UserName) → is_sound policy ≡ true
+    → owed_to (owed_by_close action r.moment policy.users) user ≡ map (reported r) (day_end policy action user)
+close_is policy r actions.CloseDay user sound = end_is r.moment user policy.users (users_differ policy sound) ∙ shown_as (is_trader (role_in policy.users user))
+  where
+    shown_as : (b : Bool) → cond {A = List Report} b (record { timestamp = r.moment; message = day_end_message } ∷ []) [] ≡ map (reported r) (cond b (day_end_message ∷ []) [])
+    shown_as true = refl
+    shown_as false = refl
+close_is policy r (actions.Kill account) user sound = refl
+close_is policy r (actions.Lift account) user sound = refl
+close_is policy r (actions.SetLimit rule limit) user sound = refl
+close_is policy r (actions.Restrict rule stock) user sound = refl
+close_is policy r (actions.Unrestrict rule stock) user sound = refl
+close_is policy r (actions.Grant reader account) user sound = refl
+close_is policy r (actions.Revoke reader account) user sound = refl
+
+answer_is : (r : RecordData) (officer user : UserName) (c : Command) → owed_to (owed_by_answer r officer c ∷ []) user ≡ map (reported r) (to_user officer user (answer r c codes.Done))
+answer_is r officer user c =
+    elim (same_user officer user) as (λ b. map (λ (x : UserName × Report). x.1) (cond b (owed_by_answer r officer c ∷ []) []) ≡ map (reported r) (cond b (answer r c codes.Done) []))
+    [ true ↦ refl | false ↦ refl ]
+
+-- ---- what is told of a granted command
+
+grants : (policy : PolicyData) (history : List RecordData) (a : Asked) (r : RecordData) (c : Command) (k : Keepers)
+    → Takes policy history a r k → r.verdict ≡ verdicts.Granted → a.request ≡ requests.Command c → GrantsCommand r a c.action
+grants policy history a r c k t granted asks = grants_the_command policy history a r c c.action t.left asks refl granted
+
+-- what its record owes
+pub command_owes : (policy : PolicyData) (history : List RecordData) (a : Asked) (r : RecordData) (c : Command) (k : Keepers) (user : UserName)
+    → Takes policy history a r k → r.verdict ≡ verdicts.Granted → a.request ≡ requests.Command c
+    → reports_of policy user (history, r) ≡ map (reported r) (ended policy history c.action user ++ day_end policy c.action user ++ to_user a.user user (answer r c codes.Done))
+command_owes policy history a r c k user t granted asks =
+    append_cancel_left (stream policy history user) _ _
+    (sym (stream_next policy history r user) ∙ told_by_command policy history r a c c.action user (grants policy history a r c k t granted asks) asks refl)
+
+-- as the keepers tell it
+owed_now : (policy : PolicyData) (history : List RecordData) (a : Asked) (r : RecordData) (c : Command) (k : Keepers) (user : UserName)
+    → Takes policy history a r k → r.verdict ≡ verdicts.Granted → a.request ≡ requests.Command c → is_sound policy ≡ true
+    → reports_of policy user (history, r) ≡ owed_to (owed_by_command policy r a.user c k.orders.live) user
+owed_now policy history a r c k user t granted asks sound =
+    let live : List LiveOrder = (orders_in_force policy history).live in
+    let ends : List (UserName × Report) = owed_by_ends c.action r.moment live in
+    let close : List (UserName × Report) = owed_by_close c.action r.moment policy.users in
+    let done : List (UserName × Report) = owed_by_answer r a.user c ∷ [] in
+    let ends_are : map (reported r) (ended policy history c.action user) ≡ owed_to ends user =
+    ap (map (reported r)) (ends_are_told policy history c.action user) ∙ sym (owed_is c.action r.moment user live) in
+    command_owes policy history a r c k user t granted asks
+    ∙ map-append (reported r) (ended policy history c.action user ++ day_end policy c.action user) (to_user a.user user (answer r c codes.Done))
+    ∙ ap (λ (rs : List Report). rs ++ map (reported r) (to_user a.user user (answer r c codes.Done))) (map-append (reported r) (ended policy history c.action user) (day_end policy c.action user))
+    ∙ append_assoc (map (reported r) (ended policy history c.action user)) (map (reported r) (day_end policy c.action user)) (map (reported r) (to_user a.user user (answer r c codes.Done)))
+    ∙ ap (λ (rs : List Report). rs ++ (map (reported r) (day_end policy c.action user) ++ map (reported r) (to_user a.user user (answer r c codes.Done)))) ends_are
+    ∙ ap (λ (rs : List Report). owed_to ends user ++ (rs ++ map (reported r) (to_user a.user user (answer r c codes.Done)))) (sym (close_is policy r c.action user sound))
+    ∙ ap (λ (rs : List Report). owed_to ends user ++ (owed_to close user ++ rs)) (sym (answer_is r a.user user c))
+    ∙ ap (λ (rs : List Report). owed_to ends user ++ rs) (sym (owed_both user close done))
+    ∙ sym (owed_both user ends (close ++ done))
+    ∙ ap (λ (orders : OrdersData). owed_to (owed_by_command policy r a.user c orders.live) user) (sym t.in_force.orders)
+
+-- each user is told what is owed to him
+command_tells : (policy : PolicyData) (history : List RecordData) (a : Asked) (r : RecordData) (c : Command) (k : Keepers)
+    → Takes policy history a r k → r.verdict ≡ verdicts.Granted → a.request ≡ requests.Command c → is_sound policy ≡ true
+    → GoesOn policy history (history ++ r ∷ []) (owed_to (owed_by_command policy r a.user c k.orders.live))
+command_tells policy history a r c k t granted asks sound user =
+    stream_next policy history r user ∙ ap (λ (rs : List Report). stream policy history user ++ rs) (owed_now policy history a r c k user t granted asks sound)
+
+-- and has a place for it
+pub command_places : (policy : PolicyData) (history : List RecordData) (a : Asked) (r : RecordData) (c : Command) (k : Keepers)
+    → Takes policy history a r k → HavePlaces policy history r k.streams → r.verdict ≡ verdicts.Granted → a.request ≡ requests.Command c → is_sound policy ≡ true
+    → HaveOwedPlaces (owed_by_command policy r a.user c k.orders.live) k.streams
+command_places policy history a r c k t places granted asks sound user =
+    subst (λ (reports : List Report). length reports ≤ places_in k.streams.told user) (owed_now policy history a r c k user t granted asks sound) (places user)
+
+-- ---- telling in turn
+
+counted_both : (first rest : List (UserName × Report)) (user : UserName) → length (owed_to (first ++ rest) user) ≡ length (owed_to first user) + length (owed_to rest user)
+counted_both first rest user = ap length (owed_both user first rest) ∙ length-append (owed_to first user) (owed_to rest user)
+
+-- who has a place for each of these has one for each of the first
+pub first_have_places : (first rest : List (UserName × Report)) (streams : AllStreams) → HaveOwedPlaces (first ++ rest) streams → HaveOwedPlaces first streams
+first_have_places first rest streams enough user = omega (arith, enough user, counted_both first rest user)
+
+-- and for each of the rest, once the first are told
+pub rest_have_places : (first rest : List (UserName × Report)) (streams : AllStreams) → HaveOwedPlaces (first ++ rest) streams → HaveOwedPlaces rest (with_all_owed first streams)
+rest_have_places first rest streams enough user = omega (arith, enough user, counted_both first rest user, owed_taken streams first user)
+
+-- telling the first of those that are left
+pub first_told : {X : Type 0} (passes : X → Bool) (owe : X → UserName × Report) (x : X) (rest left : List X) (streams now all : AllStreams)
+    → left ≡ x ∷ rest → passes x ≡ true → now ≡ with_owed streams (owe x)
+    → HaveOwedPlaces (map owe (filter passes left)) streams → with_all_owed (map owe (filter passes left)) streams ≡ all
+    → HaveOwedPlaces (map owe (filter passes rest)) now × (with_all_owed (map owe (filter passes rest)) now ≡ all)
+first_told {X} passes owe x rest left streams now all left_is his now_is enough telling =
+    let more : List (UserName × Report) = map owe (filter passes rest) in
+    let owed_are : map owe (filter passes left) ≡ owe x ∷ more =
+    ap (λ (xs : List X). map owe (filter passes xs)) left_is ∙ ap (λ (b : Bool). map owe (cond b (x ∷ filter passes rest) (filter passes rest))) his in (
+      subst (HaveOwedPlaces more) (sym now_is) (rest_have_places (owe x ∷ []) more streams (subst (λ (owed : List (UserName × Report)). HaveOwedPlaces owed streams) owed_are enough)),
+      ap (with_all_owed more) now_is ∙ sym (ap (λ (owed : List (UserName × Report)). with_all_owed owed streams) owed_are) ∙ telling,
+    )
+
+-- passing over it
+pub first_passed : {X : Type 0} (passes : X → Bool) (owe : X → UserName × Report) (x : X) (rest left : List X) (streams now all : AllStreams)
+    → left ≡ x ∷ rest → passes x ≡ false → now ≡ streams
+    → HaveOwedPlaces (map owe (filter passes left)) streams → with_all_owed (map owe (filter passes left)) streams ≡ all
+    → HaveOwedPlaces (map owe (filter passes rest)) now × (with_all_owed (map owe (filter passes rest)) now ≡ all)
+first_passed {X} passes owe x rest left streams now all left_is others now_is enough telling =
+    let more : List (UserName × Report) = map owe (filter passes rest) in
+    let owed_are : map owe (filter passes left) ≡ more =
+    ap (λ (xs : List X). map owe (filter passes xs)) left_is ∙ ap (λ (b : Bool). map owe (cond b (x ∷ filter passes rest) (filter passes rest))) others in (
+      subst (HaveOwedPlaces more) (sym now_is) (subst (λ (owed : List (UserName × Report)). HaveOwedPlaces owed streams) owed_are enough),
+      ap (with_all_owed more) now_is ∙ sym (ap (λ (owed : List (UserName × Report)). with_all_owed owed streams) owed_are) ∙ telling,
+    )
+
+-- who comes first has a place
+pub one_has_place : (o : UserName × Report) (owed : List (UserName × Report)) (streams : AllStreams) → HaveOwedPlaces (o ∷ owed) streams → 0 < places_in streams.told o.0
+one_has_place o owed streams enough =
+    let others : List (UserName × Report) = filter (λ (x : UserName × Report). same_user x.0 o.0) owed in
+    let own : length (owed_to (o ∷ owed) o.0) ≡ length (owed_to owed o.0) + 1 =
+    ap (λ (b : Bool). length (map (λ (x : UserName × Report). x.1) (cond b (o ∷ others) others))) (user_is_itself o.0) ∙ omega arith in
+    omega (arith, enough o.0, own)
+
+-- and so has the first of those that are left, if he passes
+pub first_has_place : {X : Type 0} (passes : X → Bool) (owe : X → UserName × Report) (x : X) (rest left : List X) (streams : AllStreams)
+    → left ≡ x ∷ rest → passes x ≡ true → HaveOwedPlaces (map owe (filter passes left)) streams → 0 < places_in streams.told (owe x).0
+first_has_place {X} passes owe x rest left streams left_is his enough =
+    one_has_place (owe x) (map owe (filter passes rest)) streams
+    (subst (λ (owed : List (UserName × Report)). HaveOwedPlaces owed streams)
+    (ap (λ (xs : List X). map owe (filter passes xs)) left_is ∙ ap (λ (b : Bool). map owe (cond b (x ∷ filter passes rest) (filter passes rest))) his) enough)
+
+-- a command that ends no order owes nothing of one
+pub none_owed_of_ends : (action : Action) (moment : ℕ) (live : List LiveOrder) (streams : AllStreams) → is_lasting action ≡ true
+    → streams ≡ with_all_owed (owed_by_ends action moment live) streams
+none_owed_of_ends action moment live streams lasts =
+    sym (ap (λ (os : List LiveOrder). with_all_owed (map (owed_by_end moment) os) streams) (none_end action lasts live))
+
+-- a command that is neither Kill nor Close Day leaves what lives and what rests
+pub none_ends_by_default : (action : Action) (orders : OrdersData) (book : List StockOrders) → ((account : AccountName) → action ≡ actions.Kill account → ⊥) → (action ≡ actions.CloseDay → ⊥)
+    → (is_lasting action ≡ true) × (orders ≡ with_live (live_left action orders.live) orders) × (book ≡ ended_by action book)
+none_ends_by_default (actions.Kill account) orders book no_kill no_close = absurd (no_kill account refl)
+none_ends_by_default actions.CloseDay orders book no_kill no_close = absurd (no_close refl)
+none_ends_by_default (actions.Lift account) orders book no_kill no_close = (refl, refl, refl)
+none_ends_by_default (actions.SetLimit rule limit) orders book no_kill no_close = (refl, refl, refl)
+none_ends_by_default (actions.Restrict rule stock) orders book no_kill no_close = (refl, refl, refl)
+none_ends_by_default (actions.Unrestrict rule stock) orders book no_kill no_close = (refl, refl, refl)
+none_ends_by_default (actions.Grant reader account) orders book no_kill no_close = (refl, refl, refl)
+none_ends_by_default (actions.Revoke reader account) orders book no_kill no_close = (refl, refl, refl)
+
+-- ---- a granted command
+
+orders_left : (policy : PolicyData) (history : List RecordData) (a : Asked) (r : RecordData) (c : Command) → IsLegal policy history → next policy history (steps.Asked a) ≡ Some r
+    → r.verdict ≡ verdicts.Granted → a.request ≡ requests.Command c → (action : Action) → c.action ≡ action
+    → orders_in_force policy (history ++ r ∷ []) ≡ with_live (live_left action (orders_in_force policy history).live) (orders_in_force policy history)
+orders_left policy history a r c legal left granted asks (actions.Kill account) is =
+    kills_end policy history a r account legal left (ap action_of asks ∙ ap (λ (x : Action). Some x) is) granted
+orders_left policy history a r c legal left granted asks actions.CloseDay is = closes_end policy history a r legal left (ap action_of asks ∙ ap (λ (x : Action). Some x) is) granted
+orders_left policy history a r c legal left granted asks (actions.Lift account) is = others_keep policy history a r legal left granted (ap keeps_orders asks ∙ ap is_lasting is)
+orders_left policy history a r c legal left granted asks (actions.SetLimit rule limit) is = others_keep policy history a r legal left granted (ap keeps_orders asks ∙ ap is_lasting is)
+orders_left policy history a r c legal left granted asks (actions.Restrict rule stock) is = others_keep policy history a r legal left granted (ap keeps_orders asks ∙ ap is_lasting is)
+orders_left policy history a r c legal left granted asks (actions.Unrestrict rule stock) is = others_keep policy history a r legal left granted (ap keeps_orders asks ∙ ap is_lasting is)
+orders_left policy history a r c legal left granted asks (actions.Grant reader account) is = others_keep policy history a r legal left granted (ap keeps_orders asks ∙ ap is_lasting is)
+orders_left policy history a r c legal left granted asks (actions.Revoke reader account) is = others_keep policy history a r legal left granted (ap keeps_orders asks ∙ ap is_lasting is)
+
+pub command_goes_on : (policy : PolicyData) (history : List RecordData) (a : Asked) (r : RecordData) (c : Command) (before k : Keepers)
+    → Takes policy history a r before → r.verdict ≡ verdicts.Granted → a.request ≡ requests.Command c → is_sound policy ≡ true
+    → k.people ≡ given before.people c.action → k.rules ≡ changed before.rules c.action → k.day ≡ day_commanded c.action before.day
+    → k.orders ≡ with_live (live_left c.action before.orders.live) before.orders → k.book ≡ ended_by c.action before.book
+    → ClosesAll (ended_orders c.action before.orders.live) before.ledger k.ledger → k.streams ≡ with_all_owed (owed_by_command policy r a.user c before.orders.live) before.streams
+    → AreInForceBut policy history r k
+command_goes_on policy history a r c before k t granted asks sound people_are rules_are day_is orders_are book_is closes streams_are =
+    let owed : List (UserName × Report) = owed_by_command policy r a.user c before.orders.live in
+    by_grant policy history a r before k (requests.Command c) t.in_force granted (step_left policy history (steps.Asked a) r t.left) asks people_are rules_are day_is
+    (orders_are ∙ ap (λ (orders : OrdersData). with_live (live_left c.action orders.live) orders) t.in_force.orders
+    ∙ sym (orders_left policy history a r c t.legal t.left granted asks c.action refl))
+    (book_is ∙ ap (ended_by c.action) t.in_force.book ∙ sym (booked.ends_by policy history a r c.action t.legal t.left granted a.request refl (ap action_of asks)))
+    (command_figured policy history a r c before k.ledger t granted asks closes)
+    (ap shown streams_are ∙ all_owed_shown before.streams owed ∙ ap (each_told (owed_to owed)) t.in_force.streams
+    ∙ sym (more_told policy history (history ++ r ∷ []) (owed_to owed) (command_tells policy history a r c before t granted asks sound)))
+
+-- the rule that a granted setting names has it
+knows_setting : (policy : PolicyData) (history : List RecordData) (action : Action) → knows_names policy history action ≡ true → HasSetting (rules_in_force policy history) action
+knows_setting policy history (actions.SetLimit rule limit) h = limit_there (rule_in_force policy history rule) h
+  where
+    limit_there : (found : Option FileRule) → knows_limit found ≡ true → is_some (option_and_then (λ (r : FileRule). limit_of r.kind) found) ≡ true
+    limit_there None e = e
+    limit_there (Some rule) e = e
+knows_setting policy history (actions.Restrict rule stock) h = (both _ _ h).0
+knows_setting policy history (actions.Unrestrict rule stock) h = (both _ _ h).0
+knows_setting policy history (actions.Grant reader account) h = tt
+knows_setting policy history (actions.Revoke reader account) h = tt
+knows_setting policy history (actions.Kill account) h = tt
+knows_setting policy history (actions.Lift account) h = tt
+knows_setting policy history actions.CloseDay h = tt
+
+pub has_setting : (policy : PolicyData) (history : List RecordData) (a : Asked) (r : RecordData) (c : Command) (k : Keepers)
+    → Takes policy history a r k → r.verdict ≡ verdicts.Granted → a.request ≡ requests.Command c → HasSetting k.rules c.action
+has_setting policy history a r c k t grants asks =
+    subst (λ (rules : List FileRule). HasSetting rules c.action) (sym t.in_force.rules)
+    (knows_setting policy history c.action (command_is_known policy history a r c t.left grants asks))

@@ -1,0 +1,120 @@
+//! What a granted command does to the keepers.
+
+ghost use Rattle.std.specs.Prelude.{◌≡◌, OnOk, OnErr};
+ghost use Rattle.gx_day.specs.InForce.{day_commanded};
+ghost use Rattle.gx_history.specs.declared.record.Request.TheVariants as requests;
+ghost use Rattle.gx_history.specs.declared.record.Verdict.TheVariants as verdicts;
+ghost use Rattle.gx_keepers.specs.Ends.{owed_by_close, owed_by_day_ends, owed_by_next};
+ghost use Rattle.gx_keepers.specs.Ends.{told_by_next, told_of_close, told_of_day_end, trades};
+ghost use Rattle.gx_keepers.specs.Ends.{HaveOwedPlaces};
+ghost use Rattle.gx_keepers.specs.Keepers.{AreAfterBut, AreBefore, IsNext, IsPlaced};
+
+use crate::ends::{end_orders, tell_of_ends};
+use crate::keepers::Keepers;
+use crate::next_record::NextRecord;
+use crate::reports::{answer, day_end, tell};
+use crate::settings::set;
+use gx_day::day::Day;
+use gx_desk::{Action, AnswerCode, Command};
+use gx_history::policy::{Policy, Role, User};
+use gx_history::report::Report;
+use gx_orders::orders::Orders;
+use gx_streams::streams::Streams;
+use gx_units::{Moment, OutOfMemory};
+
+/// Whether the user trades for an account.
+fn trades(user: &User) -> bool
+    ensures { result ≡ trades user.now }
+{
+    match user.role {
+        Role::Trader(_) => true,
+        _ => false,
+    }
+}
+
+/// Tells each trader of the end of the day.
+fn tell_of_day_end(streams: &mut Streams, policy: &Policy, moment: Moment)
+    requires { HaveOwedPlaces (owed_by_day_ends moment policy.now.users) streams.old }
+    ensures { streams.new ≡ told_of_day_end moment policy.now.users streams.old }
+{
+    for user in policy.users() {
+        if trades(user) {
+            streams.append_reserved(
+                user.name,
+                Report {
+                    timestamp: moment,
+                    message: day_end(),
+                },
+            );
+        }
+    }
+}
+
+/// Tells each trader of the end of the day, where the command closes it.
+fn tell_of_close(streams: &mut Streams, policy: &Policy, action: &Action, moment: Moment)
+    requires { HaveOwedPlaces (owed_by_close action.now moment policy.now.users) streams.old }
+    ensures { streams.new ≡ told_of_close action.now moment policy.now.users streams.old }
+{
+    match action {
+        Action::CloseDay => tell_of_day_end(streams, policy, moment),
+        _ => {}
+    }
+}
+
+/// Tells of a granted command: the users of the orders that it ends, then each trader of the end of
+/// the day, if it closes it, and last the officer.
+fn tell_of_command(streams: &mut Streams, orders: &Orders, next: NextRecord<'_>, c: &Command)
+    requires { HaveOwedPlaces (owed_by_next next c.now orders.now.live) streams.old }
+    ensures { streams.new ≡ told_by_next next.entry c.now orders.now.live streams.old }
+{
+    let moment = next.left.moment;
+    tell_of_ends(streams, orders, &c.action, moment);
+    tell_of_close(streams, next.policy, &c.action, moment);
+    let done = answer(next.left, c, AnswerCode::Done);
+    tell(streams, next.asked.user, moment, Some(done));
+}
+
+/// Kills or lifts an account, or closes the day, as the command says; any other leaves the day.
+fn set_day(day: &mut Day, action: &Action)
+    ensures { day.new ≡ day_commanded action.now day.old }
+{
+    match *action {
+        Action::Kill(account) => day.kill(account),
+        Action::Lift(account) => day.lift(account),
+        Action::CloseDay => day.close(),
+        _ => {}
+    }
+}
+
+/// A granted command: what it sets is in force from the next record on, and the orders that it is
+/// for end. Only a setting takes memory.
+///
+/// # Errors
+///
+/// `OutOfMemory`: there was no memory for one more account that a reader sees, or for one more
+/// stock in a list, and nothing has changed.
+pub fn apply_command(
+    keepers: &mut Keepers,
+    next: NextRecord<'_>,
+    c: &Command,
+) -> Result<(), OutOfMemory>
+    requires takes { IsNext next keepers.old }
+    requires places { IsPlaced next keepers.old }
+    requires granted { next.left.now.verdict ≡ verdicts.Granted }
+    requires commands { next.asked.now.request ≡ requests.Command c.now }
+    ensures ok { OnOk result (AreAfterBut next.entry keepers.new) }
+    ensures err { OnErr result (AreBefore next.entry keepers.new) }
+{
+    // What this ensures: no two users have one name.
+    let _ = next.policy.rules();
+    set(&mut keepers.people, &mut keepers.rules, &c.action)?;
+    tell_of_command(&mut keepers.streams, &keepers.orders, next, c);
+    end_orders(
+        &mut keepers.ledger,
+        &mut keepers.orders,
+        &mut keepers.book,
+        &c.action,
+    );
+    set_day(&mut keepers.day, &c.action);
+    Ok(())
+}
