@@ -165,7 +165,9 @@ fn serve(rt: &HostRuntime, gate: &mut Gate) -> Result<(), PipeFault> {
 /// Serves one connection.
 fn pipe<'a>(rt: &HostRuntime, file: Option<&'a str>) -> Result<(), Ended<'a>> {
     let mut gate = gate_of(rt, file)?;
-    Ok(serve(rt, &mut gate)?)
+    let served = serve(rt, &mut gate);
+    gate.close();
+    Ok(served?)
 }
 
 /// Runs a script on a gate.
@@ -178,7 +180,9 @@ fn follow(rt: &HostRuntime, gate: &mut Gate) -> Result<(), Explained> {
 /// Runs a script.
 fn script<'a>(rt: &HostRuntime, file: Option<&'a str>) -> Result<(), Ended<'a>> {
     let mut gate = gate_of(rt, file)?;
-    Ok(follow(rt, &mut gate)?)
+    let followed = follow(rt, &mut gate);
+    gate.close();
+    Ok(followed?)
 }
 
 /// Tells how much a policy file holds.

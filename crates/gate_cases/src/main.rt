@@ -78,7 +78,9 @@ fn run_once(
     match open_gate(alloc, file) {
         Ok(gate) => {
             let mut gate = gate;
-            tell_parts(alloc, &mut out, &mut gate, policy, parts, usual)?;
+            let told = tell_parts(alloc, &mut out, &mut gate, policy, parts, usual);
+            gate.close();
+            told?;
         }
         Err(fault) => put_fault(&mut out, &fault)?,
     }

@@ -141,7 +141,9 @@ fn run_alone(
     let mut gate = Gate::open(alloc, trial.policy)?;
     let (limits, input) = varied_by(trial, count);
     let ended = connect(alloc, &mut gate, limits, input);
-    put_left(alloc, text, &gate, &ended, whole)?;
+    let put = put_left(alloc, text, &gate, &ended, whole);
+    gate.close();
+    put?;
     Ok((ended.written.len(), ended.is_done()))
 }
 
@@ -212,7 +214,9 @@ fn put_runs(
 fn whole_answer(alloc: Global, trial: Trial<'_>) -> Result<Vec<u8>, OutOfMemory> {
     let mut gate = Gate::open(alloc, trial.policy)?;
     let (limits, _) = varied_by(trial, usize::MAX);
-    Ok(connect(alloc, &mut gate, limits, trial.input).written)
+    let written = connect(alloc, &mut gate, limits, trial.input).written;
+    gate.close();
+    Ok(written)
 }
 
 /// Tries a connection, and tells of it: the answer to the whole, and the runs.

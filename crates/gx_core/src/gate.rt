@@ -85,6 +85,10 @@ impl Gate {
         })
     }
 
+    /// Lets the gate go. Crates above call this in place of a drop at the end of a block: the drop of all that the gate
+    /// keeps is proved here once, and not in each of them.
+    pub fn close(self) {}
+
     /// Judges the request on all earlier records, and puts its record last.
     ///
     /// The request's line is above 0, and its user in upper case.

@@ -5,6 +5,7 @@ ghost use Rattle.gx_book.specs.Books.{empty_book};
 ghost use Rattle.gx_positions.specs.Changing.{nothing};
 ghost use Rattle.gx_streams.specs.Streams.{empty_streams};
 ghost use Rattle.gx_ledger.specs.StandsFor.{StandsFor};
+ghost use Rattle.gx_day.specs.InForce.{fresh_day};
 ghost use Rattle.gx_keepers.specs.Keepers.{AreInForce};
 
 use gx_book::book::Book;
@@ -32,38 +33,70 @@ pub struct Keepers {
     pub streams: Streams,
 }
 
+/// What the day begins with that commands change.
+#[derive(Drop)]
+struct Settings {
+    people: People,
+    rules: RuleBook,
+}
+
+/// What the day begins with that orders change.
+#[derive(Drop)]
+struct Trading {
+    book: Book,
+    ledger: Ledger,
+}
+
+/// What the day begins with that records tell.
+#[derive(Drop)]
+struct Telling {
+    day: Day,
+    streams: Streams,
+}
+
+fn first_settings(alloc: Global, policy: &Policy) -> Result<Settings, OutOfMemory>
+    ensures people { IfOk result (λ s. s.people ≡ policy.now.users) }
+    ensures rules { IfOk result (λ s. s.rules ≡ policy.now.rules) }
+{
+    let people = People::new(alloc, policy)?;
+    let rules = RuleBook::new(alloc, policy)?;
+    Ok(Settings { people, rules })
+}
+
+fn first_telling(alloc: Global, policy: &Policy) -> Result<Telling, OutOfMemory>
+    ensures day { IfOk result (λ t. t.day ≡ fresh_day policy.now) }
+    ensures streams { IfOk result (λ t. t.streams ≡ empty_streams policy.now) }
+{
+    let day = Day::new(alloc, policy)?;
+    let streams = Streams::new(alloc, policy)?;
+    Ok(Telling { day, streams })
+}
+
+fn first_trading(alloc: Global, policy: &Policy) -> Result<Trading, OutOfMemory>
+    ensures book { IfOk result (λ t. t.book ≡ empty_book policy.now) }
+    ensures ledger { IfOk result (λ t. StandsFor policy.now t.ledger nothing) }
+{
+    let book = Book::new(alloc, policy)?;
+    let ledger = Ledger::new(alloc, policy)?;
+    Ok(Trading { book, ledger })
+}
+
 impl Keepers {
     /// As they are at the beginning of a day under the policy.
     pub fn new(alloc: Global, policy: &Policy) -> Result<Keepers, OutOfMemory>
         ensures { IfOk result (λ keepers. AreInForce policy.now [] keepers) }
     {
-        let ledger = Ledger::new(alloc, policy)?;
-        let book = Book::new(alloc, policy)?;
-        let streams = Streams::new(alloc, policy)?;
-        Keepers::over(alloc, policy, book, ledger, streams)
-    }
-
-    /// With a book, a ledger and streams as they are at the beginning of a day.
-    fn over(
-        alloc: Global,
-        policy: &Policy,
-        book: Book,
-        ledger: Ledger,
-        streams: Streams,
-    ) -> Result<Keepers, OutOfMemory>
-        requires of_book { book ≡ empty_book policy.now }
-        requires of_ledger { StandsFor policy.now ledger nothing }
-        requires of_streams { streams ≡ empty_streams policy.now }
-        ensures { IfOk result (λ keepers. AreInForce policy.now [] keepers) }
-    {
+        let telling = first_telling(alloc, policy)?;
+        let settings = first_settings(alloc, policy)?;
+        let trading = first_trading(alloc, policy)?;
         Ok(Keepers {
-            people: People::new(alloc, policy)?,
-            rules: RuleBook::new(alloc, policy)?,
-            day: Day::new(alloc, policy)?,
+            people: settings.people,
+            rules: settings.rules,
+            day: telling.day,
             orders: Orders::new(alloc),
-            book,
-            ledger,
-            streams,
+            book: trading.book,
+            ledger: trading.ledger,
+            streams: telling.streams,
         })
     }
 }
