@@ -1,6 +1,6 @@
 //! A part of a user's stream.
 
-ghost use Rattle.std.specs.Prelude.{◌≡◌, ◌+◌, length, max, IfOk};
+ghost use Rattle.std.specs.Prelude.{◌≡◌, ◌+◌, ◌-◌, ◌^◌, ◌<◌, length, max, IfOk};
 ghost use Rattle.gx_history.specs.Lists.{slice};
 ghost use Rattle.gx_core.specs.Kept.{is_past_the_end, told_kept};
 
@@ -40,6 +40,14 @@ pub struct Pulled {
     pub next: u64,
     /// The day is closed, and no report is past these.
     pub ended: bool,
+}
+
+/// How many reports there are: fewer than a pull may ask for.
+pub fn count_of(reports: &[Report]) -> u64
+    ensures count { result ≡ length reports.now }
+    ensures within { length reports.now < 2 ^ 64 - 1 }
+{
+    reports.len() as u64
 }
 
 /// The user's reports from this number on, 0 counting as 1, and at most so many.

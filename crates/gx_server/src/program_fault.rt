@@ -4,12 +4,12 @@ ghost use Rattle.std.specs.Prelude.{◌≡◌, ◌≢◌, ◌+◌, ◌≤◌, �
 ghost use Rattle.arrayvec.specs.ArrayVec.{array_vec_len};
 ghost use Rattle.gx_policyfile.specs.Field.{is_memory};
 ghost use Rattle.gx_server.specs.declared.program_fault.ProgramFault.TheVariants as faults;
-ghost use Rattle.gx_session.specs.Devices.{fault_words};
+ghost use Rattle.gx_session.specs.Faults.{fault_words};
 ghost use Rattle.gx_server.specs.Telling.{out_of_memory, script_words, policy_words, gate_line, fault_line, script_status, status_of};
 
-use crate::script_fault::{Explained, ScriptFault};
 use arrayvec::ArrayVec;
 use gx_policyfile::{FaultKind, PolicyFault};
+use gx_scripting::{Explained, ScriptFault};
 use gx_session::PipeFault;
 use gx_units::OutOfMemory;
 use itoa::Buffer;

@@ -20,12 +20,12 @@ use Rattle.gx_session.specs.declared.fault.PipeFault.{PipeFault}
 use Rattle.gx_session.specs.declared.fault.PipeFault.TheVariants.{OutOfMemory, ReadFailed, WriteFailed, DayFull, Endless}
 use Rattle.gx_session.specs.declared.session.Phase.{Phase}
 use Rattle.gx_session.specs.declared.session.Phase.TheVariants.{Fresh, Waiting, On, Abandoned, Done}
-use Rattle.gx_session.specs.Devices.{IsFront}
+use Rattle.gx_devices.specs.Devices.{IsFront}
 use Rattle.gx_session.specs.Events.{asks_step, is_over}
 use Rattle.gx_session.specs.Happenings.{Happening}
 use Rattle.gx_session.specs.Happenings as happens
 use Rattle.gx_session.specs.Piping.{who, IsTaken, IsUndone, IsGivenUp, IsPullGivenUp, IsOfSending, IsOfStep, IsOfMatching, IfFullIsClosed, IsMatchedInPart, IsAt, matched_of, IsMade, IsWithin, IsLeaving, StopsAt, IsCutShort, Follows, Broken, IsFault, LoggedOut, IsAfterFault}
-use Rattle.gx_session.specs.Steps.{asked_by, stepped}
+use Rattle.gx_core.specs.Asking.{asked_by, stepped}
 use Rattle.gx_session.specs.Table.{SessionData, row_in, turn}
 use Rattle.gx_session.specs.Transcript.{Run, with_text, silent, and_then, acted, is_on, on_event, ticked, answered, matched, pulled, handled, on_packet, opened, run_of, finished}
 use Rattle.gx_session.proofs.Runs.{Stands, fold_from}

@@ -1,5 +1,5 @@
 pub mod Rows
-pub mod Known
+pub mod Endings
 pub mod Stepping
 pub mod Turning
 pub mod Runs

@@ -25,7 +25,8 @@ use Rattle.gx_session.specs.declared.session.Phase.TheVariants.{Fresh, Waiting, 
 use Rattle.gx_session.specs.Events.{is_over}
 use Rattle.gx_session.specs.Happenings.{Happening}
 use Rattle.gx_session.specs.Happenings as happens
-use Rattle.gx_session.specs.Steps.{stepped, login_asked_at}
+use Rattle.gx_core.specs.Asking.{stepped}
+use Rattle.gx_session.specs.Steps.{login_asked_at}
 use Rattle.gx_session.specs.Table.{turn}
 use Rattle.gx_session.specs.Transcript.{Run, opened_at, silent, and_then, acted, on_event, logged_in, login_in, with_login, answered, matched, unsent, is_on, sent, pulled, ticked, handled, on_packet, run_of}
 

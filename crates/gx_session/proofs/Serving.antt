@@ -49,7 +49,8 @@ use Rattle.gx_session.specs.declared.session.Phase.{Phase}
 use Rattle.gx_session.specs.declared.session.Phase.TheVariants.{Fresh, Waiting, On, Abandoned, Done}
 use Rattle.gx_session.specs.Happenings as happens
 use Rattle.gx_session.specs.Serving.{owed, IsServed, HasOnlyMatched, Serves}
-use Rattle.gx_session.specs.Steps.{asked_by, stepped, login_asked_at, login_told}
+use Rattle.gx_core.specs.Asking.{asked_by, stepped}
+use Rattle.gx_session.specs.Steps.{login_asked_at, login_told}
 use Rattle.gx_session.specs.Table.{turn}
 use Rattle.gx_session.specs.Transcript.{Run, with_text, on_event, first_told, logged_in, answered, report_packet, reports_text, sent, matched, pulled, handled, on_packet, opened, run_of, later}
 

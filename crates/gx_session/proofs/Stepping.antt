@@ -18,21 +18,9 @@ use Rattle.gx_core.specs.Matches.{next_match, with_match, settled_gate, IsSettli
 use Rattle.gx_core.specs.Logins.{login_answered}
 use Rattle.gx_core.specs.declared.outcome.LoginAnswer.{LoginAnswer}
 use Rattle.gx_core.specs.declared.outcome.Outcome.{Outcome}
-use Rattle.gx_session.specs.Steps.{stepped, login_asked_at, login_told}
-
-same_gate : (p q : PolicyData) (r s : List RecordData) (after : GateData) → after ≡ record { policy = p; records = r } → p ≡ q → r ≡ s → after ≡ record { policy = q; records = s }
-same_gate p q r s after h e f =
-    let policied : PolicyData → GateData = λ x. record { policy = x; records = r } in
-    let recorded : List RecordData → GateData = λ x. record { policy = q; records = x } in
-    h ∙ (ap policied e ∙ ap recorded f)
-
--- a step's gate
-pub stepped_is : (gate after : GateData) (a : Asked) (o : Outcome) → after.policy ≡ gate.policy → next gate.policy gate.records (steps.Asked a) ≡ Some (left_by a o)
-    → after.records ≡ gate.records ++ left_by a o ∷ [] → after ≡ stepped gate a
-stepped_is gate after a o p n r =
-    let e : after.records ≡ after_step gate.policy gate.records (steps.Asked a) =
-    r ∙ sym (ap (λ (x : Option RecordData). option_map_or (λ (y : RecordData). gate.records ++ y ∷ []) x gate.records) n) in
-    same_gate after.policy gate.policy after.records (after_step gate.policy gate.records (steps.Asked a)) after refl p e
+use Rattle.gx_core.proofs.Stepped.{stepped_is}
+use Rattle.gx_core.specs.Asking.{stepped}
+use Rattle.gx_session.specs.Steps.{login_asked_at, login_told}
 
 -- what a login is told
 pub told_is : (gate : GateData) (moment : ℕ) (login : LoginRequest) (after : GateData) (a : Asked) (o : Outcome) (user : UserName) (answer : LoginAnswer)
@@ -47,10 +35,6 @@ told_is gate moment login after a o user answer asked p n r u e =
     ∙ (ap (λ (x : UserName). login_answered gate.policy (stepped gate a).records x login.wanted o.verdict) u
     ∙ (ap (λ (x : Verdict). login_answered gate.policy (stepped gate a).records (folded_user login.user) login.wanted x) v
     ∙ ap (λ (x : Asked). login_answered gate.policy (stepped gate x).records (folded_user login.user) login.wanted (verdict gate.policy gate.records x)) asked)))
-
--- fewer than were asked for are all
-pub all_taken : {X : Type 0} (xs : List X) (most : ℕ) → length (take most xs) < most → take most xs ≡ xs
-all_taken xs most h = take_all most xs (omega (arith, h, length-take most xs))
 
 -- where no step more is to be made, all are
 pub settled_here : (before now after : GateData) (moment : ℕ) (found : Option Outcome) → is_some found ≡ false → IsSettling before moment now

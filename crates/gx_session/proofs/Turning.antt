@@ -26,15 +26,17 @@ use Rattle.gx_session.specs.declared.fault.SendFault.{SendFault}
 use Rattle.gx_session.specs.declared.fault.SendFault.TheVariants as send_faults
 use Rattle.gx_session.specs.declared.session.Phase.{Phase}
 use Rattle.gx_session.specs.declared.session.Phase.TheVariants.{Fresh, Waiting, On, Abandoned, Done}
-use Rattle.gx_session.specs.Devices.{IsFront, fault_of_send}
+use Rattle.gx_devices.specs.Devices.{IsFront}
+use Rattle.gx_session.specs.Faults.{fault_of_send}
 use Rattle.gx_session.specs.Events.{asks_step}
 use Rattle.gx_session.specs.Happenings.{Happening}
 use Rattle.gx_session.specs.Happenings as happens
 use Rattle.gx_session.specs.Piping.{who, IsTaken, IsUnsent, IsGivenUp, IsTurnGivenUp, IsPullGivenUp, GivesAll, IfFullIsClosed, IsOfStep}
-use Rattle.gx_session.specs.Steps.{stepped, login_asked_at, login_told}
+use Rattle.gx_core.specs.Asking.{stepped}
+use Rattle.gx_session.specs.Steps.{login_asked_at, login_told}
 use Rattle.gx_session.specs.Table.{SessionData, row_in, turn}
 use Rattle.gx_session.specs.Transcript.{Run, with_text, silent, control_text, acted, on_event, first_told, logged_in, login_in, with_login, answered, reports_text, sent, unsent, is_on, pulled}
-use Rattle.gx_session.proofs.Stepping.{all_taken}
+use Rattle.gx_core.proofs.Stepped.{all_taken}
 
 -- Rows of the table.
 

@@ -1,7 +1,7 @@
 pub mod Happenings
 pub mod Table
 pub mod Events
-pub mod Devices
+pub mod Faults
 pub mod Steps
 pub mod Transcript
 pub mod Piping

@@ -14,11 +14,11 @@ use Rattle.gx_core.specs.Steps.{IsFull}
 use Rattle.gx_session.specs.declared.connection.Connection.{Connection}
 use Rattle.gx_session.specs.declared.fault.PipeFault.{PipeFault}
 use Rattle.gx_session.specs.declared.fault.PipeFault.TheVariants as faults
-use Rattle.gx_session.specs.Devices.{IsFront}
+use Rattle.gx_devices.specs.Devices.{IsFront}
 use Rattle.gx_session.specs.Events.{asks_step, is_over}
 use Rattle.gx_session.specs.Happenings.{Happening}
 use Rattle.gx_session.specs.Happenings as happens
-use Rattle.gx_session.specs.Steps.{asked_by, stepped}
+use Rattle.gx_core.specs.Asking.{asked_by, stepped}
 use Rattle.gx_session.specs.Table.{turn}
 use Rattle.gx_session.specs.Transcript.{Run, silent, and_then, unsent, is_on, ticked, on_event, answered, matched, pulled, handled, on_packet, opened, run_of, pipe, is_ended}
 

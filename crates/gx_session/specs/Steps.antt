@@ -1,24 +1,15 @@
--- What is asked of a gate on the one line that there is, and what its step makes of the gate.
+-- What a login asks of a gate, and what it is told.
 use Rattle.std.specs.Prelude.{ℕ}
 use Rattle.gx_units.specs.Spelling.{folded_user, folded_password, folded_session}
-use Rattle.gx_units.specs.declared.names.UserName.{UserName}
 use Rattle.gx_soup.specs.declared.packet.LoginRequest.{LoginRequest}
 use Rattle.gx_history.specs.declared.record.Asked.{Asked}
 use Rattle.gx_history.specs.declared.record.Request.{Request}
-use Rattle.gx_history.specs.declared.record.Step.TheVariants as steps
 use Rattle.gx_history.specs.Logins.{login_asked}
-use Rattle.gx_history.specs.Verdicts.{verdict, after_step}
+use Rattle.gx_history.specs.Verdicts.{verdict}
+use Rattle.gx_core.specs.Asking.{asked_by, stepped}
 use Rattle.gx_core.specs.Gates.{GateData}
 use Rattle.gx_core.specs.Logins.{login_answered}
 use Rattle.gx_core.specs.declared.outcome.LoginAnswer.{LoginAnswer}
-
--- a request of the user, on the one line that there is
-abbrev pub asked_by : UserName → Request → ℕ → Asked
-asked_by user request moment = record { line = 1; user = folded_user user; request = request; handed = moment }
-
--- the gate after the request's step
-abbrev pub stepped : GateData → Asked → GateData
-stepped gate a = record { policy = gate.policy; records = after_step gate.policy gate.records (steps.Asked a) }
 
 -- the request of a Login Request packet: names are compared as the standard says
 abbrev pub login_of : GateData → LoginRequest → Request

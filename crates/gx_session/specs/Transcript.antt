@@ -28,7 +28,8 @@ use Rattle.gx_session.specs.declared.session.Phase.TheVariants.{Fresh, Waiting, 
 use Rattle.gx_session.specs.Events.{is_over}
 use Rattle.gx_session.specs.Happenings.{Happening}
 use Rattle.gx_session.specs.Happenings as happens
-use Rattle.gx_session.specs.Steps.{asked_by, stepped, login_asked_at, login_told}
+use Rattle.gx_core.specs.Asking.{asked_by, stepped}
+use Rattle.gx_session.specs.Steps.{login_asked_at, login_told}
 use Rattle.gx_session.specs.Table.{Turn, turn, new_session}
 
 -- a gate, a connection, and the text written so far

@@ -3,10 +3,10 @@
 ghost use Rattle.std.specs.Prelude.{◌≡◌};
 ghost use Rattle.gx_session.specs.declared.fault.PipeFault.TheVariants as faults;
 ghost use Rattle.gx_session.specs.declared.fault.SendFault.TheVariants as send_faults;
-ghost use Rattle.gx_session.specs.Devices.{fault_words};
+ghost use Rattle.gx_session.specs.Faults.{fault_words};
 
-use crate::write::WriteFailed;
 use gx_core::StepFault;
+use gx_devices::WriteFailed;
 use gx_units::OutOfMemory;
 use std::error::Error;
 use std::fmt;
@@ -75,7 +75,7 @@ impl From<WriteFailed> for SendFault {
 }
 
 impl From<SendFault> for PipeFault {
-    ghost use Rattle.gx_session.specs.Devices.{fault_of_send};
+    ghost use Rattle.gx_session.specs.Faults.{fault_of_send};
 
     ghost from_gives = { λ sent e. e ≡ fault_of_send sent };
 
@@ -96,7 +96,7 @@ impl From<OutOfMemory> for PipeFault {
 }
 
 impl From<StepFault> for PipeFault {
-    ghost use Rattle.gx_session.specs.Devices.{fault_of_step};
+    ghost use Rattle.gx_session.specs.Faults.{fault_of_step};
 
     ghost from_gives = { λ refused e. e ≡ fault_of_step refused };
 

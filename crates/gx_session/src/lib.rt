@@ -3,17 +3,13 @@
 
 mod asking;
 mod connection;
-mod counted;
 mod event;
 mod fault;
 mod laws;
 mod pipe;
 mod sending;
 mod session;
-mod write;
 
-pub use asking::{asked, count_of, login_request};
-pub use counted::Counted;
 pub use event::{Control, Event, Next, Reply};
 pub use fault::{PipeFault, SendFault};
 pub use laws::{
@@ -23,4 +19,3 @@ pub use laws::{
 pub use pipe::run_pipe;
 pub use sending::send_pulled;
 pub use session::{Phase, Session};
-pub use write::{WriteFailed, write_whole};

@@ -2,17 +2,18 @@
 
 ghost use Rattle.std.specs.Prelude.{◌≡◌, ℕ, ◌-◌, ◌^◌, ◌<◌, ◌≤◌, List, fold, IfSome, IfOk, IfErr, IsErrOf, OnOk};
 ghost use Rattle.gx_core.specs.Gates.{GateData};
-ghost use Rattle.gx_session.specs.Devices.{IsToldRightly, IsUnfailing, IsFinite, counted_on};
+ghost use Rattle.gx_devices.specs.Devices.{IsUnfailing, counted_on};
+ghost use Rattle.gx_session.specs.Faults.{IsToldRightly, IsFinite};
 ghost use Rattle.gx_session.specs.Piping.{IsTaken, IsAt, IsCutShort, Follows, Exchanged, Broken, IsFault};
 ghost use Rattle.gx_session.specs.Happenings.{happening};
 ghost use Rattle.gx_session.specs.Piping.{IsAfterFault, IsLeaving, IsTranscript, IsPipe};
 ghost use Rattle.gx_session.specs.Transcript.{silent, on_packet, opened_at};
 
 use crate::connection::Connection;
-use crate::counted::Counted;
 use crate::event::Event;
 use crate::fault::PipeFault;
 use gx_core::{Gate, StepFault};
+use gx_devices::Counted;
 use gx_soup::{ClientPacket, Feeder};
 use std::alloc::Global;
 use std::io::{Read, Write};

@@ -2,13 +2,13 @@
 
 ghost use Rattle.std.specs.Prelude.{◌≡◌, ◌-◌, ◌^◌, ◌<◌, IfOk, IfErr, OnOk, OnErr};
 ghost use Rattle.std.specs.Io.KnownBytes.{Appends};
-ghost use Rattle.gx_session.specs.Devices.{IsFront, IsBlamed};
+ghost use Rattle.gx_devices.specs.Devices.{IsFront};
+ghost use Rattle.gx_session.specs.Faults.{IsBlamed};
 ghost use Rattle.gx_session.specs.Transcript.{report_packet, reports_text};
 
-use crate::counted::Counted;
 use crate::fault::SendFault;
-use crate::write::write_whole;
 use gx_core::Pulled;
+use gx_devices::{Counted, write_whole};
 use gx_history::report::Report;
 use gx_ouch::MESSAGE_ROOM;
 use gx_soup::{Payload, ServerPacket, encode};

@@ -1,5 +1,5 @@
 use Rattle.std.proofs.Common.{◌∙◌, ap}
-use Rattle.gx_session.specs.Steps.{asked_by}
+use Rattle.gx_core.specs.Asking.{asked_by}
 use Rattle.gx_session.proofs.Stepping.{told_is}
 use Rattle.gx_session.proofs.asking.login_step.Goals as goal
 

@@ -2,7 +2,7 @@ use Rattle.std.proofs.Common.{◌≡◌, Bool, true, false, ◌||◌, is_some, �
 use Rattle.gx_session.specs.Events.{is_over}
 use Rattle.std.proofs.lemmas.Result.{err_from_is_err_and}
 use Rattle.gx_session.proofs.Runs.{exchanged_by}
-use Rattle.gx_session.proofs.Known.{on_fault}
+use Rattle.gx_devices.proofs.Known.{on_fault}
 use Rattle.gx_session.proofs.Faults.{feed_cut}
 use Rattle.gx_session.proofs.pipe.exchange.Goals as goal
 use Rattle.gx_session.proofs.pipe.exchange.Goals.{then-is_some, else-is_some}

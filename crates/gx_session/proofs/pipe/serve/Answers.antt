@@ -4,7 +4,8 @@ use Rattle.gx_session.proofs.Runs.{stands_first, stands_next, stands_still, ende
 use Rattle.gx_session.proofs.Faults.{fault_stands, fault_broken}
 use Rattle.gx_session.specs.declared.fault.PipeFault.TheVariants.{ReadFailed, Endless}
 use Rattle.std.proofs.KnownBytes.{Keeps-refl}
-use Rattle.gx_session.proofs.Known.{on_fault, on_any, counted_next, not_endless}
+use Rattle.gx_devices.proofs.Known.{on_fault, on_any, counted_next}
+use Rattle.gx_session.proofs.Endings.{not_endless}
 use Rattle.std.proofs.lemmas.Result.{err_from_is_err_and}
 use Rattle.gx_session.proofs.pipe.serve.Goals as goal
 

@@ -1,5 +1,5 @@
 use Rattle.std.proofs.Common.{◌≡◌, ◌≤◌}
-use Rattle.gx_session.specs.Devices.{counted_on}
+use Rattle.gx_devices.specs.Devices.{counted_on}
 use Rattle.gx_session.proofs.Runs.{Stands}
 use Rattle.gx_session.proofs.pipe.serve.Given as goal
 

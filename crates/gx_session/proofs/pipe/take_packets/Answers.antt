@@ -1,6 +1,6 @@
 use Rattle.std.proofs.Common.{arith}
 use Rattle.std.proofs.lemmas.Result.{err_from_is_err_and}
-use Rattle.gx_session.proofs.Known.{on_fault}
+use Rattle.gx_devices.proofs.Known.{on_fault}
 use Rattle.gx_session.proofs.Faults.{item_cut}
 use Rattle.gx_session.proofs.pipe.take_packets.Goals as goal
 

@@ -1,6 +1,6 @@
 use Rattle.std.proofs.Common.{sym, ◌∙◌}
 use Rattle.std.proofs.lemmas.Result.{err_from_is_err_and}
-use Rattle.gx_session.proofs.Known.{on_fault, if_err}
+use Rattle.gx_devices.proofs.Known.{on_fault, if_err}
 use Rattle.gx_session.proofs.Turning.{packet_cut, login_is_waiting, login_cut}
 use Rattle.gx_session.proofs.connection.Connection.answer.Goals as goal
 

@@ -1,5 +1,5 @@
 use Rattle.std.proofs.lemmas.Result.{err_from_is_err_and}
-use Rattle.gx_session.proofs.Known.{on_fault}
+use Rattle.gx_devices.proofs.Known.{on_fault}
 use Rattle.gx_session.proofs.Turning.{log_in_cut}
 use Rattle.gx_session.proofs.connection.Connection.log_in.Goals as goal
 

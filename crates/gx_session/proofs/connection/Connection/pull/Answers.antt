@@ -1,6 +1,6 @@
 use Rattle.std.proofs.Common.{◌∙◌, sym, ap, length}
 use Rattle.std.proofs.lemmas.Result.{err_from_is_err_and}
-use Rattle.gx_session.proofs.Known.{on_fault}
+use Rattle.gx_devices.proofs.Known.{on_fault}
 use Rattle.gx_session.proofs.Turning.{pull_unsent, pull_unturned, pull_done}
 use Rattle.gx_session.proofs.connection.Connection.pull.Goals as goal
 

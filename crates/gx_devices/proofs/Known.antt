@@ -1,0 +1,67 @@
+-- What is written in parts.
+use Rattle.std.proofs.Common.{◌≡◌, ℕ, ◌+◌, ◌-◌, ◌≤◌, sym, ap, ◌∙◌, subst, List, [], append-nil, take-append-drop, length, take, drop, Option, None, Some, Result, Ok, Err, OnOk, OnErr, arith}
+use Rattle.std.proofs.lemmas.List.{take_rest}
+use Rattle.std.proofs.Math.Seq.{take-add}
+use Rattle.std.specs.Prelude.{IfErr}
+use Rattle.gx_devices.specs.Devices.{IsFront, counted_on, one_more}
+use Rattle.std.specs.Io.KnownBytes.{Appends, Keeps}
+use Rattle.std.proofs.KnownBytes.{Appends-trans}
+
+pub written_more : (a b c : Option (List ℕ)) (bytes : List ℕ) (done n : ℕ) → Appends a b (take done bytes) → Appends b c (take n (take (length bytes - done) (drop done bytes))) → Appends a c (take (done + n) bytes)
+written_more a b c bytes done n p q = rw (take-add done n bytes) (Appends-trans a b c _ _ p (rw (take_rest bytes done) at q))
+
+-- what holds anyway holds at an error
+pub on_err : {T E : Type 0} (r : Result T E) (P : Type 0) → P → OnErr r P
+on_err (Ok x) P p = tt
+on_err (Err e) P p = p
+
+-- what holds of the error that an answer was made of
+pub on_fault : {T E : Type 0} (r : Result T E) (made told : E) (P : E → Type 0) → r ≡ Err made → made ≡ told → P told → IfErr r P
+on_fault r made told P is same p = subst (λ q. IfErr q P) (sym is) (subst P (sym same) p)
+
+-- what holds of every error
+pub on_any : {T E : Type 0} (r : Result T E) (P : E → Type 0) → ((e : E) → P e) → IfErr r P
+on_any (Ok x) P p = tt
+on_any (Err e) P p = p e
+
+-- one call more
+pub counted_next : (before now later n : ℕ) → counted_on before n ≤ now → later ≡ one_more now → counted_on before (n + 1) ≤ later
+counted_next before now later n h k = omega arith
+
+none_is : (n : ℕ) → n ≤ 0 → n ≡ 0
+none_is n h = omega arith
+
+-- what stood there stayed
+Appends-kept : (a b c : Option (List ℕ)) (bs : List ℕ) → Appends a b bs → Keeps b c → Appends a c bs
+Appends-kept None b c bs p q = tt
+Appends-kept (Some x) None c bs p q = absurd p
+Appends-kept (Some x) (Some y) None bs p q = absurd q
+Appends-kept (Some x) (Some y) (Some z) bs p q = q ∙ p
+
+-- a front was written, and then nothing
+pub front_kept : (a b c : Option (List ℕ)) (bytes : List ℕ) (done : ℕ) → Appends a b (take done bytes) → Keeps b c → IsFront a c bytes
+front_kept a b c bytes done p k = record {
+  front = take done bytes;
+  rest = drop done bytes;
+  written = Appends-kept a b c (take done bytes) p k;
+  whole = sym (take-append-drop done bytes);
+}
+
+-- a front was written, and then nothing of some bytes
+pub front_still : (a b c : Option (List ℕ)) (bytes more : List ℕ) (done n : ℕ) → Appends a b (take done bytes) → Appends b c (take n more) → n ≤ 0 → IsFront a c bytes
+front_still a b c bytes more done n p q none =
+    let nothing : take n more ≡ [] = ap (λ k. take k more) (none_is n none) in
+    record {
+      front = take done bytes;
+      rest = drop done bytes;
+      written = subst (Appends a c) (append-nil (take done bytes)) (Appends-trans a b c _ _ p (subst (Appends b c) nothing q));
+      whole = sym (take-append-drop done bytes);
+    }
+
+pub if_err : {T E : Type 0} (r : Result T E) (P Q : E → Type 0) → ((e : E) → P e → Q e) → IfErr r P → IfErr r Q
+if_err (Ok x) P Q f p = tt
+if_err (Err e) P Q f p = f e p
+
+pub on_ok : {T E : Type 0} (r : Result T E) (P Q : Type 0) → (P → Q) → OnOk r P → OnOk r Q
+on_ok (Ok x) P Q f p = f p
+on_ok (Err e) P Q f p = tt

@@ -1,0 +1,8 @@
+//! Readers and writers whose calls and failures are counted, so that whoever gives up says rightly why.
+#![tactic(auto)]
+
+mod counted;
+mod write;
+
+pub use counted::Counted;
+pub use write::{WriteFailed, write_whole};

@@ -1,0 +1,32 @@
+//! Writing all of some bytes.
+
+ghost use Rattle.std.specs.Prelude.{◌≡◌, ◌+◌, ◌-◌, ◌^◌, ◌<◌, OnOk, OnErr};
+ghost use Rattle.std.specs.Io.KnownBytes.{Appends};
+ghost use Rattle.gx_devices.specs.Devices.{IsFront};
+
+use crate::counted::Counted;
+use std::io::Write;
+
+/// The writer failed, or took none of some bytes.
+#[derive(Clone, Copy, PartialEq, Eq)]
+pub struct WriteFailed;
+
+/// Writes all of the bytes; where the writer fails, a front of them.
+pub fn write_whole<W: Write>(writer: &mut Counted<W>, bytes: &[u8]) -> Result<(), WriteFailed>
+    requires { writer.old.failed < 2 ^ 64 - 1 }
+    ensures whole { OnOk result (Appends
+        (W.contents writer.old.device) (W.contents writer.new.device) bytes.now) }
+    ensures front { OnErr result (IsFront
+        (W.contents writer.old.device) (W.contents writer.new.device) bytes.now) }
+    ensures kept { OnOk result (writer.new.failed ≡ writer.old.failed) }
+    ensures told { OnErr result (writer.old.failed < writer.new.failed) }
+{
+    let mut done = 0;
+    while done < bytes.len() {
+        match writer.write(&bytes[done..]) {
+            Ok(n) if n > 0 => done += n,
+            _ => return Err(WriteFailed),
+        }
+    }
+    Ok(())
+}

@@ -1,0 +1,71 @@
+-- What a line of a script does.
+use Rattle.std.proofs.Common.{◌≡◌, ℕ, ◌+◌, ◌<◌, ◌≤◌, ◌⊎◌, inl, inr, false, leb, cond, List, [], ◌∷◌, ◌++◌, length, take, Option, Some, None, Result, Ok, Err, IfOk, refl, sym, ap, ◌∙◌, subst, append-nil}
+use Rattle.std.proofs.lemmas.Bool.{lt-leb, cases_lt}
+use Rattle.gx_history.specs.declared.record.Asked.{Asked}
+use Rattle.gx_history.specs.declared.record.RecordData.{RecordData}
+use Rattle.gx_history.specs.declared.record.Step.TheVariants as steps
+use Rattle.gx_history.specs.declared.record.Verdict.{Verdict}
+use Rattle.gx_history.specs.declared.report.Report.{Report}
+use Rattle.gx_history.specs.Verdicts.{next, step_verdict, verdict, day_limit}
+use Rattle.gx_core.specs.Gates.{GateData, left_by}
+use Rattle.gx_core.specs.declared.outcome.Outcome.{Outcome}
+use Rattle.gx_core.specs.declared.outcome.StepFault.{StepFault}
+use Rattle.gx_core.specs.Asking.{stepped}
+use Rattle.gx_script.specs.Printing.{outcome_line, refused_line}
+use Rattle.gx_scripting.specs.Leaving.{IsHalf}
+use Rattle.gx_scripting.specs.Scripting.{Printed, step_of}
+use Rattle.gx_core.proofs.Stepped.{stepped_is, all_taken}
+
+pub if_ok : {T E : Type 0} (r : Result T E) (P Q : T → Type 0) → ((x : T) → P x → Q x) → IfOk r P → IfOk r Q
+if_ok (Ok x) P Q f p = f x p
+if_ok (Err e) P Q f p = tt
+
+below : {T : Type 0} (limit n : ℕ) (r : Result T StepFault) (o : T) (e : StepFault) → (limit ≤ n → r ≡ Err e) → r ≡ Ok o → (n < limit) ⊎ (limit ≤ n) → n < limit
+below limit n r o e full ok (inl h) = h
+below limit n r o e full ok (inr h) = let clash : Err e ≡ Ok o = sym (full h) ∙ ok in cc
+
+pub not_full : {T : Type 0} (limit n : ℕ) (r : Result T StepFault) (o : T) (e : StepFault) → (limit ≤ n → r ≡ Err e) → r ≡ Ok o → leb limit n ≡ false
+not_full limit n r o e full ok = lt-leb limit n (below limit n r o e full ok (cases_lt n limit))
+
+number_in : Option RecordData → ℕ
+number_in None = 0
+number_in (Some r) = r.number
+
+number_is : (gate : GateData) (a : Asked) (o : Outcome) → next gate.policy gate.records (steps.Asked a) ≡ Some (left_by a o) → o.number ≡ length gate.records + 1
+unfolding next step_verdict number_in
+number_is gate a o n = sym (ap number_in n)
+
+-- a step that was made
+pub made : {T : Type 0} (gate after : GateData) (a : Asked) (o : Outcome) (r : Result T StepFault) (x : T) (e : StepFault) (text : List ℕ)
+    → (day_limit ≤ length gate.records → r ≡ Err e) → r ≡ Ok x → after.policy ≡ gate.policy
+    → next gate.policy gate.records (steps.Asked a) ≡ Some (left_by a o) → after.records ≡ gate.records ++ left_by a o ∷ []
+    → o.verdict ≡ verdict gate.policy gate.records a → text ≡ outcome_line o.number o.verdict
+    → step_of gate a ≡ record { gate = after; text = text }
+unfolding step_of
+made gate after a o r x e text full ok p n s v t =
+    let made_of : ℕ → Verdict → Printed = λ number verdict_told. record { gate = stepped gate a; text = outcome_line number verdict_told } in
+    ap (λ b. cond b (record { gate = gate; text = refused_line }) (made_of (length gate.records + 1) (verdict gate.policy gate.records a)))
+    (not_full day_limit (length gate.records) r x e full ok)
+    ∙ (ap (λ k. made_of k (verdict gate.policy gate.records a)) (sym (number_is gate a o n))
+    ∙ (ap (made_of o.number) (sym v)
+    ∙ (ap (λ g. record { gate = g; text = outcome_line o.number o.verdict }) (sym (stepped_is gate after a o p n s))
+    ∙ ap (λ u. record { gate = after; text = u }) (sym t))))
+
+-- a step whose line was not told
+pub step_half : (gate after : GateData) (a : Asked) (text : List ℕ) (r : RecordData) → step_of gate a ≡ record { gate = after; text = text }
+    → after.policy ≡ gate.policy → after.records ≡ gate.records ++ r ∷ [] → IsHalf gate (Some (step_of gate a)) after
+step_half gate after a text r made policy_is records_are = inr (record {
+  printed = step_of gate a;
+  is_its = refl;
+  policy_kept = policy_is;
+  made = r ∷ [];
+  goes_on = records_are;
+  behind = [];
+  leads_on = ap (λ (p : Printed). p.gate.records) made ∙ sym (append-nil after.records);
+})
+
+-- all reports came
+pub all_came : (owed reports : List Report) (most : ℕ) → reports ≡ take most owed → length reports < most → reports ≡ owed
+all_came owed reports most e few =
+    let IsFew : List Report → Type 0 = λ xs. length xs < most in
+    e ∙ all_taken owed most (subst IsFew e few)

@@ -1,0 +1,194 @@
+-- What a script that was read to its end, or given up, leaves.
+use Rattle.std.proofs.Common.{◌≡◌, ℕ, ◌≤◌, arith, length, true, Option, Some, None, List, [], ◌∷◌, ◌++◌, take, refl, sym, ap, ◌∙◌, subst, append-nil, inl, inr, ◌⊎◌}
+use Rattle.std.specs.Io.KnownBytes.{Appends, Consumes, Keeps, IsAtEnd}
+use Rattle.std.proofs.KnownBytes.{Appends-nil, Appends-trans, Consumes-nil, Consumes-trans, Consumes-kept}
+use Rattle.gx_core.specs.Gates.{GateData}
+use Rattle.gx_scripting.specs.declared.script_fault.ScriptFault.{ScriptFault}
+use Rattle.gx_scripting.specs.declared.script_fault.ScriptFault.TheVariants as faults
+use Rattle.gx_scripting.specs.Scripting.{Printed, line_effect, ScriptRun, with_line, cut_of, after_lines, script_of, is_settled}
+use Rattle.gx_scripting.specs.ScriptPiping.{so_far, EndsLine, IsBadLine, StopsAtLine, IsBegun, IsHalfway, IsOfNext, Stops, HalvesLine, IsSoFar, TakesPiece, FindsBad, BreaksOff, StopsInPiece, IsScript, IsCutShort, IfBadLine, UnlessBadLine, IsAll}
+use Rattle.gx_scripting.proofs.ScriptCuts.{script_is, nothing_follows}
+use Rattle.gx_scripting.proofs.Texts.{piece_ahead, rest_ahead}
+use Rattle.gx_scripting.proofs.ScriptRuns.{good, next_line, gate_is, stops_here, stops_too}
+
+next_or_last : (others : List (List ℕ)) (last : Type 0) (is_so : List ℕ → Type 0) → IsOfNext others ⊥ is_so → IsOfNext others last is_so
+next_or_last [] last is_so h = absurd h
+next_or_last (line ∷ others) last is_so h = h
+
+-- before an iteration of `run_script`
+pub record StandsAt (input left output written : Option (List ℕ)) (before gate : GateData) (rest : List ℕ) (lines : ℕ) : Type 0 where
+  pub bytes : List ℕ
+  pub consumed : Consumes input left bytes
+  pub follows : IsSoFar before bytes gate rest lines
+  pub few : length rest ≤ 1026
+  pub text : Appends output written (so_far before bytes).text
+
+pub stands_first : (input output : Option (List ℕ)) (before : GateData) (rest : List ℕ) (lines : ℕ) → rest ≡ [] → lines ≡ 0 → StandsAt input input output output before before rest lines
+unfolding so_far cut_of
+stands_first input output before rest lines r n = record {
+  bytes = [];
+  consumed = Consumes-nil input;
+  follows = record { held = r; run = ap (good before []) (sym n) };
+  few = omega (arith, ap length r);
+  text = Appends-nil output;
+}
+
+module _ (input left output written : Option (List ℕ)) (before gate : GateData) (rest : List ℕ) (lines : ℕ) (s : StandsAt input left output written before gate rest lines) where
+  pub stands_next : (left' written' : Option (List ℕ)) (piece : List ℕ) (now : GateData) (rest' : List ℕ) (lines' : ℕ) → Consumes left left' piece → TakesPiece before s.bytes piece now rest' lines' written written'
+      → length rest' ≤ 1026 → StandsAt input left' output written' before now rest' lines'
+  stands_next left' written' piece now rest' lines' took t few = record {
+    bytes = s.bytes ++ piece;
+    consumed = Consumes-trans input left left' s.bytes piece s.consumed took;
+    follows = t.follows;
+    few = few;
+    text = rw t.more (Appends-trans output written written' _ _ s.text t.written);
+  }
+
+  whole_script : (effect : Option Printed) → line_effect gate rest ≡ effect → script_of before s.bytes ≡ with_line (good gate (so_far before s.bytes).text lines) effect
+  whole_script effect e = script_is before s.bytes ∙ next_line before s.bytes gate rest lines s.follows effect e
+
+  -- a read that gave nothing
+  module _ (left' : Option (List ℕ)) (buffer : List ℕ) (n : ℕ) (took : Consumes left left' (take n buffer)) (none : n ≡ 0) where
+    still : Consumes input left' s.bytes
+    still = subst (Consumes input left') (append-nil s.bytes) (Consumes-trans input left left' s.bytes [] s.consumed (subst (λ k. Consumes left left' (take k buffer)) none took))
+
+    module _ (now : GateData) (written' : Option (List ℕ)) where
+      pub ends : IsAtEnd left' → EndsLine gate rest now written written' → IsScript input left' output written' before now None
+      ends end d =
+          let e = whole_script (Some (record { gate = now; text = d.printed })) d.effect in
+          let t : (script_of before s.bytes).text ≡ (so_far before s.bytes).text ++ d.printed = ap (λ (r : ScriptRun). r.text) e in
+          record {
+            bytes = s.bytes;
+            consumed = still;
+            gate = sym (ap (λ (r : ScriptRun). r.gate) e);
+            first_bad = ap (λ (r : ScriptRun). r.bad) e;
+            text = rw t (Appends-trans output written written' _ _ s.text d.written);
+            whole = inl end;
+          }
+
+      ends_bad : IsAtEnd left' → (number : ℕ) → IsBadLine gate rest lines number now written written' → IsScript input left' output written' before now (Some number)
+      ends_bad end number d =
+          let e = whole_script None d.effect in
+          let t : (script_of before s.bytes).text ≡ (so_far before s.bytes).text ++ [] = ap (λ (r : ScriptRun). r.text) e ∙ sym (append-nil (so_far before s.bytes).text) in
+          record {
+            bytes = s.bytes;
+            consumed = still;
+            gate = d.gate ∙ sym (ap (λ (r : ScriptRun). r.gate) e);
+            first_bad = ap (λ (r : ScriptRun). r.bad) e ∙ ap Some (sym d.number);
+            text = rw t (Appends-trans output written written' _ _ s.text d.written);
+            whole = inl end;
+          }
+
+      half_done : IsAtEnd left' → (fault : ScriptFault) → HalvesLine gate rest now written written' fault → IsCutShort input left' output written' before now fault
+      unfolding so_far
+      half_done end fault d =
+          let there = stops_here before s.bytes gate rest lines s.follows fault now d.text d.stop in
+          record {
+            bytes = s.bytes;
+            consumed = still;
+            lines = (cut_of s.bytes).whole;
+            others = [];
+            split = sym (append-nil (cut_of s.bytes).whole);
+            good = ap (λ (r : ScriptRun). r.bad) s.follows.run;
+            ahead = rest_ahead s.bytes rest s.follows.held s.few;
+            text = d.text;
+            told = Appends-trans output written written' _ _ s.text d.written;
+            stop = stops_too fault _ _ _ _ _ _ (so_far before s.bytes).gate now d.text (λ h. refl) (λ h. (end, h)) (λ h. (end, h)) there;
+          }
+
+      pub ends_with_bad : IsAtEnd left' → (fault : ScriptFault) → StopsAtLine gate rest lines now written written' fault
+          → IfBadLine fault (λ k. IsScript input left' output written' before now (Some k))
+      ends_with_bad end (faults.BadLine k) d = ends_bad end k d
+      ends_with_bad end faults.WriteFailed d = tt
+      ends_with_bad end faults.OutOfMemory d = tt
+      ends_with_bad end faults.ReadFailed d = tt
+      ends_with_bad end faults.Endless d = tt
+
+      pub ends_halfway : IsAtEnd left' → (fault : ScriptFault) → StopsAtLine gate rest lines now written written' fault → UnlessBadLine fault (IsCutShort input left' output written' before now fault)
+      ends_halfway end (faults.BadLine k) d = tt
+      ends_halfway end faults.WriteFailed d = half_done end faults.WriteFailed d
+      ends_halfway end faults.OutOfMemory d = half_done end faults.OutOfMemory d
+      ends_halfway end faults.ReadFailed d = half_done end faults.ReadFailed d
+      ends_halfway end faults.Endless d = half_done end faults.Endless d
+
+  -- a read that failed, or one too many
+  pub stops_reading : (fault : ScriptFault) → ((all_done begun halfway : Type 0) (at : GateData) → all_done → gate ≡ at → Stops fault all_done begun halfway at gate []) → (left' : Option (List ℕ)) → Keeps left left'
+      → IsCutShort input left' output written before gate fault
+  unfolding so_far
+  stops_reading fault stop left' kept = record {
+    bytes = s.bytes;
+    consumed = Consumes-kept input left left' s.bytes s.consumed kept;
+    lines = (cut_of s.bytes).whole;
+    others = [];
+    split = sym (append-nil (cut_of s.bytes).whole);
+    good = ap (λ (r : ScriptRun). r.bad) s.follows.run;
+    ahead = rest_ahead s.bytes rest s.follows.held s.few;
+    text = [];
+    told = rw (append-nil (so_far before s.bytes).text) s.text;
+    stop = stop _ _ _ _ refl (gate_is before s.bytes gate rest lines s.follows);
+  }
+
+  -- a piece that was given up
+  module _ (left' written' : Option (List ℕ)) (piece : List ℕ) (now : GateData) (took : Consumes left left' piece) where
+    finds : (number : ℕ) → FindsBad before s.bytes piece number now written written' → IsScript input left' output written' before now (Some number)
+    finds number f = record {
+      bytes = s.bytes ++ piece;
+      consumed = Consumes-trans input left left' s.bytes piece s.consumed took;
+      gate = f.gate;
+      first_bad = f.bad;
+      text = rw f.more (Appends-trans output written written' _ _ s.text f.written);
+      whole = inr f.settled;
+    }
+
+    breaks : (fault : ScriptFault) → length piece ≤ 4096 → BreaksOff before s.bytes piece now written written' fault → IsCutShort input left' output written' before now fault
+    breaks fault short b =
+        let gate = (after_lines before b.lines).gate in
+        record {
+          bytes = s.bytes ++ piece;
+          consumed = Consumes-trans input left left' s.bytes piece s.consumed took;
+          lines = b.lines;
+          others = b.others;
+          split = b.split;
+          good = b.good;
+          ahead = piece_ahead s.bytes piece b.lines b.done rest s.follows.held s.few short b.earlier;
+          text = b.text;
+          told = rw b.more (Appends-trans output written written' _ _ s.text b.written);
+          stop = stops_too fault _ _ _ _ _ _ gate now b.text (λ h. absurd h) (next_or_last b.others _ (λ line. IsBegun gate line now b.text)) (next_or_last b.others _ (λ line. IsHalfway gate line now)) b.stop;
+        }
+
+    pub stops_with_bad : (fault : ScriptFault) → StopsInPiece before s.bytes piece now written written' fault → IfBadLine fault (λ k. IsScript input left' output written' before now (Some k))
+    stops_with_bad (faults.BadLine k) f = finds k f
+    stops_with_bad faults.WriteFailed f = tt
+    stops_with_bad faults.OutOfMemory f = tt
+    stops_with_bad faults.ReadFailed f = tt
+    stops_with_bad faults.Endless f = tt
+
+    pub stops_halfway : length piece ≤ 4096 → (fault : ScriptFault) → StopsInPiece before s.bytes piece now written written' fault → UnlessBadLine fault (IsCutShort input left' output written' before now fault)
+    stops_halfway short (faults.BadLine k) f = tt
+    stops_halfway short faults.WriteFailed f = breaks faults.WriteFailed short f
+    stops_halfway short faults.OutOfMemory f = breaks faults.OutOfMemory short f
+    stops_halfway short faults.ReadFailed f = breaks faults.ReadFailed short f
+    stops_halfway short faults.Endless f = breaks faults.Endless short f
+
+-- where the reader tells its bytes
+all_bytes : (input left output written : Option (List ℕ)) (before after : GateData) (bad : Option ℕ) (bytes : List ℕ) → Consumes input left bytes → after ≡ (script_of before bytes).gate
+    → (script_of before bytes).bad ≡ bad → Appends output written (script_of before bytes).text → IsAtEnd left ⊎ (is_settled before bytes ≡ true) → IsAll input output written before after bad
+all_bytes None left output written before after bad bytes took h b t w = tt
+all_bytes (Some all) None output written before after bad bytes took h b t w = absurd took
+all_bytes (Some all) (Some rest) output written before after bad bytes took h b t (inl end) =
+    let e : all ≡ bytes = took ∙ (ap (λ r. bytes ++ r) end ∙ append-nil bytes) in
+    rw e (h, b, t)
+all_bytes (Some all) (Some rest) output written before after bad bytes took h b t (inr settled) =
+    let e : script_of before all ≡ script_of before bytes = ap (script_of before) took ∙ nothing_follows before bytes rest settled in
+    rw e (h, b, t)
+
+pub all_of_script : (input left output written : Option (List ℕ)) (before after : GateData) (bad : Option ℕ) → IsScript input left output written before after bad → IsAll input output written before after bad
+all_of_script input left output written before after bad t = all_bytes input left output written before after bad t.bytes t.consumed t.gate t.first_bad t.text t.whole
+
+pub all_with_bad : (input left output written : Option (List ℕ)) (before after : GateData) (fault : ScriptFault) → IfBadLine fault (λ n. IsScript input left output written before after (Some n))
+    → IfBadLine fault (λ n. IsAll input output written before after (Some n))
+all_with_bad input left output written before after (faults.BadLine n) s = all_of_script input left output written before after (Some n) s
+all_with_bad input left output written before after faults.ReadFailed s = tt
+all_with_bad input left output written before after faults.WriteFailed s = tt
+all_with_bad input left output written before after faults.OutOfMemory s = tt
+all_with_bad input left output written before after faults.Endless s = tt

@@ -1,0 +1,18 @@
+use Rattle.std.proofs.Common.{refl}
+use Rattle.gx_script.specs.Printing.{outcome_line}
+use Rattle.gx_devices.proofs.Known.{on_err}
+use Rattle.gx_scripting.proofs.Doing.{if_ok, made, step_half}
+use Rattle.gx_scripting.proofs.running.step.Goals as goal
+
+pub returns-in-Ok-clause-ok : goal.returns-in-Ok-clause-ok
+returns-in-Ok-clause-ok c =
+    if_ok c.outcome_line.result _ _
+    (λ text t. made c.args.gate.now c.step.new.self c.args.a c.in-Ok.outcome c.step.result c.in-Ok.outcome _ text.items c.step.ensures.full c.in-Ok.is c.in-Ok.ensures.policy c.in-Ok.ensures.next c.in-Ok.ensures.records c.in-Ok.ensures.verdict t)
+    c.outcome_line.ensures
+
+pub returns-in-Ok-clause-err : goal.returns-in-Ok-clause-err
+returns-in-Ok-clause-err c =
+    on_err _ _
+    (step_half c.args.gate.now c.step.new.self c.args.a (outcome_line c.in-Ok.outcome.number c.in-Ok.outcome.verdict) _
+    (made c.args.gate.now c.step.new.self c.args.a c.in-Ok.outcome c.step.result c.in-Ok.outcome _ _ c.step.ensures.full c.in-Ok.is c.in-Ok.ensures.policy c.in-Ok.ensures.next c.in-Ok.ensures.records c.in-Ok.ensures.verdict refl)
+    c.in-Ok.ensures.policy c.in-Ok.ensures.records)

@@ -1,0 +1,10 @@
+use Rattle.std.proofs.lemmas.Result.{err_from_is_err_and}
+use Rattle.gx_devices.proofs.Known.{on_fault}
+use Rattle.gx_scripting.proofs.ScriptRuns.{half_written}
+use Rattle.gx_scripting.proofs.script.end_line.Goals as goal
+
+pub returns-in_err-write_whole-in-Ok-clause-err : goal.returns-in_err-write_whole-in-Ok-clause-err
+returns-in_err-write_whole-in-Ok-clause-err g c =
+    let p = err_from_is_err_and c.from_residual.result c.from_residual.ensures.1 in
+    on_fault _ _ _ _ p.1 p.2
+    (half_written _ _ _ _ _ _ c.as_slice-in-Ok.result.now (rw c.as_slice.ensures.value at c.in-Ok.ensures.ok) c.as_slice-in-Ok.ensures.value c.in_err-write_whole-in-Ok.ensures.front)

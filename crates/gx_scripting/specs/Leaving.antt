@@ -1,0 +1,26 @@
+-- What a line leaves where it could not be done.
+use Rattle.std.specs.Prelude.{◌≡◌, ◌⊎◌, ◌++◌, List, Option, Some, None}
+use Rattle.gx_history.specs.declared.record.RecordData.{RecordData}
+use Rattle.gx_core.specs.Gates.{GateData}
+use Rattle.gx_scripting.specs.declared.script_fault.LineFault.{LineFault}
+use Rattle.gx_scripting.specs.declared.script_fault.LineFault.TheVariants as line_faults
+use Rattle.gx_scripting.specs.Scripting.{Printed}
+
+-- of the records that the line leaves, the first were made
+pub record IsPartlyDone (gate : GateData) (done : Option Printed) (now : GateData) : Type 0 where
+  pub printed : Printed
+  pub is_its : done ≡ Some printed
+  pub policy_kept : now.policy ≡ gate.policy
+  pub made : List RecordData
+  pub goes_on : now.records ≡ gate.records ++ made
+  pub behind : List RecordData
+  pub leads_on : printed.gate.records ≡ now.records ++ behind
+
+-- nothing was done, or the first of the line's records were made; nothing was printed
+abbrev pub IsHalf : GateData → Option Printed → GateData → Type 0
+IsHalf gate done now = (now ≡ gate) ⊎ IsPartlyDone gate done now
+
+-- a bad line leaves the gate as it was; without memory the line is half done
+abbrev pub Leaves : GateData → Option Printed → GateData → LineFault → Type 0
+Leaves gate done now (line_faults.Bad wrong) = (done ≡ None) × (now ≡ gate)
+Leaves gate done now line_faults.OutOfMemory = IsHalf gate done now

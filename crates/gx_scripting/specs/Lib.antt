@@ -1,0 +1,4 @@
+pub mod Scripting
+pub mod Leaving
+pub mod ScriptPiping
+pub mod ScriptTexts

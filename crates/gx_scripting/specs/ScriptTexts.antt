@@ -1,0 +1,19 @@
+-- How a text is made of its lines.
+use Rattle.std.specs.Prelude.{ℕ, Bool, not, ◌&&◌, ◌==◌, List, [], ◌∷◌, ◌++◌}
+use Rattle.std.specs.List.{flat_map, list_all}
+use Rattle.gx_scripting.specs.Scripting.{Cut}
+
+-- a line and its LF
+abbrev pub ended : List ℕ → List ℕ
+ended line = line ++ 10 ∷ []
+
+-- no LF stands in a line
+abbrev pub has_no_end : List ℕ → Bool
+has_no_end line = list_all (λ byte. not (byte == 10)) line
+
+-- the lines with their LFs, and what is behind them
+abbrev pub joined : Cut → List ℕ
+joined cut = flat_map ended cut.whole ++ cut.rest
+
+abbrev pub are_lines : Cut → Bool
+are_lines cut = list_all has_no_end cut.whole && has_no_end cut.rest

@@ -1,0 +1,18 @@
+//! Laws of scripts.
+
+ghost use Rattle.std.specs.Prelude.{◌≡◌, ℕ, List, ◌++◌, IsTrue};
+ghost use Rattle.gx_core.specs.Gates.{GateData};
+ghost use Rattle.gx_scripting.specs.Scripting.{cut_of, script_of, is_settled};
+ghost use Rattle.gx_scripting.specs.ScriptTexts.{joined, are_lines};
+
+/// Once a line of a script is bad, or too long already, nothing that follows makes a step or is printed.
+pub fn nothing_follows_a_bad_line()
+    ensures { (gate : GateData) (bytes more : List ℕ) → IsTrue (is_settled gate bytes)
+        → script_of gate (bytes ++ more) ≡ script_of gate bytes }
+{}
+
+/// The lines of a text, with their LFs, and what is behind them are the text, and no LF stands in a line.
+pub fn lines_make_the_text()
+    ensures text { (text : List ℕ) → joined (cut_of text) ≡ text }
+    ensures lines { (text : List ℕ) → IsTrue (are_lines (cut_of text)) }
+{}

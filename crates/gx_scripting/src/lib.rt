@@ -1,0 +1,11 @@
+//! Scripts: what each line does to a gate and prints, and the run of a script over any reader and writer.
+#![tactic(auto)]
+
+mod laws;
+mod running;
+mod script;
+mod script_fault;
+
+pub use laws::{lines_make_the_text, nothing_follows_a_bad_line};
+pub use script::{run_script, run_script_explained};
+pub use script_fault::{Explained, ScriptFault};

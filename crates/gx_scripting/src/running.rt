@@ -1,0 +1,168 @@
+//! What a line of a script does.
+
+ghost use Rattle.std.specs.Prelude.{◌≡◌, ◌+◌, ◌^◌, ◌<◌, ◌⊎◌, ◌++◌, length, Some, IsTrue, IsFalse, IfOk, IfErr, OnOk, OnErr};
+ghost use Rattle.gx_core.specs.Matches.{matches_left};
+ghost use Rattle.gx_history.specs.Showing.{has_its_first, is_askable};
+ghost use Rattle.gx_history.specs.Streams.{stream};
+ghost use Rattle.gx_script.specs.Printing.{report_lines};
+ghost use Rattle.gx_script.specs.ScriptLines.{IsAskable, IsAskableLine};
+ghost use Rattle.gx_scripting.specs.Scripting.{request_of_step, step_of, match_of, makes_none, settle_of};
+ghost use Rattle.gx_scripting.specs.Scripting.{effect_of, line_effect};
+ghost use Rattle.gx_scripting.specs.Leaving.{IsHalf, Leaves};
+
+use crate::script_fault::LineFault;
+use gx_core::{Gate, StepFault, asked, count_of};
+use gx_history::record::{Asked, Request};
+use gx_script::{
+    ScriptLine, ScriptStep, Wanted, Wrong, append, idle_line, outcome_line, refused_line,
+    report_lines,
+};
+use gx_units::{OutOfMemory, SessionName, UserName};
+use std::alloc::Global;
+
+/// A blank session name means the day's session.
+const BLANK_SESSION: SessionName = SessionName {
+    bytes: *b"          ",
+};
+
+fn request_of(gate: &Gate, user: UserName, step: &ScriptStep) -> Request
+    requires { IsAskable step.now }
+    ensures request { result ≡ request_of_step gate.now user step.now }
+    ensures first { IsTrue (has_its_first result) }
+{
+    match step {
+        ScriptStep::Login(password, wanted) => {
+            gate.login_request(user, *password, BLANK_SESSION, *wanted)
+        }
+        ScriptStep::Logout => Request::Logout,
+        ScriptStep::Enter(order) => Request::Enter(*order),
+        ScriptStep::Replace(order) => Request::Replace(*order),
+        ScriptStep::Cancel(order) => Request::Cancel(*order),
+        ScriptStep::Command(command) => Request::Command(*command),
+        ScriptStep::Raw(request) => *request,
+    }
+}
+
+/// Makes a step, and gives its line.
+#[tactic(auto, unfolding(crate::specs::Scripting::step_of))]
+fn step(alloc: Global, gate: &mut Gate, a: Asked) -> Result<Vec<u8>, OutOfMemory>
+    requires { IsTrue (is_askable a) }
+    ensures ok { IfOk result (λ text. step_of gate.old a
+        ≡ record { gate = gate.new; text = text.items }) }
+    ensures err { OnErr result (IsHalf gate.old (Some (step_of gate.old a)) gate.new) }
+{
+    match gate.step(a) {
+        Ok(outcome) => outcome_line(alloc, outcome.number, &outcome.verdict),
+        Err(StepFault::DayFull) => refused_line(alloc),
+        Err(StepFault::OutOfMemory) => Err(OutOfMemory),
+    }
+}
+
+/// Makes a matching step, and puts its line last. Answers whether none was made: no order waits, or the day is full.
+///
+/// Without memory the step may be made or not.
+#[tactic(auto, unfolding(crate::specs::Scripting::match_of))]
+fn add_match(
+    alloc: Global,
+    gate: &mut Gate,
+    moment: u64,
+    text: &mut Vec<u8>,
+) -> Result<bool, OutOfMemory>
+    ensures over { IfOk result (λ over. over ≡ makes_none gate.old moment) }
+    ensures gate { OnOk result (gate.new ≡ (match_of gate.old moment).gate) }
+    ensures text { OnOk result (text.new.items
+        ≡ text.old.items ++ (match_of gate.old moment).text) }
+    ensures fewer { IfOk result (λ over.
+        IsFalse over → matches_left gate.new < matches_left gate.old) }
+    ensures err { OnErr result ((gate.new ≡ gate.old)
+        ⊎ (gate.new ≡ (match_of gate.old moment).gate)) }
+{
+    let (line, over) = match gate.match_one(moment) {
+        Ok(Some(outcome)) => (
+            outcome_line(alloc, outcome.number, &outcome.verdict)?,
+            false,
+        ),
+        Ok(None) => (idle_line(alloc)?, true),
+        Err(StepFault::DayFull) => (refused_line(alloc)?, true),
+        Err(StepFault::OutOfMemory) => return Err(OutOfMemory),
+    };
+    append(text, line.as_slice())?;
+    Ok(over)
+}
+
+/// Makes a matching step, and gives its line.
+fn match_line(alloc: Global, gate: &mut Gate, moment: u64) -> Result<Vec<u8>, OutOfMemory>
+    ensures ok { IfOk result (λ text. match_of gate.old moment
+        ≡ record { gate = gate.new; text = text.items }) }
+    ensures err { OnErr result (IsHalf gate.old (Some (match_of gate.old moment)) gate.new) }
+{
+    let mut text = Vec::new(alloc);
+    add_match(alloc, gate, moment, &mut text)?;
+    Ok(text)
+}
+
+/// Makes matching steps until no order waits, and gives their lines.
+fn settle_lines(alloc: Global, gate: &mut Gate, moment: u64) -> Result<Vec<u8>, OutOfMemory>
+    ensures ok { IfOk result (λ text. settle_of gate.old moment
+        ≡ record { gate = gate.new; text = text.items }) }
+    ensures err { OnErr result (IsHalf gate.old (Some (settle_of gate.old moment)) gate.new) }
+{
+    let mut text = Vec::new(alloc);
+    loop {
+        // What this ensures: the records are those of a legal day, on which what settles rests.
+        gate.is_legal();
+        if add_match(alloc, gate, moment, &mut text)? {
+            return Ok(text);
+        }
+    }
+}
+
+/// The lines of the user's stream.
+fn stream_lines(alloc: Global, gate: &Gate, user: UserName) -> Result<Vec<u8>, OutOfMemory>
+    ensures { IfOk result (λ text. text.items
+        ≡ report_lines user 1 (stream gate.now.policy gate.now.records user)) }
+{
+    let pulled = gate.reports(user, 1, u64::MAX)?;
+    let reports = pulled.reports.as_slice();
+    let _within = count_of(reports);
+    report_lines(alloc, user, reports)
+}
+
+/// Does what a line asks for, and gives what it prints.
+#[tactic(auto, unfolding(crate::specs::Scripting::effect_of))]
+fn run_line(alloc: Global, gate: &mut Gate, line: &ScriptLine) -> Result<Vec<u8>, LineFault>
+    requires { IsAskableLine line.now }
+    ensures ok { IfOk result (λ text. effect_of gate.old line.now
+        ≡ Some (record { gate = gate.new; text = text.items })) }
+    ensures err { IfErr result (Leaves gate.old (effect_of gate.old line.now) gate.new) }
+{
+    match line {
+        ScriptLine::Skipped => Ok(Vec::new(alloc)),
+        ScriptLine::Step(moment, user, asks) => {
+            let request = request_of(gate, *user, asks);
+            Ok(step(alloc, gate, asked(*user, request, *moment))?)
+        }
+        ScriptLine::Match(moment) => Ok(match_line(alloc, gate, *moment)?),
+        ScriptLine::Settle(moment) => Ok(settle_lines(alloc, gate, *moment)?),
+        ScriptLine::Stream(user) => {
+            if !gate.knows(*user) {
+                return Err(LineFault::Bad(Wrong {
+                    word: 2,
+                    wanted: Wanted::KnownUser,
+                }));
+            }
+            Ok(stream_lines(alloc, gate, *user)?)
+        }
+    }
+}
+
+/// Does what the bytes of a line ask for, and gives what they print.
+#[tactic(auto, unfolding(crate::specs::Scripting::line_effect))]
+pub(crate) fn take_line(alloc: Global, gate: &mut Gate, line: &[u8]) -> Result<Vec<u8>, LineFault>
+    ensures ok { IfOk result (λ text. line_effect gate.old line.now
+        ≡ Some (record { gate = gate.new; text = text.items })) }
+    ensures err { IfErr result (Leaves gate.old (line_effect gate.old line.now) gate.new) }
+{
+    let line = ScriptLine::read(line)?;
+    run_line(alloc, gate, &line)
+}

@@ -1,6 +1,0 @@
-use Rattle.gx_session.proofs.Known.{on_err}
-use Rattle.gx_server.proofs.Settling.{match_half}
-use Rattle.gx_server.proofs.running.match_line.Goals as goal
-
-pub returns-in_err-add_match-clause-err : goal.returns-in_err-add_match-clause-err
-returns-in_err-add_match-clause-err c = on_err _ _ (match_half c.args.gate.now c.add_match.new.gate c.args.moment c.in_err-add_match.ensures.err)
