@@ -1,9 +1,8 @@
-//! Two measurements: of packets that come a byte at a time, and of rules with long lists. It does a little of each and
-//! prints nothing; with any argument, as in `rt run -- time`, it prints how long each took, and ratios.
+//! A measurement of packets that come a byte at a time. It does a little and prints nothing; with any argument, as in
+//! `rt run -- time`, it prints how long each took, and their ratio.
 #![tactic(auto)]
 
 mod packets;
-mod rules;
 
 use std::time::Duration;
 use std::{env, io};
@@ -18,6 +17,5 @@ fn tell_ratio(rt: &HostRuntime, great: Duration, small: Duration) -> io::Result<
 
 fn main(rt: HostRuntime) -> io::Result<()> {
     let is_timed = env::args(&rt)?.count() > 1;
-    packets::measure(&rt, is_timed)?;
-    rules::measure(&rt, is_timed)
+    packets::measure(&rt, is_timed)
 }

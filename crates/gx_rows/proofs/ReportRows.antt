@@ -1,5 +1,6 @@
 -- What users are told in these runs, computed.
 use Rattle.std.proofs.Common.{refl}
+use Rattle.gx_desk.specs.Writing.{drop_copy_bytes}
 use Rattle.gx_history.specs.Asking.{facts}
 use Rattle.gx_history.specs.Book.{incoming, resting}
 use Rattle.gx_history.specs.Executions.{executions, executed, done, open_shares, standings, live_orders}
@@ -12,7 +13,7 @@ use Rattle.gx_history.specs.RuleNames.{rules_before, rules_behind}
 use Rattle.gx_history.specs.Rules.{first_forbidding, written_order}
 use Rattle.gx_history.specs.Streams.{stream}
 use Rattle.gx_history.specs.Verdicts.{run, verdict, next, step_verdict}
-use Rattle.gx_rows.specs.ReportRows.{AKillIsTold, ADeniedValueIsTold, AKilledAccountIsTold, ALiftIsTold, ACancelIsTold, ACutIsTold, AReplaceIsTold, AnExpiryIsTold, TheEndOfTheDayIsTold, TheSampleIsSound, TheSweepIsShowable}
+use Rattle.gx_rows.specs.ReportRows.{AKillIsTold, ADeniedValueIsTold, AKilledAccountIsTold, ALiftIsTold, ACancelIsTold, ACutIsTold, AReplaceIsTold, AnExpiryIsTold, TheEndOfTheDayIsTold, TheSampleIsSound, TheSweepIsShowable, ADropCopyIsWritten}
 
 pub a_kill_is_told : AKillIsTold
 unfolding run next step_verdict verdict matching facts figures live_shares live_value done_shares done_value recent equal_recent reference first_forbidding written_order rules_before rules_behind orders standings executions executed done total is_dead open_shares live_orders incoming resting is_token_used is_closed is_killed rules_in_force is_entitled line_of stream
@@ -57,3 +58,7 @@ the_sample_is_sound = refl
 pub the_sweep_is_showable : TheSweepIsShowable
 unfolding run next step_verdict verdict matching facts figures live_shares live_value done_shares done_value recent equal_recent reference first_forbidding written_order rules_before rules_behind orders standings executions executed done total is_dead open_shares live_orders incoming resting is_token_used is_closed is_killed rules_in_force is_entitled line_of stream
 the_sweep_is_showable = refl
+
+pub a_drop_copy_is_written : ADropCopyIsWritten
+unfolding drop_copy_bytes
+a_drop_copy_is_written = refl

@@ -1,6 +1,8 @@
 -- What users are told in these runs.
-use Rattle.std.specs.Prelude.{◌≡◌, ℕ, List, [], ◌∷◌, codes, drop, true}
+use Rattle.std.specs.Prelude.{◌≡◌, ℕ, List, [], ◌∷◌, ◌++◌, codes, drop, true}
 use Rattle.std.specs.List.{list_all}
+use Rattle.gx_desk.specs.declared.DropCopy.{DropCopy}
+use Rattle.gx_desk.specs.Writing.{drop_copy_bytes}
 use Rattle.gx_ouch.specs.declared.letters.Liquidity.TheVariants as liquidities
 use Rattle.gx_ouch.specs.declared.letters.Liquidity.{Liquidity}
 use Rattle.gx_ouch.specs.declared.letters.CancelReason.{CancelReason}
@@ -18,7 +20,7 @@ use Rattle.gx_history.specs.Showing.{is_showable}
 use Rattle.gx_history.specs.Soundness.{is_sound}
 use Rattle.gx_history.specs.Streams.{stream}
 use Rattle.gx_history.specs.Verdicts.{run}
-use Rattle.gx_rows.specs.Sample.{sample, alice, token, test_stock}
+use Rattle.gx_rows.specs.Sample.{sample, alfa, alice, token, test_stock}
 use Rattle.gx_rows.specs.OrderRows.{cancels_lower_the_size_steps, a_replace_loses_its_place_steps, immediate_orders_expire_steps}
 use Rattle.gx_rows.specs.CommandRows.{a_kill_ends_a_sweep_steps, a_lift_lets_trade_again_steps, a_kill_stands_until_the_lift_steps, useless_commands_are_denied_steps}
 use Rattle.gx_rows.specs.MatchingRows.{a_cut_order_keeps_its_place_steps}
@@ -143,3 +145,19 @@ TheSampleIsSound = is_sound sample ≡ true
 -- the audit can show each record of the run
 abbrev pub TheSweepIsShowable : Type 0
 TheSweepIsShowable = list_all is_showable (run sample a_kill_ends_a_sweep_steps) ≡ true
+
+-- the taker's side of a fill, as a reader of ALFA is told of it: a share bought under A1 at 10000, in match 9
+abbrev pub a_copy : DropCopy
+a_copy = record {
+  executed = record { token = token (codes "A1"); shares = 1; price = 10000; liquidity = liquidities.Removed; match_number = 9 };
+  account = alfa;
+  side = 66;
+}
+
+-- a drop copy of moment 4, byte for byte
+abbrev pub ADropCopyIsWritten : Type 0
+ADropCopyIsWritten = drop_copy_bytes 4 a_copy
+    ≡ (codes "E" ++ (0 ∷ 0 ∷ 0 ∷ 0 ∷ 0 ∷ 0 ∷ 0 ∷ 4 ∷ []))
+    ++ (codes "A1            " ++ (0 ∷ 0 ∷ 0 ∷ 1 ∷ 0 ∷ 0 ∷ 39 ∷ 16 ∷ []))
+    ++ (codes "R" ++ (0 ∷ 0 ∷ 0 ∷ 0 ∷ 0 ∷ 0 ∷ 0 ∷ 9 ∷ []))
+    ++ codes "ALFA    B"

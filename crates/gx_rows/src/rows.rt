@@ -4,7 +4,7 @@ ghost use Rattle.gx_rows.specs.OrderRows.{AUsedTokenIsDenied, CancelsLowerTheSiz
 ghost use Rattle.gx_rows.specs.CommandRows.{AKillEndsASweep, ALiftLetsTradeAgain, ASetLimitIsInForce, UselessCommandsAreDenied, NamesAreWrittenInEitherCase, ReadersComeAndGo, AKillStandsUntilTheLift};
 ghost use Rattle.gx_rows.specs.RuleRows.{ValueAboveTheLimit, TheFileOrderDecides, TheFileOrderTurned, ACollarFollowsTheLastFill, SharesCountTogether, IncomingOrdersCount, EqualOrdersAreCounted, WindowsGoByTheMoments, ARestrictedStockComesFirst, ARestrictedStockComesLast, AnOrderMayBeTooBig};
 ghost use Rattle.gx_rows.specs.MatchingRows.{SettlingTakesAllThatWait, TheBestPriceComesFirst, AnImmediateOrderTakesWhatThereIs, ACutOrderKeepsItsPlace};
-ghost use Rattle.gx_rows.specs.ReportRows.{AKillIsTold, ADeniedValueIsTold, AKilledAccountIsTold, ALiftIsTold, ACancelIsTold, ACutIsTold, AReplaceIsTold, AnExpiryIsTold, TheEndOfTheDayIsTold, TheSampleIsSound, TheSweepIsShowable};
+ghost use Rattle.gx_rows.specs.ReportRows.{AKillIsTold, ADeniedValueIsTold, AKilledAccountIsTold, ALiftIsTold, ACancelIsTold, ACutIsTold, AReplaceIsTold, AnExpiryIsTold, TheEndOfTheDayIsTold, TheSampleIsSound, TheSweepIsShowable, ADropCopyIsWritten};
 
 /// Runs of traders' orders on the sample policy: tokens, sizes, prices, cancels, replaces and logins.
 pub fn rows_of_orders()
@@ -65,4 +65,5 @@ pub fn rows_of_reports()
     ensures the_end_of_the_day_is_told { TheEndOfTheDayIsTold }
     ensures the_sample_is_sound { TheSampleIsSound }
     ensures the_sweep_is_showable { TheSweepIsShowable }
+    ensures a_drop_copy_is_written { ADropCopyIsWritten }
 {}
