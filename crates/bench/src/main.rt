@@ -1,8 +1,10 @@
-//! A measurement of packets that come a byte at a time. It does a little and prints nothing; with any argument, as in
-//! `rt run -- time`, it prints how long each took, and their ratio.
+//! Measurements of what the program `gate` cannot show by itself. Without an argument it does a little and prints
+//! nothing. `time` prints how long packets took that come a byte at a time, and their ratio; `readers FILE FILLS` what so
+//! many fills and a reader's pulls took under that policy.
 #![tactic(auto)]
 
 mod packets;
+mod readers;
 
 use std::time::Duration;
 use std::{env, io};
@@ -16,6 +18,16 @@ fn tell_ratio(rt: &HostRuntime, great: Duration, small: Duration) -> io::Result<
 }
 
 fn main(rt: HostRuntime) -> io::Result<()> {
-    let is_timed = env::args(&rt)?.count() > 1;
-    packets::measure(&rt, is_timed)
+    let words: Vec<String> = match env::args(&rt)?.collect(rt.alloc()) {
+        Ok(words) => words,
+        Err(_) => return Err(io::ErrorKind::OutOfMemory.into()),
+    };
+    match words.as_slice() {
+        [_, _, file, fills] => match fills.parse() {
+            Ok(fills) => readers::measure(&rt, file, fills),
+            Err(_) => Err(io::ErrorKind::InvalidInput.into()),
+        },
+        [_, ..] => packets::measure(&rt, words.as_slice().len() > 1),
+        [] => Ok(()),
+    }
 }

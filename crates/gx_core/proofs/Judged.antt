@@ -1,8 +1,8 @@
 -- What the keepers answer is what the rules ask of the records.
-use Rattle.std.proofs.Common.{◌≡◌, ℕ, ◌+◌, ◌<◌, ◌^◌, max, pred, arith, length, drop, List, ◌∙◌, ap}
+use Rattle.std.proofs.Common.{◌≡◌, ℕ, ◌+◌, ◌<◌, ◌^◌, max, pred, arith, length, drop, List, ◌∙◌, ap, true}
 use Rattle.std.proofs.lemmas.List.{length-take, length-drop}
 use Rattle.gx_history.specs.Lists.{slice}
-use Rattle.std.specs.Prelude.{false, is_some, option_map, option_and_then}
+use Rattle.std.specs.Prelude.{false, is_some, option_map, option_and_then, Result, Ok, Err, IfOk}
 use Rattle.std.specs.Option.{option_map_or}
 use Rattle.gx_units.specs.declared.names.AccountName.{AccountName}
 use Rattle.gx_units.specs.declared.names.Password.{Password}
@@ -19,8 +19,8 @@ use Rattle.gx_history.specs.Executions.{executions}
 use Rattle.gx_history.specs.InForce.{is_closed, is_killed, line_of}
 use Rattle.gx_history.specs.Logins.{password_is}
 use Rattle.gx_history.specs.Orders.{is_token_used}
-use Rattle.gx_history.specs.People.{account_of, account_of_role, is_officer, is_trader, role_in, user_in}
-use Rattle.gx_history.specs.Streams.{stream}
+use Rattle.gx_history.specs.People.{account_of, account_of_role, is_officer, is_reader, is_trader, role_in, user_in}
+use Rattle.gx_history.specs.Streams.{copies, stream}
 use Rattle.gx_history.specs.Verdicts.{last_moment}
 use Rattle.gx_day.specs.DayData.{DayData, killed_in, line_in}
 use Rattle.gx_day.proofs.Answering.{ends_are_kept, kills_are_kept, lines_are_kept, moments_are_kept}
@@ -31,6 +31,7 @@ use Rattle.gx_people.specs.Entitled.{has, holds, holds_in_role, power_of}
 use Rattle.gx_people.proofs.Keeping.{accounts_stay, officers_stay, passwords_stay, powers_stay, scopes_stay, traders_stay, users_stay}
 use Rattle.gx_streams.specs.Streams.{reports_in}
 use Rattle.gx_streams.proofs.Finding.{reports_are}
+use Rattle.gx_streams.proofs.OnlyKnown.{readers_are, streams_are_copies}
 use Rattle.gx_keepers.specs.declared.keepers.Keepers.{Keepers}
 use Rattle.gx_core.specs.Kept.{IsKept}
 
@@ -97,6 +98,18 @@ cuts_are_known policy history user q = takes_nothing_is policy history user q
 pub reports_are_known : (policy : PolicyData) (history : List RecordData) (k : Keepers) (user : UserName) → IsKept policy history k
     → reports_in k.streams user ≡ stream policy history user
 reports_are_known policy history k user kept = reports_are policy history k.streams kept.legal kept.in_force.streams user
+
+-- of a reader: his drop copies
+copies_are_known : (policy : PolicyData) (history : List RecordData) (k : Keepers) (user : UserName) → IsKept policy history k → is_reader (role_in policy.users user) ≡ true
+    → reports_in k.streams user ≡ copies policy history user
+copies_are_known policy history k user kept reads =
+    reports_are_known policy history k user kept ∙ streams_are_copies policy history user kept.legal (readers_are policy user reads)
+
+pub copies_are_given : {V E : Type 0} (r : Result V E) (given : V → List Report) (policy : PolicyData) (history : List RecordData) (k : Keepers) (user : UserName) (from most : ℕ) → IsKept policy history k
+    → IfOk r (λ v. given v ≡ slice (reports_in k.streams user) from most)
+    → IfOk r (λ v. is_reader (role_in policy.users user) ≡ true → given v ≡ slice (copies policy history user) from most)
+copies_are_given (Ok v) given policy history k user from most kept is = λ reads. is ∙ ap (λ (l : List Report). slice l from most) (copies_are_known policy history k user kept reads)
+copies_are_given (Err e) given policy history k user from most kept is = tt
 
 -- a number behind the last report fits, where the first that is wanted does
 pub numbers_fit : (owed : List Report) (from most : ℕ) → length owed < 2 ^ 63 → from < 2 ^ 64 → max 1 from + length (slice owed from most) < 2 ^ 64

@@ -8,12 +8,21 @@ use Rattle.gx_history.specs.declared.record.Request.{Request}
 use Rattle.gx_history.specs.declared.report.Report.{Report}
 use Rattle.gx_history.specs.InForce.{is_closed}
 use Rattle.gx_history.specs.Logins.{login_asked}
-use Rattle.gx_history.specs.Streams.{stream}
+use Rattle.gx_history.specs.People.{is_reader, role_in}
+use Rattle.gx_history.specs.Streams.{copies, stream}
 use Rattle.gx_core.specs.Gates.{GateData}
 
 -- all that the user was told
 abbrev pub stream_of : GateData → UserName → List Report
 stream_of gate user = stream gate.policy gate.records user
+
+-- the user is a reader
+abbrev pub reads : GateData → UserName → Bool
+reads gate user = is_reader (role_in gate.policy.users user)
+
+-- the drop copies of each fill of an account that was the reader's before it
+abbrev pub copies_of : GateData → UserName → List Report
+copies_of gate reader = copies gate.policy gate.records reader
 
 -- the day is closed, and no report of the user has this number
 abbrev pub ends_before : GateData → UserName → ℕ → Bool

@@ -14,7 +14,7 @@ ghost use Rattle.gx_core.specs.declared.outcome.StepFault.TheVariants as faults;
 ghost use Rattle.gx_core.specs.Gates.{left_by, matched_by};
 ghost use Rattle.gx_core.specs.Logins.{login_answered};
 ghost use Rattle.gx_core.specs.Matches.{matches_left, matching_of, next_match, settled_gate, with_match, HasMatched};
-ghost use Rattle.gx_core.specs.Told.{ends_before, login_of, stream_of};
+ghost use Rattle.gx_core.specs.Told.{copies_of, ends_before, login_of, reads, stream_of};
 ghost use Rattle.gx_core.specs.Steps.{next_of, verdict_of, with_record, EndsKills, HasEffect};
 ghost use Rattle.gx_core.specs.Steps.{IsFull, IsJudged, NoneHeldWhereNoneAsked};
 
@@ -252,10 +252,13 @@ impl Gate {
         Ok(slice(self.history.as_slice(), from, most).to_vec(self.alloc)?)
     }
 
-    /// The user's reports from this number on, 0 counting as 1, and at most so many.
+    /// The user's reports from this number on, 0 counting as 1, and at most so many. A reader's are the drop copies of
+    /// the fills of accounts that were his before the fill.
     #[tactic(auto, using(crate::proofs::Judged::reports_are_known, crate::proofs::Judged::end_is_known))]
     pub fn reports(&self, user: UserName, from: u64, most: u64) -> Result<Pulled, OutOfMemory>
         ensures reports { IfOk result (λ p. p.reports ≡ slice (stream_of self.now user) from most) }
+        ensures copies { IfOk result (λ p. IsTrue (reads self.now user)
+            → p.reports ≡ slice (copies_of self.now user) from most) }
         ensures next { IfOk result (λ p. p.next ≡ max 1 from + length p.reports) }
         ensures ended { IfOk result (λ p. p.ended ≡ ends_before self.now user p.next) }
     {

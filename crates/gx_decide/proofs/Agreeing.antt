@@ -35,7 +35,7 @@ use Rattle.gx_positions.proofs.Sound.{positions_are_sound}
 use Rattle.gx_ledger.specs.StandsFor.{IsNamedIfAny}
 use Rattle.gx_decide.specs.Deciding.{AskForTheSame, knows_asker, with_powers}
 use Rattle.gx_decide.specs.Verdicts.{DecidesTheVerdict}
-use Rattle.gx_decide.proofs.Accounts.{accounts_are_known}
+use Rattle.gx_effects.proofs.Accounts.{accounts_are_known}
 
 account_fact : (policy : PolicyData) (history : List RecordData) (a : Asked) → (facts_now policy history a).account ≡ account_of policy a.user
 unfolding facts

@@ -8,10 +8,10 @@ use Rattle.gx_history.specs.declared.record.Asked.{Asked}
 use Rattle.gx_history.specs.declared.record.RecordData.{RecordData}
 use Rattle.gx_history.specs.declared.record.Request.{Request}
 use Rattle.gx_history.specs.declared.record.RuleName.{RuleName}
-use Rattle.gx_history.specs.declared.record.RuleName.TheVariants.{Q1, Q2, Q3}
+use Rattle.gx_history.specs.declared.record.RuleName.TheVariants.{Q1, Q2, Q3, Q4}
 use Rattle.gx_history.specs.declared.record.Step.TheVariants as steps
 use Rattle.gx_history.specs.declared.record.Verdict.TheVariants as verdicts
-use Rattle.gx_history.specs.Asking.{facts, of_command, has_power, are_his, knows_names}
+use Rattle.gx_history.specs.Asking.{facts, of_command, has_power, are_his, changes, knows_names}
 use Rattle.gx_history.specs.People.{role_in}
 use Rattle.gx_history.specs.Requests.{is_command}
 use Rattle.gx_history.specs.RuleNames.{rules_behind}
@@ -42,6 +42,13 @@ scope_is_no_bar policy history a r left granted =
     none_among (λ (name : RuleName). forbids name (facts_now policy history a) a.request) (Q1 ∷ Q2 ∷ []) Q3 (drop 3 rules_behind)
     (none_behind (rules_now policy history a) (facts_now policy history a) a.request (granted_passes policy history a r left granted))
 
+change_is_no_bar : (policy : PolicyData) (history : List RecordData) (a : Asked) (r : RecordData)
+    → next policy history (steps.Asked a) ≡ Some r → r.verdict ≡ verdicts.Granted → forbids Q4 (facts_now policy history a) a.request ≡ false
+unfolding rules_behind
+change_is_no_bar policy history a r left granted =
+    none_among (λ (name : RuleName). forbids name (facts_now policy history a) a.request) (Q1 ∷ Q2 ∷ Q3 ∷ []) Q4 (drop 4 rules_behind)
+    (none_behind (rules_now policy history a) (facts_now policy history a) a.request (granted_passes policy history a r left granted))
+
 -- the action passes the test of a rule that does not forbid its command
 passes : (test : Action → Bool) (r : RecordData) (a : Asked) (action : Action) → GrantsCommand r a action → (is_command a.request && not (of_command test a.request)) ≡ false → test action ≡ true
 passes test r a action g no_bar =
@@ -62,3 +69,8 @@ pub has_the_accounts : (policy : PolicyData) (history : List RecordData) (a : As
     → next policy history (steps.Asked a) ≡ Some r → are_his policy history (role_in policy.users a.user) action ≡ true
 unfolding facts
 has_the_accounts policy history a r action g left = passes (are_his policy history (role_in policy.users a.user)) r a action g (scope_is_no_bar policy history a r left g.grants)
+
+pub changes_something : (policy : PolicyData) (history : List RecordData) (a : Asked) (r : RecordData) (action : Action) → GrantsCommand r a action
+    → next policy history (steps.Asked a) ≡ Some r → changes policy history a.user action ≡ true
+unfolding facts
+changes_something policy history a r action g left = passes (changes policy history a.user) r a action g (change_is_no_bar policy history a r left g.grants)

@@ -42,3 +42,4 @@ pub mod Commanded
 pub mod RuleChanges
 pub mod SightChanges
 pub mod Closing
+pub mod Accounts

@@ -20,3 +20,4 @@ pub mod Tokens
 pub mod Listed
 pub mod Names
 pub mod Tables
+pub mod Masks

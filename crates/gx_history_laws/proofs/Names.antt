@@ -1,5 +1,5 @@
 -- Names: those that are the same byte for byte are equal, and a sound policy's differ.
-use Rattle.std.proofs.Common.{◌≡◌, ℕ, true, List, refl, ap}
+use Rattle.std.proofs.Common.{◌≡◌, ℕ, ◌≤◌, arith, length, nat_le, true, List, refl, ap}
 use Rattle.std.specs.Cmp.Lexicographic.{nat_list_eq_equiv}
 use Rattle.std.proofs.lemmas.Slice.Eq.{bytes_eq-Decides}
 use Rattle.gx_units.specs.Names.{same_account, same_token, same_user}
@@ -10,7 +10,7 @@ use Rattle.gx_history.specs.declared.policy.Account.{Account}
 use Rattle.gx_history.specs.declared.policy.PolicyData.{PolicyData}
 use Rattle.gx_history.specs.declared.policy.User.{User}
 use Rattle.gx_history.specs.Lists.{are_distinct}
-use Rattle.gx_history.specs.Soundness.{is_sound, names_differ}
+use Rattle.gx_history.specs.Soundness.{is_sound, is_within_limits, names_differ}
 use Rattle.gx_history_laws.proofs.Judging.{both}
 
 pub same_user_flip : (a b : UserName) → same_user a b ≡ same_user b a
@@ -39,3 +39,11 @@ users_differ policy h = (both _ _ (both _ _ (names_are_apart policy h)).0).1
 -- no two accounts of a sound policy have one name
 pub accounts_differ : (policy : PolicyData) → is_sound policy ≡ true → are_distinct (λ (a b : Account). same_account a.name b.name) policy.accounts ≡ true
 accounts_differ policy h = (both _ _ (both _ _ (both _ _ (names_are_apart policy h)).0).0).0
+
+-- a sound policy has at most 64 accounts
+pub accounts_few : (policy : PolicyData) → is_sound policy ≡ true → length policy.accounts ≤ 64
+unfolding is_sound
+accounts_few policy h =
+    let within : is_within_limits policy ≡ true = (both _ _ (both _ _ (both _ _ (both _ _ (both _ _ (both _ _ h).0).0).0).0).0).0 in
+    let few : nat_le (length policy.accounts) 64 ≡ true = (both _ _ (both _ _ (both _ _ within).0).0).0 in
+    grind (arith, few)

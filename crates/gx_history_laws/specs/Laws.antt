@@ -1,12 +1,13 @@
 -- What the definitions say of every policy, every history and every request.
 use Rattle.std.specs.Option.{option_map_or}
-use Rattle.std.specs.Prelude.{◌≡◌, ◌+◌, ◌≤◌, ◌||◌, unwrap_or, is_some, length, List, [], ◌∷◌, ◌++◌, map, Some, ◌↔◌, IsTrue, IsFalse, Bool, false, ◌&&◌, filter}
-use Rattle.std.specs.List.{list_any, AllByRecursion}
+use Rattle.std.specs.Prelude.{ℕ, ◌<◌, ◌^◌, option_map, ◌≡◌, ◌+◌, ◌≤◌, ◌||◌, unwrap_or, is_some, length, List, [], ◌∷◌, ◌++◌, map, Some, ◌↔◌, IsTrue, IsFalse, Bool, false, ◌&&◌, filter}
+use Rattle.std.specs.List.{list_any, slice_get, AllByRecursion}
 use Rattle.gx_units.specs.Names.{same_user, same_token}
 use Rattle.gx_units.specs.declared.names.AccountName.{AccountName}
 use Rattle.gx_units.specs.declared.names.Token.{Token}
 use Rattle.gx_units.specs.declared.names.UserName.{UserName}
 use Rattle.gx_desk.specs.declared.Action.{Action}
+use Rattle.gx_history.specs.declared.policy.Account.{Account}
 use Rattle.gx_history.specs.declared.policy.PolicyData.{PolicyData}
 use Rattle.gx_history.specs.declared.record.Asked.{Asked}
 use Rattle.gx_history.specs.declared.record.RecordData.{RecordData}
@@ -19,6 +20,7 @@ use Rattle.gx_history.specs.InForce.{is_closed, is_killed, kill_or_lift_of, line
 use Rattle.gx_history.specs.Orders.{Order, orders, ends_account, is_token_used, record_uses, total}
 use Rattle.gx_history.specs.Requests.{granted, granted_action, granted_mark, is_order}
 use Rattle.gx_history.specs.Lists.{are_distinct}
+use Rattle.gx_history.specs.Masks.{has_account, mask_by}
 use Rattle.gx_history.specs.People.{account_of, stock_named}
 use Rattle.gx_history.specs.Streams.{stream, reports_of}
 use Rattle.gx_history.specs.Rules.{applies, written_order, IsFirstForbidding}
@@ -136,3 +138,13 @@ DaysEnd = (history : List RecordData) (r : RecordData) → is_closed (history ++
 -- the moment of the last record is that of the record
 abbrev pub MomentsGoOn : Type 0
 MomentsGoOn = (history : List RecordData) (r : RecordData) → last_moment (history ++ r ∷ []) ≡ r.moment
+
+-- a mask of at most 64 accounts has one at its place exactly where it passes the test
+abbrev pub MasksAreExact : Type 0
+MasksAreExact = (test : AccountName → Bool) (accounts : List Account) (place : ℕ) (account : AccountName)
+    → length accounts ≤ 64 → option_map (λ (a : Account). a.name) (slice_get accounts place) ≡ Some account
+    → has_account (mask_by test accounts) place ≡ test account
+
+-- and no bit for more accounts than there are
+abbrev pub MasksAreWithin : Type 0
+MasksAreWithin = (test : AccountName → Bool) (accounts : List Account) → mask_by test accounts < 2 ^ length accounts

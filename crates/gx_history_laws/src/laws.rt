@@ -1,6 +1,7 @@
 //! Laws of the definitions, each as what a function without a body ensures.
 
 ghost use Rattle.gx_history_laws.specs.Laws.{RequestsLeaveRecords, GrantedWhereNoneForbids, DeniedByTheFirst, RequestsAreShown, LegalGoesOn, RunsAreLegal, LegalAreRuns, NumbersArePlaces, OrdersAreGrants, OrderNumbersAreWithin, TokensDiffer, AccountsAreTheUsers, StocksAreListed, OpenIsWithinTotal, EndedAreNotLive, TokensGrow, LinesGoOn, KillsGoOn, DaysEnd, MomentsGoOn, StreamsGrow};
+ghost use Rattle.gx_history_laws.specs.Laws.{MasksAreExact, MasksAreWithin};
 
 /// A request leaves a record of its verdict: granted where no rule forbids, else denied by the first that does.
 pub fn requests_are_judged()
@@ -46,4 +47,10 @@ pub fn states_go_on()
 /// What a user was told stays, and each record adds to the end.
 pub fn streams_grow()
     ensures { StreamsGrow }
+{}
+
+/// The bits of a mask are the accounts that pass a test, in the file's order.
+pub fn masks_are_accounts()
+    ensures exact { MasksAreExact }
+    ensures within { MasksAreWithin }
 {}

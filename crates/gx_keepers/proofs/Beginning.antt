@@ -1,5 +1,5 @@
 -- What the keepers hold at the beginning of a day.
-use Rattle.std.proofs.Common.{◌≡◌, List, [], ◌∙◌, ap, sym}
+use Rattle.std.proofs.Common.{◌≡◌, List, [], ◌∙◌, sym}
 use Rattle.gx_history.specs.declared.policy.FileRule.{FileRule}
 use Rattle.gx_history.specs.declared.policy.PolicyData.{PolicyData}
 use Rattle.gx_history.specs.declared.policy.User.{User}
@@ -18,20 +18,21 @@ use Rattle.gx_ledger.specs.StandsFor.{StandsFor}
 use Rattle.gx_streams.specs.Streams.{AllStreams, empty_streams}
 use Rattle.gx_streams.specs.Telling.{shown}
 use Rattle.gx_streams.proofs.Telling.{first_told}
-use Rattle.gx_keepers.specs.Keepers.{AreInForce}
+use Rattle.gx_keepers.specs.Keepers.{AreInForce, AreSentTo}
 use Rattle.gx_keepers.proofs.Figuring.{begins}
 
 -- at the beginning of a day
 pub begin : (policy : PolicyData) (users : List User) (rules : List FileRule) (day : DayData) (orders : OrdersData) (book : List StockOrders) (ledger : Kept) (streams : AllStreams)
-    → users ≡ policy.users → rules ≡ policy.rules → day ≡ fresh_day policy → orders.live ≡ [] → orders.used ≡ [] → book ≡ empty_book policy → StandsFor policy ledger nothing → streams ≡ empty_streams policy
+    → users ≡ policy.users → rules ≡ policy.rules → day ≡ fresh_day policy → orders.live ≡ [] → orders.used ≡ [] → book ≡ empty_book policy → StandsFor policy ledger nothing → shown streams ≡ shown (empty_streams policy) → AreSentTo policy users streams.readers
     → AreInForce policy [] (record { people = users; rules = rules; day = day; orders = orders; book = book; ledger = ledger; streams = streams })
 unfolding rules_in_force
-begin policy users rules day orders book ledger streams users_are rules_are day_is none_live none_used book_is figured streams_are = record {
+begin policy users rules day orders book ledger streams users_are rules_are day_is none_live none_used book_is figured streams_are sent = record {
   people = users_are ∙ sym (first_users policy);
   rules = rules_are;
   day = day_is ∙ sym (day_begins policy);
   orders = (λ i. record { live = none_live i; used = none_used i }) ∙ sym (none_at_first policy);
   book = book_is ∙ book_at_first policy;
   ledger = begins policy ledger figured;
-  streams = ap shown streams_are ∙ first_told policy;
+  streams = streams_are ∙ first_told policy;
+  sent = sent;
 }

@@ -63,13 +63,13 @@ use Rattle.gx_people.specs.Entitled.{given, people_in_force}
 use Rattle.gx_people.proofs.Keeping.{accounts_stay, next_users}
 use Rattle.gx_streams.specs.Kept.{places_in}
 use Rattle.gx_streams.specs.Laws.{TellsNobody, TellsOne}
-use Rattle.gx_streams.specs.Streams.{AllStreams}
+use Rattle.gx_streams.specs.Streams.{AllStreams, ReaderMask, mask_in}
 use Rattle.gx_streams.specs.Telling.{shown, told_after}
 use Rattle.gx_streams.proofs.Telling.{stays_by_none, stays_by_one}
 use Rattle.gx_ledger.specs.declared.placed.Placed.{Placed}
 use Rattle.gx_ledger.specs.StandsFor.{Accepts}
 use Rattle.gx_keepers.specs.declared.keepers.Keepers.{Keepers}
-use Rattle.gx_keepers.specs.Keepers.{AreInForce, AreInForceBut, HavePlaces, Takes, with_told}
+use Rattle.gx_keepers.specs.Keepers.{AreInForce, AreInForceBut, AreSentTo, HavePlaces, Takes, mask_for, with_told}
 use Rattle.gx_keepers.specs.Ledgers.{StandsForDay, placed}
 use Rattle.gx_keepers.specs.Messages.{accepted_message}
 use Rattle.gx_keepers.proofs.Figuring.{denial_figured, enter_figured, quiet_figured}
@@ -89,13 +89,24 @@ granted_is r a grants step = ap (λ (v : Verdict). cond (is_granted v) (asked r.
 denied_is : (r : RecordData) (rule : RuleName) → r.verdict ≡ verdicts.Denied rule → granted r ≡ None
 denied_is r rule denied = ap (λ (v : Verdict). cond (is_granted v) (asked r.step) None) denied
 
+-- who sees the same accounts, by the same masks, gets their fills
+pub still_sent : (policy : PolicyData) (before now : List User) (had has : List ReaderMask) → now ≡ before → has ≡ had → AreSentTo policy before had → AreSentTo policy now has
+still_sent policy before now had has people readers sent user =
+    ap (λ (rs : List ReaderMask). mask_in rs user) readers ∙ sent user ∙ sym (ap (λ (us : List User). mask_for policy us user) people)
+
+-- what is told changes no mask
+told_keeps_masks : (user : UserName) (moment : ℕ) (found : Option Message) (streams : AllStreams) → (with_told user moment found streams).readers ≡ streams.readers
+told_keeps_masks user moment None streams = refl
+told_keeps_masks user moment (Some message) streams = refl
+
 -- a granted request: people and rules by its command, lines and kills by what it asks for
 pub by_grant : (policy : PolicyData) (history : List RecordData) (a : Asked) (r : RecordData) (before k : Keepers) (q : Request)
     → AreInForce policy history before → r.verdict ≡ verdicts.Granted → r.step ≡ steps.Asked a → a.request ≡ q
     → k.people ≡ option_map_or (given before.people) (action_of q) before.people → k.rules ≡ rules_with before.rules (action_of q) → k.day ≡ day_asked a q before.day
     → k.orders ≡ orders_in_force policy (history ++ r ∷ []) → k.book ≡ book_in_force policy (history ++ r ∷ []) → StandsForDay policy k.ledger (history ++ r ∷ []) → shown k.streams ≡ told_after policy (history ++ r ∷ [])
+    → AreSentTo policy k.people k.streams.readers
     → AreInForceBut policy history r k
-by_grant policy history a r before k q kept grants step asks people_are rules_are day_is orders_are book_is figured streams_are =
+by_grant policy history a r before k q kept grants step asks people_are rules_are day_is orders_are book_is figured streams_are sent =
     let is : granted r ≡ Some a = granted_is r a grants step in
     let acts : granted_action r ≡ action_of q = ap (option_and_then (λ (x : Asked). action_of x.request)) is ∙ ap action_of asks in
     record {
@@ -111,6 +122,7 @@ by_grant policy history a r before k q kept grants step asks people_are rules_ar
       book = book_is;
       ledger = figured;
       streams = streams_are;
+      sent = sent;
     }
 
 -- where nothing is granted: all of these as they were
@@ -118,8 +130,9 @@ pub by_no_grant : (policy : PolicyData) (history : List RecordData) (r : RecordD
     → AreInForce policy history before → granted r ≡ None
     → k.people ≡ before.people → k.rules ≡ before.rules → k.day ≡ before.day
     → k.orders ≡ orders_in_force policy (history ++ r ∷ []) → k.book ≡ book_in_force policy (history ++ r ∷ []) → StandsForDay policy k.ledger (history ++ r ∷ []) → shown k.streams ≡ told_after policy (history ++ r ∷ [])
+    → k.streams.readers ≡ before.streams.readers
     → AreInForceBut policy history r k
-by_no_grant policy history r before k kept is people_are rules_are day_is orders_are book_is figured streams_are =
+by_no_grant policy history r before k kept is people_are rules_are day_is orders_are book_is figured streams_are readers_are =
     let acts : granted_action r ≡ None = ap (option_and_then (λ (x : Asked). action_of x.request)) is in
     record {
       people = people_are ∙ kept.people
@@ -132,6 +145,7 @@ by_no_grant policy history r before k kept is people_are rules_are day_is orders
       book = book_is;
       ledger = figured;
       streams = streams_are;
+      sent = still_sent policy before.people k.people before.streams.readers k.streams.readers people_are readers_are kept.sent;
     }
 
 -- a grant that changes nothing that rests keeps the book
@@ -203,6 +217,7 @@ denial_goes_on policy history a r rule before k found t denied is people_are rul
     (book_is ∙ t.in_force.book ∙ sym (booked.denials_keep policy history (steps.Asked a) r rule t.legal t.left denied))
     (denial_figured policy history a r rule before k.ledger t denied ledger_is)
     (ap shown streams_are ∙ told found is)
+    (ap (λ (s : AllStreams). s.readers) streams_are ∙ told_keeps_masks a.user r.moment found before.streams)
   where
     told : (found : Option Message) → option_to_list found ≡ reports_of_denial policy r rule a.request → shown (with_told a.user r.moment found before.streams) ≡ told_after policy (history ++ r ∷ [])
     told None is = stays_by_none policy history (history ++ r ∷ []) before.streams t.in_force.streams (tells_nobody policy history r a.user (denial_tells policy history a r rule before None t denied is))
@@ -259,6 +274,7 @@ enter_goes_on policy history a r m account before k order handed message t grant
     (ap shown (streams_are ∙ ap (λ (x : Message). with_told a.user r.moment (Some x) before.streams) (message_is ∙ ap accepted_message order_is))
     ∙ stays_by_one policy history (history ++ r ∷ []) r before.streams a.user (accepted_message (waiting_order policy r a.user account m)) t.in_force.streams
     (enter_tells policy history a r m account before t grants enters his))
+    (still_sent policy before.people k.people before.streams.readers k.streams.readers people_are (ap (λ (s : AllStreams). s.readers) streams_are) t.in_force.sent)
 
 -- a granted Login
 pub login_goes_on : (policy : PolicyData) (history : List RecordData) (a : Asked) (r : RecordData) (m : Login) (before k : Keepers)
@@ -271,6 +287,7 @@ login_goes_on policy history a r m before k t grants asks people_are rules_are d
     (book_stays policy history a r before k t grants (ap keeps_book asks) book_is)
     (quiet_figured policy history a r (requests.Login m) before k.ledger t grants asks refl ledger_is)
     (ap shown streams_are ∙ stays_by_none policy history (history ++ r ∷ []) before.streams t.in_force.streams (login_takes_effect policy history a r m t.left asks grants).told_nothing)
+    (still_sent policy before.people k.people before.streams.readers k.streams.readers people_are (ap (λ (s : AllStreams). s.readers) streams_are) t.in_force.sent)
 
 -- a granted Logout
 pub logout_goes_on : (policy : PolicyData) (history : List RecordData) (a : Asked) (r : RecordData) (before k : Keepers)
@@ -283,6 +300,7 @@ logout_goes_on policy history a r before k t grants asks people_are rules_are da
     (book_stays policy history a r before k t grants (ap keeps_book asks) book_is)
     (quiet_figured policy history a r requests.Logout before k.ledger t grants asks refl ledger_is)
     (ap shown streams_are ∙ stays_by_none policy history (history ++ r ∷ []) before.streams t.in_force.streams (logout_takes_effect policy history a r t.left asks grants).told_nothing)
+    (still_sent policy before.people k.people before.streams.readers k.streams.readers people_are (ap (λ (s : AllStreams). s.readers) streams_are) t.in_force.sent)
 
 -- the account that a user trades for, as people say
 pub account_is : (policy : PolicyData) (history : List RecordData) (k : Keepers) (user : UserName) (found : Option AccountName) → AreInForce policy history k

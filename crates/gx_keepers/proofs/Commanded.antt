@@ -21,11 +21,11 @@ use Rattle.gx_history.specs.declared.record.Step.TheVariants as steps
 use Rattle.gx_history.specs.declared.record.Verdict.TheVariants as verdicts
 use Rattle.gx_history.specs.declared.report.Message.{Message}
 use Rattle.gx_history.specs.declared.report.Report.{Report}
-use Rattle.gx_history.specs.Asking.{knows_limit, knows_names, rule_in_force}
+use Rattle.gx_history.specs.Asking.{changes, knows_limit, knows_names, rule_in_force}
 use Rattle.gx_history.specs.InForce.{changed, limit_of, rules_in_force}
 use Rattle.gx_history.specs.Lists.{are_distinct}
 use Rattle.gx_history.specs.Orders.{ends_account}
-use Rattle.gx_history.specs.People.{is_trader, role_in, user_in}
+use Rattle.gx_history.specs.People.{is_trader, reader_in, role_in, user_in}
 use Rattle.gx_history.specs.Requests.{action_of}
 use Rattle.gx_history.specs.Soundness.{is_sound}
 use Rattle.gx_history.specs.Streams.{answer, day_end, ended, reported, reports_of, stream, to_user}
@@ -35,6 +35,7 @@ use Rattle.gx_history_laws.proofs.Judging.{both}
 use Rattle.gx_history_laws.proofs.Names.{same_user_flip, users_differ}
 use Rattle.gx_history_laws.proofs.NextReports.{stream_next}
 use Rattle.gx_history_laws.proofs.Runs.{step_left}
+use Rattle.gx_effects.proofs.Allowed.{changes_something}
 use Rattle.gx_effects.proofs.Commanding.{GrantsCommand, grants_the_command, told_by_command}
 use Rattle.gx_day.specs.InForce.{day_commanded}
 use Rattle.gx_day.proofs.Answering.{command_is_known}
@@ -47,9 +48,11 @@ use Rattle.gx_orders.proofs.Telling.{ends_are_told}
 use Rattle.gx_book.specs.Books.{StockOrders}
 use Rattle.gx_market.specs.Changes.{ended_by}
 use Rattle.gx_market.proofs.Requested as booked
-use Rattle.gx_people.specs.Entitled.{given}
-use Rattle.gx_streams.specs.Kept.{places_in}
-use Rattle.gx_streams.specs.Streams.{AllStreams}
+use Rattle.gx_people.specs.Entitled.{given, people_in_force, sees}
+use Rattle.gx_people.proofs.Keeping.{named_see}
+use Rattle.gx_people.proofs.Table.{map_or}
+use Rattle.gx_streams.specs.Kept.{UserList, places_in}
+use Rattle.gx_streams.specs.Streams.{AllStreams, ReaderMask}
 use Rattle.gx_streams.specs.Telling.{each_told, owed_to, shown, with_all_owed, with_owed}
 use Rattle.gx_streams.proofs.Owing.{owed_both}
 use Rattle.gx_streams.proofs.Places.{owed_taken}
@@ -57,12 +60,13 @@ use Rattle.gx_streams.proofs.Telling.{GoesOn, all_owed_shown, more_told}
 use Rattle.gx_ledger.specs.Following.{ClosesAll}
 use Rattle.gx_keepers.specs.declared.keepers.Keepers.{Keepers}
 use Rattle.gx_keepers.specs.Ends.{HaveOwedPlaces, is_ended, live_left, owed_by_answer, owed_by_close, owed_by_command, owed_by_day_end, owed_by_day_ends, owed_by_end, owed_by_ends, trades}
-use Rattle.gx_keepers.specs.Keepers.{AreInForceBut, HavePlaces, Takes}
+use Rattle.gx_keepers.specs.Keepers.{AreInForceBut, AreSentTo, HavePlaces, Takes}
 use Rattle.gx_keepers.specs.Ledgers.{ended_orders}
 use Rattle.gx_keepers.specs.Messages.{day_end_message}
-use Rattle.gx_keepers.specs.Settings.{HasSetting}
+use Rattle.gx_keepers.specs.Settings.{HasSetting, IsUnseen, sent_on}
 use Rattle.gx_keepers.proofs.Carrying.{by_grant}
 use Rattle.gx_keepers.proofs.Figuring.{command_figured, none_end}
+use Rattle.gx_keepers.proofs.Sending.{owed_masks, sent_after, sent_told, shown_by_told}
 
 -- ---- what is owed to one user
 
@@ -212,11 +216,14 @@ command_tells policy history a r c k t granted asks sound user =
     stream_next policy history r user ∙ ap (λ (rs : List Report). stream policy history user ++ rs) (owed_now policy history a r c k user t granted asks sound)
 
 -- and has a place for it
-pub command_places : (policy : PolicyData) (history : List RecordData) (a : Asked) (r : RecordData) (c : Command) (k : Keepers)
+pub command_places : (policy : PolicyData) (history : List RecordData) (a : Asked) (r : RecordData) (c : Command) (k : Keepers) (streams : AllStreams) (now : List User)
+    → streams ≡ sent_on policy k.people now k.streams c.action
     → Takes policy history a r k → HavePlaces policy history r k.streams → r.verdict ≡ verdicts.Granted → a.request ≡ requests.Command c → is_sound policy ≡ true
-    → HaveOwedPlaces (owed_by_command policy r a.user c k.orders.live) k.streams
-command_places policy history a r c k t places granted asks sound user =
-    subst (λ (reports : List Report). length reports ≤ places_in k.streams.told user) (owed_now policy history a r c k user t granted asks sound) (places user)
+    → HaveOwedPlaces (owed_by_command policy r a.user c k.orders.live) streams
+command_places policy history a r c k streams now sent_is t places granted asks sound user =
+    subst (λ (told : List (UserList Report)). length (owed_to (owed_by_command policy r a.user c k.orders.live) user) ≤ places_in told user)
+    (sym (ap (λ (s : AllStreams). s.told) sent_is ∙ sent_told policy k.people now k.streams c.action))
+    (subst (λ (reports : List Report). length reports ≤ places_in k.streams.told user) (owed_now policy history a r c k user t granted asks sound) (places user))
 
 -- ---- telling in turn
 
@@ -306,21 +313,26 @@ orders_left policy history a r c legal left granted asks (actions.Unrestrict rul
 orders_left policy history a r c legal left granted asks (actions.Grant reader account) is = others_keep policy history a r legal left granted (ap keeps_orders asks ∙ ap is_lasting is)
 orders_left policy history a r c legal left granted asks (actions.Revoke reader account) is = others_keep policy history a r legal left granted (ap keeps_orders asks ∙ ap is_lasting is)
 
-pub command_goes_on : (policy : PolicyData) (history : List RecordData) (a : Asked) (r : RecordData) (c : Command) (before k : Keepers)
+pub command_goes_on : (policy : PolicyData) (history : List RecordData) (a : Asked) (r : RecordData) (c : Command) (before k : Keepers) (sent : AllStreams)
     → Takes policy history a r before → r.verdict ≡ verdicts.Granted → a.request ≡ requests.Command c → is_sound policy ≡ true
-    → k.people ≡ given before.people c.action → k.rules ≡ changed before.rules c.action → k.day ≡ day_commanded c.action before.day
+    → k.people ≡ given before.people c.action → sent ≡ sent_on policy before.people k.people before.streams c.action
+    → k.rules ≡ changed before.rules c.action → k.day ≡ day_commanded c.action before.day
     → k.orders ≡ with_live (live_left c.action before.orders.live) before.orders → k.book ≡ ended_by c.action before.book
-    → ClosesAll (ended_orders c.action before.orders.live) before.ledger k.ledger → k.streams ≡ with_all_owed (owed_by_command policy r a.user c before.orders.live) before.streams
+    → ClosesAll (ended_orders c.action before.orders.live) before.ledger k.ledger → k.streams ≡ with_all_owed (owed_by_command policy r a.user c before.orders.live) sent
     → AreInForceBut policy history r k
-command_goes_on policy history a r c before k t granted asks sound people_are rules_are day_is orders_are book_is closes streams_are =
+command_goes_on policy history a r c before k sent t granted asks sound people_are sent_is rules_are day_is orders_are book_is closes streams_are =
     let owed : List (UserName × Report) = owed_by_command policy r a.user c before.orders.live in
     by_grant policy history a r before k (requests.Command c) t.in_force granted (step_left policy history (steps.Asked a) r t.left) asks people_are rules_are day_is
     (orders_are ∙ ap (λ (orders : OrdersData). with_live (live_left c.action orders.live) orders) t.in_force.orders
     ∙ sym (orders_left policy history a r c t.legal t.left granted asks c.action refl))
     (book_is ∙ ap (ended_by c.action) t.in_force.book ∙ sym (booked.ends_by policy history a r c.action t.legal t.left granted a.request refl (ap action_of asks)))
     (command_figured policy history a r c before k.ledger t granted asks closes)
-    (ap shown streams_are ∙ all_owed_shown before.streams owed ∙ ap (each_told (owed_to owed)) t.in_force.streams
+    (ap shown streams_are ∙ all_owed_shown sent owed
+    ∙ ap (each_told (owed_to owed)) (shown_by_told sent before.streams (ap (λ (s : AllStreams). s.told) sent_is ∙ sent_told policy before.people k.people before.streams c.action) ∙ t.in_force.streams)
     ∙ sym (more_told policy history (history ++ r ∷ []) (owed_to owed) (command_tells policy history a r c before t granted asks sound)))
+    (subst (λ (rs : List ReaderMask). AreSentTo policy k.people rs)
+    (sym (ap (λ (s : AllStreams). s.readers) streams_are ∙ owed_masks owed sent ∙ ap (λ (s : AllStreams). s.readers) sent_is))
+    (sent_after policy before.people k.people before.streams c.action people_are t.in_force.sent))
 
 -- the rule that a granted setting names has it
 knows_setting : (policy : PolicyData) (history : List RecordData) (action : Action) → knows_names policy history action ≡ true → HasSetting (rules_in_force policy history) action
@@ -342,3 +354,26 @@ pub has_setting : (policy : PolicyData) (history : List RecordData) (a : Asked) 
 has_setting policy history a r c k t grants asks =
     subst (λ (rules : List FileRule). HasSetting rules c.action) (sym t.in_force.rules)
     (knows_setting policy history c.action (command_is_known policy history a r c t.left grants asks))
+
+-- the reader whom a granted Grant names has not got the account
+pub is_unseen : (policy : PolicyData) (history : List RecordData) (a : Asked) (r : RecordData) (c : Command) (k : Keepers)
+    → Takes policy history a r k → r.verdict ≡ verdicts.Granted → a.request ≡ requests.Command c → is_sound policy ≡ true → IsUnseen k.people c.action
+is_unseen policy history a r c k t granted asks sound =
+    subst (λ (people : List User). IsUnseen people c.action) (sym t.in_force.people)
+    (by c.action (changes_something policy history a r c.action (grants policy history a r c k t granted asks) t.left))
+  where
+    flipped : (b : Bool) → not b ≡ true → b ≡ false
+    flipped true h = cc
+    flipped false h = refl
+
+    by : (action : Action) → changes policy history a.user action ≡ true → IsUnseen (people_in_force policy history) action
+    by (actions.Grant written account) h =
+        map_or (λ (u : User). u.name) (λ (name : UserName). sees (people_in_force policy history) name account) (reader_in (people_in_force policy history) written)
+        ∙ named_see policy history written account sound ∙ flipped _ h
+    by (actions.Revoke written account) h = tt
+    by (actions.SetLimit rule limit) h = tt
+    by (actions.Restrict rule stock) h = tt
+    by (actions.Unrestrict rule stock) h = tt
+    by (actions.Kill account) h = tt
+    by (actions.Lift account) h = tt
+    by actions.CloseDay h = tt

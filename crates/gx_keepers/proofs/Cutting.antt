@@ -34,6 +34,7 @@ use Rattle.gx_market.specs.Changes.{cut_from}
 use Rattle.gx_market.proofs.Requested.{cancels_take}
 use Rattle.gx_streams.specs.Kept.{places_in}
 use Rattle.gx_streams.specs.Laws.{TellsOne}
+use Rattle.gx_streams.specs.Streams.{AllStreams}
 use Rattle.gx_streams.specs.Telling.{shown}
 use Rattle.gx_streams.proofs.Telling.{stays_by_one}
 use Rattle.gx_ledger.specs.declared.placed.OpenOrder.{OpenOrder}
@@ -42,7 +43,7 @@ use Rattle.gx_keepers.specs.declared.keepers.Keepers.{Keepers}
 use Rattle.gx_keepers.specs.Keepers.{AreInForceBut, HavePlaces, Takes, with_told}
 use Rattle.gx_keepers.specs.Ledgers.{open_order}
 use Rattle.gx_keepers.specs.Messages.{canceled_message}
-use Rattle.gx_keepers.proofs.Carrying.{by_grant, has_place}
+use Rattle.gx_keepers.proofs.Carrying.{by_grant, has_place, still_sent}
 use Rattle.gx_keepers.proofs.Figuring.{cancel_figured}
 
 -- a granted Cancel names a live order
@@ -109,3 +110,4 @@ cancel_goes_on policy history a r m before k o fewer named message t grants asks
     (ap shown (streams_are
     ∙ ap (λ (x : Message). with_told a.user r.moment (Some x) before.streams) (message_is ∙ ap (λ (n : ℕ). canceled_message o n cancels.UserRequested) fewer_is))
     ∙ stays_by_one policy history (history ++ r ∷ []) r before.streams a.user (cut_message o m.shares) t.in_force.streams (cancel_tells policy history a r m before o t grants asks found))
+    (still_sent policy before.people k.people before.streams.readers k.streams.readers people_are (ap (λ (s : AllStreams). s.readers) streams_are) t.in_force.sent)

@@ -1,5 +1,5 @@
 -- Places that are kept for what a record tells.
-use Rattle.std.proofs.Common.{◌≡◌, ℕ, ◌+◌, ◌<◌, ◌≤◌, get_or, take, arith, true, false, not, Bool, List, [], ◌∷◌, ◌++◌, length, suc, length-append, refl, ◌∙◌, ap, sym, cond, map}
+use Rattle.std.proofs.Common.{◌≡◌, ℕ, ◌+◌, ◌<◌, ◌≤◌, get_or, take, arith, true, false, not, Bool, List, [], ◌∷◌, ◌++◌, length, length-append, refl, ◌∙◌, ap, sym, cond, map, if◌then◌else◌}
 use Rattle.std.proofs.Math.Path.{subst}
 use Rattle.std.proofs.lemmas.List.{append-nil, append_cancel_left, length-map, take_more}
 use Rattle.std.specs.Prelude.{Option, Some, None, is_some, option_and_then, option_map, option_to_list, ◌&&◌, ◌-◌}
@@ -27,26 +27,25 @@ use Rattle.gx_history.specs.declared.record.Step.TheVariants as steps
 use Rattle.gx_history.specs.declared.record.Verdict.{Verdict}
 use Rattle.gx_history.specs.declared.record.Verdict.TheVariants as verdicts
 use Rattle.gx_history.specs.declared.report.Message.{Message}
-use Rattle.gx_history.specs.declared.report.Report.{Report}
 use Rattle.gx_history.specs.Asking.{has_power}
 use Rattle.gx_history.specs.Effects.{CutsOrder, ReplacesOrder, TakesEffect, replacement}
 use Rattle.gx_history.specs.Executions.{live_orders}
 use Rattle.gx_history.specs.Orders.{ends_account, entered}
-use Rattle.gx_history.specs.People.{account_of, account_of_role, is_trader, role_in, user_in}
+use Rattle.gx_history.specs.People.{account_of, account_of_role, is_reader, is_trader, role_in, user_in}
 use Rattle.gx_history.specs.Reasons.{denial_code}
 use Rattle.gx_history.specs.Requests.{action_of, is_judged, is_unreadable}
 use Rattle.gx_history.specs.Streams.{accepted, answer, canceled, day_end, ended, rejected, replaced, reported, reports_of, reports_of_denial, stream, to_user}
 use Rattle.gx_history.specs.Verdicts.{IsLegal, day_limit}
 use Rattle.gx_history_laws.proofs.Judging.{both}
 use Rattle.gx_history_laws.proofs.Granting.{asked_is_judged}
-use Rattle.gx_history_laws.proofs.NextReports.{stream_next}
+use Rattle.gx_history_laws.proofs.NextReports.{legal_before, stream_next}
 use Rattle.gx_history_laws.proofs.Adding.{user_is}
 use Rattle.gx_history_laws.proofs.Numbers.{all_weaker}
 use Rattle.gx_history_laws.proofs.Order.{some_same}
 use Rattle.gx_history_laws.proofs.Pushing.{all_next}
 use Rattle.gx_effects.proofs.Commanding.{answered_alone, grants_the_command}
 use Rattle.gx_effects.proofs.Cutting.{cancel_takes_effect}
-use Rattle.gx_effects.proofs.Effects.{is_told}
+use Rattle.gx_effects.proofs.Effects.{is_told as told_alone}
 use Rattle.gx_effects.proofs.Allowed.{has_the_power}
 use Rattle.gx_effects.proofs.Lines.{login_takes_effect, logout_takes_effect}
 use Rattle.gx_effects.proofs.Replacing.{replace_takes_effect}
@@ -58,23 +57,22 @@ use Rattle.gx_orders.specs.LiveOrders.{OrdersData, is_of_user}
 use Rattle.gx_orders.proofs.Staying.{accounts_are_theirs}
 use Rattle.gx_orders.proofs.Telling.{ends_are_few, ends_are_told}
 use Rattle.gx_positions.proofs.Sound.{live_are_few}
-use Rattle.gx_streams.specs.Kept.{is_known, places_in, with_places}
-use Rattle.gx_streams.specs.Laws.{TellsAll, TellsNobody, TellsOne}
-use Rattle.gx_streams.specs.Streams.{AllStreams, on_told}
-use Rattle.gx_streams.specs.Telling.{owed_message, owed_to, shown, told_after}
-use Rattle.gx_streams.proofs.Finding.{known_are}
-use Rattle.gx_streams.proofs.OnlyKnown.{only_known}
+use Rattle.gx_streams.specs.Kept.{places_in, with_places}
+use Rattle.gx_streams.specs.Laws.{TellsNobody, TellsOne}
+use Rattle.gx_streams.specs.Sending.{KnowsReaders, is_fill}
+use Rattle.gx_streams.specs.Streams.{AllStreams, is_told, on_told}
+use Rattle.gx_streams.proofs.Finding.{told_are}
+use Rattle.gx_streams.proofs.OnlyKnown.{copies_alone, none_sent, only_known, readers_are}
 use Rattle.gx_streams.proofs.Places.{others_keep, places_kept}
 use Rattle.gx_keepers.specs.declared.keepers.Keepers.{Keepers}
 use Rattle.gx_keepers.specs.Keepers.{AreInForce, HasEndPlaces, HaveEndPlaces, HavePlaces, KnowsUsers, Takes, count_of, end_places, ending, ending_command, role_places}
-use Rattle.gx_keepers.specs.Matching.{HavePlacesEach}
 use Rattle.gx_keepers.specs.Messages.{day_end_message}
 use Rattle.gx_keepers.proofs.Carrying.{no_message, unreadable_is_denied}
 use Rattle.gx_keepers.proofs.Commanded.{command_owes}
 use Rattle.gx_keepers.proofs.Figuring.{legal_after, none_ends}
 
 -- places that are kept take none from anybody
-pub more_places : (streams : AllStreams) (user : UserName) (places : ℕ) (other : UserName) → is_known streams.told user ≡ true
+pub more_places : (streams : AllStreams) (user : UserName) (places : ℕ) (other : UserName) → is_told streams user ≡ true
     → places_in streams.told other ≤ places_in (on_told user (with_places places) streams).told other
 more_places streams user places other known = by (same_user user other) refl
   where
@@ -85,13 +83,13 @@ more_places streams user places other known = by (same_user user other) refl
         (omega (arith, places_kept streams user places known))
 
 -- and there are as many as were asked for
-pub as_many_places : (streams : AllStreams) (user : UserName) (places : ℕ) → is_known streams.told user ≡ true
+pub as_many_places : (streams : AllStreams) (user : UserName) (places : ℕ) → is_told streams user ≡ true
     → places ≤ places_in (on_told user (with_places places) streams).told user
 as_many_places streams user places known = omega (arith, places_kept streams user places known)
 
 -- one more has its places, and those before it keep theirs
 pub more_have_places : (action : Action) (live : List LiveOrder) (before after : AllStreams) (users : List User) (i : ℕ) (u : User)
-    → ((other : UserName) → is_known after.told other ≡ is_known before.told other) → ((other : UserName) → places_in before.told other ≤ places_in after.told other)
+    → ((other : UserName) → is_told after other ≡ is_told before other) → ((other : UserName) → places_in before.told other ≤ places_in after.told other)
     → i < length users → u ≡ get_or users i u → AllByRecursion (HasEndPlaces action live before) (take i users) → HasEndPlaces action live after u
     → AllByRecursion (HasEndPlaces action live after) (take (i + 1) users)
 more_have_places action live before after users i u same more within at all one =
@@ -105,7 +103,7 @@ his_role account (roles.Officer powers scope) e = cc
 his_role account (roles.Reader names) e = cc
 
 -- a trader of the account is one of the users, and has his places
-trader_has : (action : Action) (account : AccountName) (live : List LiveOrder) (streams : AllStreams) (user : UserName) → is_known streams.told user ≡ true
+trader_has : (action : Action) (account : AccountName) (live : List LiveOrder) (streams : AllStreams) (user : UserName) → is_told streams user ≡ true
     → (users : List User) → AllByRecursion (HasEndPlaces action live streams) users → option_and_then account_of_role (role_in users user) ≡ Some account
     → end_places action account (count_of live user) ≤ places_in streams.told user
 trader_has action account live streams user known [] has trades = let none : false ≡ true = ap is_some trades in cc
@@ -119,18 +117,20 @@ trader_has action account live streams user known (u ∷ us) has trades = at (sa
         let role : account_of_role u.role ≡ Some account = sym (ap (λ b. option_and_then account_of_role (option_map (λ (x : User). x.role) (cond b (Some u) (user_in us user)))) is) ∙ trades in
         subst (λ (x : UserName). end_places action account (count_of live x) ≤ places_in streams.told x) named
         (subst (λ (x : Role). role_places action x (count_of live u.name) ≤ places_in streams.told u.name) (his_role account u.role role)
-        (has.0 (ap (λ (x : UserName). is_known streams.told x) named ∙ known)))
+        (has.0 (ap (λ (x : UserName). is_told streams x) named ∙ known)))
     at false is rest = rest (sym (ap (λ b. option_and_then account_of_role (option_map (λ (x : User). x.role) (cond b (Some u) (user_in us user)))) is) ∙ trades)
 
-user_there : (account : AccountName) (found : Option User) → option_and_then account_of_role (option_map (λ (u : User). u.role) found) ≡ Some account → is_some found ≡ true
-user_there account None e = let none : false ≡ true = ap is_some e in none
-user_there account (Some u) e = refl
+-- a trader is told report by report
+pub trader_told : (account : AccountName) (found : Option User) → option_and_then account_of_role (option_map (λ (u : User). u.role) found) ≡ Some account
+    → (is_some found && not (is_reader (option_map (λ (u : User). u.role) found))) ≡ true
+trader_told account None e = let none : false ≡ true = ap is_some e in none
+trader_told account (Some u) e = ap (λ (role : Role). not (is_reader (Some role))) (his_role account u.role e)
 
 -- each trader is one of these
 pub all_have_places : (policy : PolicyData) (action : Action) (live : List LiveOrder) (streams : AllStreams) → KnowsUsers policy streams
     → AllByRecursion (HasEndPlaces action live streams) policy.users → HaveEndPlaces policy action live streams
 all_have_places policy action live streams knows has user account trades =
-    trader_has action account live streams user (knows user ∙ user_there account (user_in policy.users user) trades) policy.users has trades
+    trader_has action account live streams user (knows user ∙ trader_told account (user_in policy.users user) trades) policy.users has trades
 
 -- of orders that pass a test there is one at least, which has what all have
 one_passes : {X : Type 0} (test : X → Bool) (P : X → Type 0) (xs : List X) → AllByRecursion P xs → (y : X) (ys : List X) → filter test xs ≡ y ∷ ys → (test y ≡ true) × P y
@@ -229,6 +229,12 @@ officer_has_none (Some (roles.Trader account)) action h = cc
 officer_has_none (Some (roles.Officer powers scope)) action h = refl
 officer_has_none (Some (roles.Reader names)) action h = cc
 
+officer_reads_not : (role : Option Role) (action : Action) → has_power role action ≡ true → is_reader role ≡ false
+officer_reads_not None action h = cc
+officer_reads_not (Some (roles.Trader account)) action h = cc
+officer_reads_not (Some (roles.Officer powers scope)) action h = refl
+officer_reads_not (Some (roles.Reader names)) action h = cc
+
 -- nothing is owed to who is not known
 stranger_fits : (policy : PolicyData) (history : List RecordData) (r : RecordData) (user : UserName) (places : ℕ)
     → IsLegal policy (history ++ r ∷ []) → user_in policy.users user ≡ None → length (reports_of policy user (history, r)) ≤ places
@@ -236,64 +242,59 @@ stranger_fits policy history r user places legal none =
     let nothing : stream policy history user ++ reports_of policy user (history, r) ≡ [] = sym (stream_next policy history r user) ∙ only_known policy (history ++ r ∷ []) user legal none in
     omega (arith, ap length nothing, length-append (stream policy history user) (reports_of policy user (history, r)))
 
--- a record that tells one user one thing at most, where he has a place if he is known
+-- nor to a reader, but by a fill
+reader_fits : (policy : PolicyData) (history : List RecordData) (r : RecordData) (user : UserName) (places : ℕ)
+    → IsLegal policy (history ++ r ∷ []) → is_fill r.verdict ≡ false → is_reader (role_in policy.users user) ≡ true → length (reports_of policy user (history, r)) ≤ places
+reader_fits policy history r user places legal no_fill reads =
+    let nothing : reports_of policy user (history, r) ≡ [] = copies_alone policy history r user (readers_are policy user reads) (legal_before policy history r legal).1 ∙ none_sent policy history r user no_fill in
+    omega (arith, ap length nothing)
+
+masked_if : (b : Bool) (mask : ℕ) → is_some (if b then Some mask else None) ≡ b
+masked_if true mask = refl
+masked_if false mask = refl
+
+-- the readers are the policy's
+pub readers_known : (policy : PolicyData) (history : List RecordData) (k : Keepers) → AreInForce policy history k → KnowsReaders policy k.streams
+readers_known policy history k kept user = ap is_some (kept.sent user) ∙ masked_if (is_reader (role_in policy.users user)) _
+
+-- who is known and no reader is told report by report
+pub known_told : (policy : PolicyData) (history : List RecordData) (k : Keepers) → AreInForce policy history k → KnowsUsers policy k.streams
+known_told policy history k kept = told_are policy history k.streams kept.streams (readers_known policy history k kept)
+
+-- a record that tells one user one thing at most, where he has a place if he is told report by report
 pub one_fits : (policy : PolicyData) (history : List RecordData) (r : RecordData) (k : Keepers) (streams : AllStreams) (receiver : UserName) (told : List Message)
-    → AreInForce policy history k → IsLegal policy (history ++ r ∷ []) → TellsOne policy history (history ++ r ∷ []) r receiver told → length told ≤ 1
-    → (is_known k.streams.told receiver ≡ true → 1 ≤ places_in streams.told receiver) → HavePlaces policy history r streams
-one_fits policy history r k streams receiver told kept legal tells few place user = by (same_user receiver user) refl
+    → AreInForce policy history k → IsLegal policy (history ++ r ∷ []) → is_fill r.verdict ≡ false → TellsOne policy history (history ++ r ∷ []) r receiver told → length told ≤ 1
+    → (is_told k.streams receiver ≡ true → 1 ≤ places_in streams.told receiver) → HavePlaces policy history r streams
+one_fits policy history r k streams receiver told kept legal no_fill tells few place user = by (same_user receiver user) refl
   where
     owed : reports_of policy user (history, r) ≡ map (reported r) (to_user receiver user told)
     owed = append_cancel_left (stream policy history user) _ _ (sym (stream_next policy history r user) ∙ tells user)
 
+    fewer : (b : Bool) → length (reports_of policy user (history, r)) ≡ length (map (reported r) (cond b told [])) → length (reports_of policy user (history, r)) ≤ 1
+    fewer true e = omega (arith, e, few, length-map told (reported r))
+    fewer false e = omega (arith, e)
+
+    by_role : receiver ≡ user → is_some (user_in policy.users user) ≡ true → (b : Bool) → is_reader (role_in policy.users user) ≡ b → length (reports_of policy user (history, r)) ≤ places_in streams.told user
+    by_role same there true reads = reader_fits policy history r user _ legal no_fill reads
+    by_role same there false reads_not =
+        let is : is_told k.streams receiver ≡ true =
+        ap (λ (x : UserName). is_told k.streams x) same ∙ known_told policy history k kept user
+        ∙ ap (λ b. b && not (is_reader (role_in policy.users user))) there ∙ ap not reads_not in
+        let his : length (reports_of policy user (history, r)) ≤ 1 = fewer (same_user receiver user) (ap length owed) in
+        subst (λ (x : UserName). length (reports_of policy user (history, r)) ≤ places_in streams.told x) same (omega (arith, his, place is))
+
     at_receiver : receiver ≡ user → (found : Option User) → user_in policy.users user ≡ found → length (reports_of policy user (history, r)) ≤ places_in streams.told user
     at_receiver same None is = stranger_fits policy history r user _ legal is
-    at_receiver same (Some u) is =
-        let known : is_known k.streams.told receiver ≡ true = known_are policy history k.streams kept.streams receiver ∙ ap (λ (x : UserName). is_some (user_in policy.users x)) same ∙ ap is_some is in
-        let his : length (reports_of policy user (history, r)) ≤ 1 = fewer (same_user receiver user) (ap length owed) in
-        subst (λ (x : UserName). length (reports_of policy user (history, r)) ≤ places_in streams.told x) same (omega (arith, his, place known))
-      where
-        fewer : (b : Bool) → length (reports_of policy user (history, r)) ≡ length (map (reported r) (cond b told [])) → length (reports_of policy user (history, r)) ≤ 1
-        fewer true e = omega (arith, e, few, length-map told (reported r))
-        fewer false e = omega (arith, e)
+    at_receiver same (Some u) is = by_role same (ap is_some is) (is_reader (role_in policy.users user)) refl
 
     by : (b : Bool) → same_user receiver user ≡ b → length (reports_of policy user (history, r)) ≤ places_in streams.told user
     by true is = at_receiver (user_is receiver user is) (user_in policy.users user) refl
     by false is = omega (arith, ap length (owed ∙ ap (λ b. map (reported r) (cond b told [])) is))
 
--- as many reports for a user as he is named
-owed_count : (r : RecordData) (told : List (UserName × Message)) (user : UserName)
-    → length (owed_to (map (owed_message r) told) user) ≡ length (filter (λ (named : UserName). same_user named user) (map (λ (o : UserName × Message). o.0) told))
-owed_count r [] user = refl
-owed_count r (o ∷ os) user = at (same_user o.0 user) (owed_count r os user)
-  where
-    owed : List (UserName × Report)
-    owed = filter (λ (x : UserName × Report). same_user x.0 user) (map (owed_message r) os)
-
-    named : List UserName
-    named = filter (λ (x : UserName). same_user x user) (map (λ (x : UserName × Message). x.0) os)
-
-    at : (b : Bool) → length (map (λ (x : UserName × Report). x.1) owed) ≡ length named
-        → length (map (λ (x : UserName × Report). x.1) (cond b (owed_message r o ∷ owed) owed)) ≡ length (cond b (o.0 ∷ named) named)
-    at true same = ap (λ (n : ℕ). suc n) same
-    at false same = same
-
--- a record that tells many, where each who is known has a place for each time that he is told
-pub all_fit : (policy : PolicyData) (history : List RecordData) (r : RecordData) (streams : AllStreams) (told : List (UserName × Message))
-    → shown streams ≡ told_after policy history → IsLegal policy (history ++ r ∷ []) → TellsAll policy history (history ++ r ∷ []) r told
-    → HavePlacesEach (map (λ (o : UserName × Message). o.0) told) streams → HavePlaces policy history r streams
-all_fit policy history r streams told shows legal tells places user = by (user_in policy.users user) refl
-  where
-    by : (found : Option User) → user_in policy.users user ≡ found → length (reports_of policy user (history, r)) ≤ places_in streams.told user
-    by None is = stranger_fits policy history r user _ legal is
-    by (Some u) is =
-        let owed : reports_of policy user (history, r) ≡ owed_to (map (owed_message r) told) user =
-        append_cancel_left (stream policy history user) _ _ (sym (stream_next policy history r user) ∙ tells user) in
-        omega (arith, places user (known_are policy history streams shows user ∙ ap is_some is), ap length owed, owed_count r told user)
-
 -- a granted command owes nobody more than he has places for
 pub command_fits : (policy : PolicyData) (history : List RecordData) (a : Asked) (r : RecordData) (c : Command) (k : Keepers) (streams : AllStreams)
     → Takes policy history a r k → r.verdict ≡ verdicts.Granted → a.request ≡ requests.Command c → HaveEndPlaces policy c.action k.orders.live streams
-    → (is_known k.streams.told a.user ≡ true → 1 ≤ places_in streams.told a.user) → HavePlaces policy history r streams
+    → (is_told k.streams a.user ≡ true → 1 ≤ places_in streams.told a.user) → HavePlaces policy history r streams
 command_fits policy history a r c k streams t granted asks has place user = by (user_in policy.users user) refl
   where
     done : List Message
@@ -309,6 +310,11 @@ command_fits policy history a r c k streams t granted asks has place user = by (
     officer : account_of policy a.user ≡ None
     officer =
         officer_has_none (role_in policy.users a.user) c.action
+        (has_the_power policy history a r c.action (grants_the_command policy history a r c c.action t.left asks refl granted) t.left)
+
+    reads_not : is_reader (role_in policy.users a.user) ≡ false
+    reads_not =
+        officer_reads_not (role_in policy.users a.user) c.action
         (has_the_power policy history a r c.action (grants_the_command policy history a r c c.action t.left asks refl granted) t.left)
 
     trader : (account : AccountName) → account_of policy user ≡ Some account → length (reports_of policy user (history, r)) ≤ places_in streams.told user
@@ -330,8 +336,10 @@ command_fits policy history a r c k streams t granted asks has place user = by (
         at : (b : Bool) → same_user a.user user ≡ b → length (reports_of policy user (history, r)) ≤ places_in streams.told user
         at true is =
             let same : a.user ≡ user = user_is a.user user is in
-            let known : is_known k.streams.told a.user ≡ true =
-            known_are policy history k.streams t.in_force.streams a.user ∙ ap (λ (x : UserName). is_some (user_in policy.users x)) same ∙ there in
+            let known : is_told k.streams a.user ≡ true =
+            known_told policy history k t.in_force a.user ∙ ap (λ (x : UserName). is_some (user_in policy.users x) && not (is_reader (role_in policy.users x))) same
+            ∙ ap (λ b. b && not (is_reader (role_in policy.users user))) there
+            ∙ ap (λ (x : UserName). not (is_reader (role_in policy.users x))) (sym same) ∙ ap not reads_not in
             let one = subst (λ (x : UserName). 1 ≤ places_in streams.told x) same (place known) in
             omega (arith, owed, ended_none, no_day_end policy user c.action none, one, ap (λ (b : Bool). length (cond b (answer r c codes.Done) [])) is)
         at false is = omega (arith, owed, ended_none, no_day_end policy user c.action none, ap (λ (b : Bool). length (cond b (answer r c codes.Done) [])) is)
@@ -384,7 +392,7 @@ denial_few : (policy : PolicyData) (history : List RecordData) (a : Asked) (r : 
     → Takes policy history a r k → r.verdict ≡ verdicts.Denied rule → TellsFew policy history a r
 denial_few policy history a r rule k t denied = record {
   told = reports_of_denial policy r rule a.request;
-  tells = (is_told policy history a r rule t.left denied).told;
+  tells = (told_alone policy history a r rule t.left denied).told;
   few = denied_few policy r rule a.request;
 }
 
@@ -477,3 +485,14 @@ few_live policy history a r k t =
     let same : length k.orders.live ≡ length (live_orders policy history) =
     ap (λ (d : OrdersData). length d.live) t.in_force.orders ∙ length-map (live_orders policy history) (kept policy history) in
     omega (arith, same, live_are_few policy history t.legal)
+
+-- what is judged is no fill
+pub judged_no_fill : (v : Verdict) → is_judged v ≡ true → is_fill v ≡ false
+judged_no_fill verdicts.Granted h = refl
+judged_no_fill (verdicts.Denied rule) h = refl
+judged_no_fill (verdicts.Filled f) h = cc
+judged_no_fill (verdicts.Rested number) h = refl
+judged_no_fill (verdicts.Expired number) h = refl
+
+pub asked_no_fill : (policy : PolicyData) (history : List RecordData) (a : Asked) (r : RecordData) (k : Keepers) → Takes policy history a r k → is_fill r.verdict ≡ false
+asked_no_fill policy history a r k t = judged_no_fill r.verdict (asked_is_judged policy history a r t.left)

@@ -6,3 +6,4 @@ pub mod Figuring
 pub mod Keepings
 pub mod Matches
 pub mod Replacing
+pub mod Sending

@@ -1,14 +1,22 @@
 -- What a matching step makes of the keepers.
-use Rattle.std.proofs.Common.{◌≡◌, ℕ, ◌-◌, ◌<◌, ◌≤◌, arith, Bool, true, false, not, List, [], ◌∷◌, ◌++◌, refl, ◌∙◌, ap, sym, map}
+use Rattle.std.proofs.Common.{◌≡◌, ℕ, ◌-◌, ◌<◌, ◌≤◌, arith, Bool, true, false, not, zero, suc, ◌+◌, cond, get_or, if◌then◌else◌, List, [], ◌∷◌, ◌++◌, refl, ◌∙◌, ap, sym, map}
 use Rattle.std.proofs.Math.Path.{subst}
-use Rattle.std.proofs.lemmas.List.{append-nil, append_cancel_left}
-use Rattle.std.specs.Prelude.{Option, Some, IsSomeAnd, is_some, length, option_map}
-use Rattle.std.specs.List.{AllByRecursion, flat_map}
-use Rattle.gx_units.specs.declared.names.UserName.{UserName}
+use Rattle.std.proofs.lemmas.List.{append_cancel_left}
+use Rattle.std.specs.Prelude.{Option, Some, None, IsSomeAnd, is_some, length, find, position, unwrap_or, option_and_then, option_map}
+use Rattle.std.specs.List.{AllByRecursion, position_from, slice_get}
+use Rattle.std.proofs.lemmas.List.Quantifiers.{position-Some}
+use Rattle.std.proofs.lemmas.Iterator.Adapters.{position_from-zero}
+use Rattle.gx_units.specs.Names.{same_account}
+use Rattle.gx_units.specs.declared.names.AccountName.{AccountName}
 use Rattle.gx_ouch.specs.declared.letters.CancelReason.TheVariants as cancels
+use Rattle.gx_ouch.specs.declared.letters.Liquidity.{Liquidity}
 use Rattle.gx_ouch.specs.declared.letters.Liquidity.TheVariants as liquidities
 use Rattle.gx_ouch.specs.declared.outbound.Outbound.TheVariants as outbounds
+use Rattle.gx_history.specs.declared.policy.Account.{Account}
 use Rattle.gx_history.specs.declared.policy.PolicyData.{PolicyData}
+use Rattle.gx_history.specs.declared.policy.Role.{Role}
+use Rattle.gx_history.specs.declared.policy.Role.TheVariants as roles
+use Rattle.gx_history.specs.declared.policy.User.{User}
 use Rattle.gx_history.specs.declared.record.Fill.{Fill}
 use Rattle.gx_history.specs.declared.record.RecordData.{RecordData}
 use Rattle.gx_history.specs.declared.record.Step.TheVariants as steps
@@ -16,16 +24,22 @@ use Rattle.gx_history.specs.declared.record.Verdict.{Verdict}
 use Rattle.gx_history.specs.declared.record.Verdict.TheVariants as verdicts
 use Rattle.gx_history.specs.declared.report.Message.{Message}
 use Rattle.gx_history.specs.declared.report.Message.TheVariants as messages
-use Rattle.gx_history.specs.declared.report.Report.{Report}
 use Rattle.gx_history.specs.Book.{is_buy, is_buy_order}
-use Rattle.gx_history.specs.Executions.{Execution, live_orders, sides, standing_numbered}
+use Rattle.gx_history.specs.Executions.{Execution, Standing, executions, live_orders, sides, standing_numbered}
+use Rattle.gx_history.specs.InForce.{is_entitled}
 use Rattle.gx_history.specs.Matched.{ExpiresOrder, FillsOrders, maker_side, taker_side}
+use Rattle.gx_history.specs.People.{account_of, account_of_role, is_reader, role_in, user_in}
 use Rattle.gx_history.specs.Requests.{is_judged}
-use Rattle.gx_history.specs.Streams.{drop_copy, reported, reports_of_execution, stream, to_user}
+use Rattle.gx_history.specs.Soundness.{is_sound}
+use Rattle.gx_history.specs.Streams.{reported, stream, to_user}
 use Rattle.gx_history.specs.Verdicts.{IsLegal}
-use Rattle.gx_history_laws.proofs.NextReports.{stream_next}
+use Rattle.gx_history_laws.proofs.Masks.{same_mask}
+use Rattle.gx_history_laws.proofs.Names.{account_is, accounts_few}
+use Rattle.gx_history_laws.proofs.NextOrders.{executions_next}
 use Rattle.gx_history_laws.proofs.Order.{some_same}
+use Rattle.gx_history_laws.proofs.Owners.{IsHisAccounts}
 use Rattle.gx_history_laws.proofs.Runs.{step_left}
+use Rattle.gx_effects.proofs.Accounts.{accounts_are_known}
 use Rattle.gx_effects.proofs.Expiries.{end_takes_effect}
 use Rattle.gx_effects.proofs.FairFills.{live_found}
 use Rattle.gx_effects.proofs.Fills.{fill_takes_effect, same_fill}
@@ -51,24 +65,30 @@ use Rattle.gx_market.specs.Meeting.{resting_of}
 use Rattle.gx_market.proofs.Crossing.{waiting_open}
 use Rattle.gx_market.proofs.Matches.{expiries_keep, fills_take_from_best, first_can_rest, first_is_kept, rests_are_put}
 use Rattle.gx_market.proofs.Matches as booked
-use Rattle.gx_streams.specs.Kept.{is_known, places_in}
-use Rattle.gx_streams.specs.Laws.{TellsAll, TellsOne}
-use Rattle.gx_streams.specs.Streams.{AllStreams}
-use Rattle.gx_streams.specs.Telling.{owed_message, shown, told_after}
-use Rattle.gx_streams.proofs.Owing.{two_among_all}
-use Rattle.gx_streams.proofs.Places.{each_has_a_place}
-use Rattle.gx_streams.proofs.Telling.{stays_by_all, stays_by_none, stays_by_one}
+use Rattle.gx_streams.specs.declared.fill.FillSide.{FillSide}
+use Rattle.gx_streams.specs.declared.fill.Party.{Party}
+use Rattle.gx_streams.specs.declared.fill.Party.TheVariants as parties
+use Rattle.gx_streams.specs.declared.fill.ToldFill.{ToldFill}
+use Rattle.gx_streams.specs.Fills.{liquidity_of, side_of}
+use Rattle.gx_streams.specs.Kept.{places_in}
+use Rattle.gx_streams.specs.Laws.{TellsOne}
+use Rattle.gx_streams.specs.Sending.{AreSent, IsMadeBy, IsSide, is_fill}
+use Rattle.gx_streams.specs.Streams.{AllStreams, is_told, with_fill}
+use Rattle.gx_streams.specs.Telling.{shown, told_after}
+use Rattle.gx_streams.proofs.Sending.{sides_are_his, stays_by_fill}
+use Rattle.gx_streams.proofs.Telling.{stays_by_none, stays_by_one}
+use Rattle.gx_people.specs.Entitled.{sees}
+use Rattle.gx_people.proofs.Entitling as entitling
 use Rattle.gx_ledger.specs.declared.placed.OpenOrder.{OpenOrder}
 use Rattle.gx_ledger.specs.StandsFor.{Closes, Fills}
 use Rattle.gx_keepers.specs.declared.keepers.Keepers.{Keepers}
-use Rattle.gx_keepers.specs.Ends.{HaveOwedPlaces}
-use Rattle.gx_keepers.specs.Keepers.{AreInForceBut, HavePlaces, with_told}
+use Rattle.gx_keepers.specs.Keepers.{AreInForce, AreInForceBut, HavePlaces, with_told}
 use Rattle.gx_keepers.specs.Ledgers.{StandsForDay, open_order}
-use Rattle.gx_keepers.specs.Matching.{HavePlacesEach, TakesMatch}
-use Rattle.gx_keepers.specs.Messages.{canceled_message, executed_message}
+use Rattle.gx_keepers.specs.Matching.{TakesMatch, place_of, told_side}
+use Rattle.gx_keepers.specs.Messages.{canceled_message}
 use Rattle.gx_keepers.proofs.Carrying.{by_no_grant, has_place}
 use Rattle.gx_keepers.proofs.Figuring.{end_figured, fill_figured, legal_after, rest_figured, waits_first}
-use Rattle.gx_keepers.proofs.Keepings.{all_fit, one_fits}
+use Rattle.gx_keepers.proofs.Keepings.{known_told, one_fits, trader_told}
 
 pub match_is_legal : (policy : PolicyData) (history : List RecordData) (first : LiveOrder) (r : RecordData) (k : Keepers)
     → TakesMatch policy history first r k → IsLegal policy (history ++ r ∷ [])
@@ -77,11 +97,11 @@ match_is_legal policy history first r k t = legal_after policy history (steps.Ma
 -- a matching step: people, rules, lines and kills as they were
 by_match : (policy : PolicyData) (history : List RecordData) (first : LiveOrder) (r : RecordData) (before k : Keepers) → TakesMatch policy history first r before
     → k.people ≡ before.people → k.rules ≡ before.rules → k.day ≡ before.day
-    → k.orders ≡ orders_in_force policy (history ++ r ∷ []) → k.book ≡ book_in_force policy (history ++ r ∷ []) → StandsForDay policy k.ledger (history ++ r ∷ []) → shown k.streams ≡ told_after policy (history ++ r ∷ [])
+    → k.orders ≡ orders_in_force policy (history ++ r ∷ []) → k.book ≡ book_in_force policy (history ++ r ∷ []) → StandsForDay policy k.ledger (history ++ r ∷ []) → shown k.streams ≡ told_after policy (history ++ r ∷ []) → k.streams.readers ≡ before.streams.readers
     → AreInForceBut policy history r k
-by_match policy history first r before k t people_are rules_are day_is orders_are book_is figured streams_are =
+by_match policy history first r before k t people_are rules_are day_is orders_are book_is figured streams_are readers_are =
     by_no_grant policy history r before k t.in_force (match_grants_nothing r t.handed (step_left policy history (steps.Matching t.handed) r t.left))
-    people_are rules_are day_is orders_are book_is figured streams_are
+    people_are rules_are day_is orders_are book_is figured streams_are readers_are
 
 -- a matching step fills, puts to rest or ends
 pub no_other_outcome : (policy : PolicyData) (history : List RecordData) (first : LiveOrder) (r : RecordData) (k : Keepers) → TakesMatch policy history first r k
@@ -94,13 +114,6 @@ no_other_outcome policy history first r k t no_fill no_rest no_end = by r.verdic
     by (verdicts.Filled f) is = no_fill f is
     by (verdicts.Rested number) is = no_rest number is
     by (verdicts.Expired number) is = no_end number is
-
--- what is owed to each user he has places for
-owed_places : (policy : PolicyData) (history : List RecordData) (r : RecordData) (streams : AllStreams) (told : List (UserName × Message))
-    → TellsAll policy history (history ++ r ∷ []) r told → HavePlaces policy history r streams → HaveOwedPlaces (map (owed_message r) told) streams
-owed_places policy history r streams told tells places user =
-    subst (λ (reports : List Report). length reports ≤ places_in streams.told user)
-    (append_cancel_left (stream policy history user) _ _ (sym (stream_next policy history r user) ∙ tells user)) (places user)
 
 -- ---- a fill
 
@@ -125,42 +138,89 @@ best_has_shares policy history first r k f against t fills is =
     (sym (ap (λ (b : List StockOrders). best_in b first.terms.stock against) t.in_force.book ∙ ap (best_in (book_in_force policy history) first.terms.stock) is ∙ can.is_best))
     can.maker_has_them
 
--- what is told of it
-abbrev pub told_by_fill : RecordData → Fill → LiveOrder → LiveOrder → List (UserName × Message)
-told_by_fill r f taker maker = (taker.user, executed_message r f taker liquidities.Removed) ∷ (maker.user, executed_message r f maker liquidities.Added) ∷ []
+-- the account of an order of its user stands in the file
+slice_there : (accounts : List Account) (i : ℕ) (d : Account) → i < length accounts → slice_get accounts i ≡ Some (get_or accounts i d)
+slice_there [] i d h = absurd (omega (arith, h))
+slice_there (a ∷ others) zero d h = refl
+slice_there (a ∷ others) (suc i) d h = slice_there others i d (omega (arith, h))
 
--- no drop copies are sent yet
-none_copied : (policy : PolicyData) (history : List RecordData) (r : RecordData) (reader : UserName) (made : List Execution) → flat_map (drop_copy policy history r reader) made ≡ []
-none_copied policy history r reader [] = refl
-none_copied policy history r reader (e ∷ es) = none_copied policy history r reader es
+found_from : (test : Account → Bool) (n : ℕ) (accounts : List Account) → is_some (position_from test n accounts) ≡ is_some (find test accounts)
+found_from test n [] = refl
+found_from test n (a ∷ others) =
+    elim (test a) as (λ b. is_some (cond b (Some n) (position_from test (n + 1) others)) ≡ is_some (cond b (Some a) (find test others)))
+    [ true ↦ refl | false ↦ found_from test (n + 1) others ]
 
-pub fill_tells : (policy : PolicyData) (history : List RecordData) (first : LiveOrder) (r : RecordData) (k : Keepers) (f : Fill) (maker : LiveOrder)
+pub place_is : (accounts : List Account) (name : AccountName) → is_some (find (λ (a : Account). same_account a.name name) accounts) ≡ true
+    → option_map (λ (a : Account). a.name) (slice_get accounts (place_of accounts name)) ≡ Some name
+place_is accounts name there = by (position test accounts) refl (ap is_some (position_from-zero test accounts) ∙ found_from test 0 accounts ∙ there)
+  where
+    test : Account → Bool
+    test a = same_account a.name name
+
+    no_account : Account
+    no_account = record { name = name; firm = record { bytes = [] } }
+
+    at : Option ℕ → Option AccountName
+    at o = option_map (λ (a : Account). a.name) (slice_get accounts (unwrap_or o (length accounts)))
+
+    by : (o : Option ℕ) → position test accounts ≡ o → is_some (position test accounts) ≡ true → at (position test accounts) ≡ Some name
+    by None is h = let no : false ≡ true = sym (ap is_some is) ∙ h in cc
+    by (Some i) is h =
+        let p = position-Some test accounts i no_account is in
+        ap at is ∙ ap (option_map (λ (a : Account). a.name)) (slice_there accounts i no_account p.0) ∙ ap (λ (n : AccountName). Some n) (account_is (get_or accounts i no_account).name name p.1)
+
+-- an order's side, as it is told, is this side of the fill that the record makes
+side_told : (policy : PolicyData) (history : List RecordData) (r : RecordData) (f : Fill) (s : Standing) (o : LiveOrder) (liquidity : Liquidity) (party : Party) (made : ToldFill)
+    → is_sound policy ≡ true → o ≡ kept policy history s → account_of policy s.order.user ≡ Some s.order.account
+    → side_of made party ≡ told_side policy o → made.match_number ≡ r.number → made.shares ≡ f.shares → made.price ≡ f.price → liquidity_of party ≡ liquidity
+    → IsSide policy r (record { fill = f; liquidity = liquidity; order = s.order }) made party
+side_told policy history r f s o liquidity party made sound is his side_is number_is shares_are price_is liquid =
+    let all : side_of made party ≡ told_side policy (kept policy history s) = side_is ∙ ap (told_side policy) is in
+    record {
+      user = ap (λ (x : FillSide). x.user) all;
+      account = ap (λ (x : FillSide). x.account) all;
+      side = ap (λ (x : FillSide). x.side) all;
+      executed = λ i. record { token = (all i).token; shares = shares_are i; price = price_is i; liquidity = liquid i; match_number = number_is i };
+      place = ap (λ (x : FillSide). option_map (λ (a : Account). a.name) (slice_get policy.accounts x.account_place)) all
+          ∙ place_is policy.accounts s.order.account (accounts_are_known policy s.order.user s.order.account sound his);
+      reads_not = reads_not (role_in policy.users s.order.user) his;
+    }
+  where
+    reads_not : (role : Option Role) → option_and_then account_of_role role ≡ Some s.order.account → is_reader role ≡ false
+    reads_not None e = cc
+    reads_not (Some (roles.Trader account)) e = refl
+    reads_not (Some (roles.Officer powers scope)) e = cc
+    reads_not (Some (roles.Reader names)) e = cc
+
+-- both orders of a fill, as they are kept, and whose they are
+pub record FillOrders (policy : PolicyData) (history : List RecordData) (r : RecordData) (f : Fill) (first maker : LiveOrder) : Type 0 where
+  pub taking : Standing
+  pub resting : Standing
+  pub taker_is : first ≡ kept policy history taking
+  pub maker_is : maker ≡ kept policy history resting
+  pub sides_are : sides policy history r.verdict ≡ taker_side f taking.order ∷ maker_side f resting.order ∷ []
+  pub taker_his : account_of policy taking.order.user ≡ Some taking.order.account
+  pub maker_his : account_of policy resting.order.user ≡ Some resting.order.account
+
+pub fill_orders : (policy : PolicyData) (history : List RecordData) (first : LiveOrder) (r : RecordData) (k : Keepers) (f : Fill) (maker : LiveOrder)
     → TakesMatch policy history first r k → r.verdict ≡ verdicts.Filled f → order_numbered k.orders.live f.maker ≡ Some maker
-    → TellsAll policy history (history ++ r ∷ []) r (told_by_fill r f first maker)
-fill_tells policy history first r k f maker t fills found =
-    tells (fill_takes_effect policy history t.handed r f orderly t.left fills)
+    → FillOrders policy history r f first maker
+fill_orders policy history first r k f maker t fills found = of (fill_takes_effect policy history t.handed r f orderly t.left fills)
   where
     orderly : IsOrderly policy history
     orderly = legal_is_orderly policy history t.legal
 
-    tells : FillsOrders policy history (history ++ r ∷ []) r f → TellsAll policy history (history ++ r ∷ []) r (told_by_fill r f first maker)
-    tells is =
-        two_among_all policy history (history ++ r ∷ []) r first.user maker.user (executed_message r f first liquidities.Removed) (executed_message r f maker liquidities.Added)
-        (λ (user : UserName).
-        is.told user
-        ∙ ap (λ (copied : List Message). stream policy history user ++ map (reported r) (own user) ++ map (reported r) copied) (none_copied policy history r user (sides policy history r.verdict))
-        ∙ append-nil (stream policy history user ++ map (reported r) (own user))
-        ∙ ap (λ (x : LiveOrder). stream policy history user
-        ++ map (reported r) (to_user x.user user (executed_message r f x liquidities.Removed ∷ []) ++ reports_of_execution r user (maker_side f is.maker.order))) (sym taker_is)
-        ∙ ap (λ (x : LiveOrder). stream policy history user
-        ++ map (reported r) (to_user first.user user (executed_message r f first liquidities.Removed ∷ []) ++ to_user x.user user (executed_message r f x liquidities.Added ∷ []))) (sym maker_is))
+    of : FillsOrders policy history (history ++ r ∷ []) r f → FillOrders policy history r f first maker
+    of is = record {
+      taking = is.taker;
+      resting = is.maker;
+      taker_is = first_is_kept policy history is.taker is.waiting first is.comes_first (waits_first policy history first r k t);
+      maker_is = maker_is;
+      sides_are = sides_are;
+      taker_his = his.0;
+      maker_his = (his.1).0;
+    }
       where
-        own : UserName → List Message
-        own user = reports_of_execution r user (taker_side f is.taker.order) ++ reports_of_execution r user (maker_side f is.maker.order)
-
-        taker_is : first ≡ kept policy history is.taker
-        taker_is = first_is_kept policy history is.taker is.waiting first is.comes_first (waits_first policy history first r k t)
-
         stock_side : AllByRecursion (RestsThere policy history is.taker.order.terms.stock (not (is_buy_order is.taker.order))) (is.maker ∷ is.behind)
         stock_side =
             subst (AllByRecursion (RestsThere policy history is.taker.order.terms.stock (not (is_buy_order is.taker.order)))) is.is_best
@@ -177,36 +237,50 @@ fill_tells policy history first r k f maker t fills found =
             ∙ ap (λ (n : ℕ). option_map (kept policy history) (standing_numbered (live_orders policy history) n)) of_maker
             ∙ ap (option_map (kept policy history)) (live_found policy history is.maker stock_side.0.known stock_side.0.there.lives))
 
--- whoever is told first has a place
-pub taker_has_place : (policy : PolicyData) (history : List RecordData) (first : LiveOrder) (r : RecordData) (k : Keepers) (f : Fill) (maker : LiveOrder)
-    → TakesMatch policy history first r k → HavePlaces policy history r k.streams → r.verdict ≡ verdicts.Filled f → order_numbered k.orders.live f.maker ≡ Some maker
-    → 0 < places_in k.streams.told first.user
-taker_has_place policy history first r k f maker t places fills found =
-    let told : List (UserName × Message) = told_by_fill r f first maker in
-    each_has_a_place k.streams [] (first.user, reported r (executed_message r f first liquidities.Removed)) ((maker.user, reported r (executed_message r f maker liquidities.Added)) ∷ [])
-    (owed_places policy history r k.streams told (fill_tells policy history first r k f maker t fills found) places first.user)
+        sides_are : sides policy history r.verdict ≡ taker_side f is.taker.order ∷ maker_side f is.maker.order ∷ []
+        sides_are = append_cancel_left (executions policy history) _ _ (sym (executions_next policy history r) ∙ is.executions_more)
 
--- and then the other
-pub maker_has_place : (policy : PolicyData) (history : List RecordData) (first : LiveOrder) (r : RecordData) (k : Keepers) (f : Fill) (maker : LiveOrder) (to_taker : Message) (streams : AllStreams)
-    → TakesMatch policy history first r k → HavePlaces policy history r k.streams → r.verdict ≡ verdicts.Filled f → order_numbered k.orders.live f.maker ≡ Some maker
-    → to_taker ≡ executed_message r f first liquidities.Removed → streams ≡ with_told first.user r.moment (Some to_taker) k.streams
-    → 0 < places_in streams.told maker.user
-maker_has_place policy history first r k f maker to_taker streams t places fills found message_is streams_are =
-    let told : List (UserName × Message) = told_by_fill r f first maker in
-    subst (λ (s : AllStreams). 0 < places_in s.told maker.user) (sym (streams_are ∙ ap (λ (m : Message). with_told first.user r.moment (Some m) k.streams) message_is))
-    (each_has_a_place k.streams ((first.user, reported r (executed_message r f first liquidities.Removed)) ∷ []) (maker.user, reported r (executed_message r f maker liquidities.Added)) []
-    (owed_places policy history r k.streams told (fill_tells policy history first r k f maker t fills found) places maker.user))
+        his : AllByRecursion (λ (e : Execution). IsHisAccounts policy e.order) (taker_side f is.taker.order ∷ maker_side f is.maker.order ∷ [])
+        his = subst (AllByRecursion (λ (e : Execution). IsHisAccounts policy e.order)) (ap (sides policy history) (sym fills) ∙ sides_are) (sides_are_his policy history f)
 
-pub fill_goes_on : (policy : PolicyData) (history : List RecordData) (first : LiveOrder) (r : RecordData) (before k : Keepers) (f : Fill) (maker : LiveOrder) (came rested : OpenOrder) (against : Bool) (to_taker to_maker : Message)
+-- both users are told report by report
+owner_told : (policy : PolicyData) (history : List RecordData) (k : Keepers) (s : Standing) (o : LiveOrder) (side : FillSide) → AreInForce policy history k
+    → o ≡ kept policy history s → account_of policy s.order.user ≡ Some s.order.account → side ≡ told_side policy o → is_told k.streams side.user ≡ true
+owner_told policy history k s o side kept_is is his side_is =
+    ap (λ (x : FillSide). is_told k.streams x.user) (side_is ∙ ap (told_side policy) is)
+    ∙ known_told policy history k kept_is s.order.user ∙ trader_told s.order.account (user_in policy.users s.order.user) his
+
+pub taker_told : (policy : PolicyData) (history : List RecordData) (first : LiveOrder) (r : RecordData) (k : Keepers) (f : Fill) (maker : LiveOrder) (side : FillSide)
+    → TakesMatch policy history first r k → r.verdict ≡ verdicts.Filled f → order_numbered k.orders.live f.maker ≡ Some maker → side ≡ told_side policy first → is_told k.streams side.user ≡ true
+taker_told policy history first r k f maker side t fills found is =
+    let both = fill_orders policy history first r k f maker t fills found in
+    owner_told policy history k both.taking first side t.in_force both.taker_is both.taker_his is
+
+pub maker_told : (policy : PolicyData) (history : List RecordData) (first : LiveOrder) (r : RecordData) (k : Keepers) (f : Fill) (maker : LiveOrder) (side : FillSide)
+    → TakesMatch policy history first r k → r.verdict ≡ verdicts.Filled f → order_numbered k.orders.live f.maker ≡ Some maker → side ≡ told_side policy maker → is_told k.streams side.user ≡ true
+maker_told policy history first r k f maker side t fills found is =
+    let both = fill_orders policy history first r k f maker t fills found in
+    owner_told policy history k both.resting maker side t.in_force both.maker_is both.maker_his is
+
+-- who is sent what among people is who is entitled
+sent_by_records : (policy : PolicyData) (history : List RecordData) (k : Keepers) → is_sound policy ≡ true → AreInForce policy history k → AreSent policy history k.streams
+sent_by_records policy history k sound kept_is user =
+    kept_is.sent user
+    ∙ ap (λ (mask : ℕ). if is_reader (role_in policy.users user) then Some mask else None)
+    (same_mask (sees k.people user) (is_entitled policy history user)
+    (λ account. ap (λ (us : List User). sees us user account) kept_is.people ∙ entitling.kept policy history user account sound) policy.accounts)
+
+pub fill_goes_on : (policy : PolicyData) (history : List RecordData) (first : LiveOrder) (r : RecordData) (before k : Keepers) (f : Fill) (maker : LiveOrder) (came rested : OpenOrder) (against : Bool) (taken kept_side : FillSide) (made : ToldFill)
     → TakesMatch policy history first r before → r.verdict ≡ verdicts.Filled f → order_numbered before.orders.live f.maker ≡ Some maker → came ≡ open_order first → rested ≡ open_order maker
-    → against ≡ not (is_buy first.terms.side)
-    → to_taker ≡ executed_message r f first liquidities.Removed → to_maker ≡ executed_message r f maker liquidities.Added
+    → against ≡ not (is_buy first.terms.side) → is_sound policy ≡ true
+    → taken ≡ told_side policy first → kept_side ≡ told_side policy maker
+    → made ≡ record { match_number = r.number; moment = r.moment; shares = f.shares; price = f.price; taker = taken; maker = kept_side }
     → k.people ≡ before.people → k.rules ≡ before.rules → k.day ≡ before.day
     → k.orders ≡ with_live (filled_at f.maker f.shares (filled_at f.taker f.shares before.orders.live)) before.orders
     → k.book ≡ on_side first.terms.stock against (best_reduced f.shares) before.book → Fills came rested f.shares f.price before.ledger k.ledger
-    → k.streams ≡ with_told maker.user r.moment (Some to_maker) (with_told first.user r.moment (Some to_taker) before.streams)
+    → k.streams ≡ with_fill made before.streams
     → AreInForceBut policy history r k
-fill_goes_on policy history first r before k f maker came rested against to_taker to_maker t fills found came_is rested_is side_is taker_told maker_told people_are rules_are day_is orders_are book_is carries streams_are =
+fill_goes_on policy history first r before k f maker came rested against taken kept_side made t fills found came_is rested_is side_is sound taken_is kept_is made_is people_are rules_are day_is orders_are book_is carries streams_are =
     by_match policy history first r before k t people_are rules_are day_is
     (orders_are ∙ ap (λ (d : OrdersData). with_live (filled_at f.maker f.shares (filled_at f.taker f.shares d.live)) d) t.in_force.orders
     ∙ sym (fills_both policy history t.handed r f t.legal t.left fills))
@@ -214,17 +288,26 @@ fill_goes_on policy history first r before k f maker came rested against to_take
     ∙ ap (on_side first.terms.stock (not (is_buy first.terms.side)) (best_reduced f.shares)) t.in_force.book
     ∙ sym (fills_take_from_best policy history t.handed r f first t.legal t.left fills (waits_first policy history first r before t)))
     (fill_figured policy history first r before f maker came rested k.ledger t fills found came_is rested_is carries)
-    (ap shown (streams_are
-    ∙ ap (λ (m : Message). with_told maker.user r.moment (Some m) (with_told first.user r.moment (Some to_taker) before.streams)) maker_told
-    ∙ ap (λ (m : Message). with_told maker.user r.moment (Some (executed_message r f maker liquidities.Added)) (with_told first.user r.moment (Some m) before.streams)) taker_told)
-    ∙ stays_by_all policy history (history ++ r ∷ []) r before.streams (told_by_fill r f first maker) t.in_force.streams (fill_tells policy history first r before f maker t fills found))
+    (ap shown streams_are
+    ∙ stays_by_fill policy history r before.streams made (accounts_few policy sound) t.in_force.streams (sent_by_records policy history before sound t.in_force) is_made)
+    (ap (λ (s : AllStreams). s.readers) streams_are)
+  where
+    both : FillOrders policy history r f first maker
+    both = fill_orders policy history first r before f maker t fills found
 
--- its users have their places
-pub fill_fits : (policy : PolicyData) (history : List RecordData) (first : LiveOrder) (r : RecordData) (k : Keepers) (f : Fill) (maker : LiveOrder) (streams : AllStreams)
-    → TakesMatch policy history first r k → r.verdict ≡ verdicts.Filled f → order_numbered k.orders.live f.maker ≡ Some maker → shown streams ≡ shown k.streams
-    → HavePlacesEach (first.user ∷ maker.user ∷ []) streams → HavePlaces policy history r streams
-fill_fits policy history first r k f maker streams t fills found same places =
-    all_fit policy history r streams (told_by_fill r f first maker) (same ∙ t.in_force.streams) (match_is_legal policy history first r k t) (fill_tells policy history first r k f maker t fills found) places
+    is_made : IsMadeBy policy history r made
+    is_made = record {
+      made = f;
+      taker = taker_side f both.taking.order;
+      maker = maker_side f both.resting.order;
+      fills = fills;
+      sides_are = both.sides_are;
+      takers = side_told policy history r f both.taking first liquidities.Removed parties.Taker made sound both.taker_is both.taker_his
+          (ap (λ (x : ToldFill). x.taker) made_is ∙ taken_is) (ap (λ (x : ToldFill). x.match_number) made_is) (ap (λ (x : ToldFill). x.shares) made_is) (ap (λ (x : ToldFill). x.price) made_is) refl;
+      makers = side_told policy history r f both.resting maker liquidities.Added parties.Maker made sound both.maker_is both.maker_his
+          (ap (λ (x : ToldFill). x.maker) made_is ∙ kept_is) (ap (λ (x : ToldFill). x.match_number) made_is) (ap (λ (x : ToldFill). x.shares) made_is) (ap (λ (x : ToldFill). x.price) made_is) refl;
+      moment = ap (λ (x : ToldFill). x.moment) made_is;
+    }
 
 -- ---- an order that comes to rest
 
@@ -246,27 +329,7 @@ rest_goes_on policy history first r before k number added t rests is people_are 
     (rest_figured policy history first r before number k.ledger t rests ledger_is)
     (ap shown streams_are
     ∙ stays_by_none policy history (history ++ r ∷ []) before.streams t.in_force.streams (rest_takes_effect policy history t.handed r number (legal_is_orderly policy history t.legal) t.left rests).told_nothing)
-
--- nobody is told, and so no place is wanted
-rest_fits : (policy : PolicyData) (history : List RecordData) (first : LiveOrder) (r : RecordData) (k : Keepers) (number : ℕ)
-    → TakesMatch policy history first r k → r.verdict ≡ verdicts.Rested number → HavePlaces policy history r k.streams
-rest_fits policy history first r k number t rests =
-    all_fit policy history r k.streams [] t.in_force.streams (match_is_legal policy history first r k t)
-    (λ (user : UserName).
-    (rest_takes_effect policy history t.handed r number (legal_is_orderly policy history t.legal) t.left rests).told_nothing user ∙ sym (append-nil (stream policy history user)))
-    (λ (user : UserName) known. omega arith)
-
--- a step that neither fills nor ends an order puts one to rest
-pub others_fit : (policy : PolicyData) (history : List RecordData) (first : LiveOrder) (r : RecordData) (k : Keepers) → TakesMatch policy history first r k
-    → ((f : Fill) → r.verdict ≡ verdicts.Filled f → ⊥) → ((number : ℕ) → r.verdict ≡ verdicts.Expired number → ⊥) → HavePlaces policy history r k.streams
-others_fit policy history first r k t no_fill no_end = by r.verdict refl
-  where
-    by : (v : Verdict) → r.verdict ≡ v → HavePlaces policy history r k.streams
-    by verdicts.Granted is = let judged : true ≡ false = sym (ap is_judged is) ∙ not_judged policy history t.handed r t.left in cc
-    by (verdicts.Denied rule) is = let judged : true ≡ false = sym (ap is_judged is) ∙ not_judged policy history t.handed r t.left in cc
-    by (verdicts.Filled f) is = absurd (no_fill f is)
-    by (verdicts.Rested number) is = rest_fits policy history first r k number t is
-    by (verdicts.Expired number) is = absurd (no_end number is)
+    (ap (λ (s : AllStreams). s.readers) streams_are)
 
 -- ---- an order that ends
 
@@ -306,10 +369,11 @@ end_goes_on policy history first r before k number ended message t ends ended_is
     (end_figured policy history first r before number ended k.ledger t ends ended_is closes)
     (ap shown (streams_are ∙ ap (λ (m : Message). with_told first.user r.moment (Some m) before.streams) is)
     ∙ stays_by_one policy history (history ++ r ∷ []) r before.streams first.user (end_message first) t.in_force.streams (end_tells policy history first r before number t ends))
+    (ap (λ (s : AllStreams). s.readers) streams_are)
 
 -- its user has his place
 pub end_fits : (policy : PolicyData) (history : List RecordData) (first : LiveOrder) (r : RecordData) (k : Keepers) (number : ℕ) (streams : AllStreams)
-    → TakesMatch policy history first r k → r.verdict ≡ verdicts.Expired number → (is_known k.streams.told first.user ≡ true → 1 ≤ places_in streams.told first.user)
+    → TakesMatch policy history first r k → r.verdict ≡ verdicts.Expired number → (is_told k.streams first.user ≡ true → 1 ≤ places_in streams.told first.user)
     → HavePlaces policy history r streams
 end_fits policy history first r k number streams t ends place =
-    one_fits policy history r k streams first.user (end_message first ∷ []) t.in_force (match_is_legal policy history first r k t) (end_tells policy history first r k number t ends) (omega arith) place
+    one_fits policy history r k streams first.user (end_message first ∷ []) t.in_force (match_is_legal policy history first r k t) (ap is_fill ends) (end_tells policy history first r k number t ends) (omega arith) place

@@ -1,5 +1,5 @@
 -- What the keepers hold after these records.
-use Rattle.std.specs.Prelude.{◌≡◌, ℕ, ◌+◌, ◌≤◌, IsTrue, IsFalse, IfSome, List, [], ◌∷◌, ◌++◌, length, Option, Some, None, is_some, option_and_then, if◌then◌else◌}
+use Rattle.std.specs.Prelude.{◌≡◌, ℕ, ◌+◌, ◌≤◌, IsTrue, IsFalse, IfSome, List, [], ◌∷◌, ◌++◌, length, Option, Some, None, is_some, option_and_then, ◌&&◌, not, if◌then◌else◌}
 use Rattle.std.specs.List.{filter}
 use Rattle.gx_units.specs.Names.{same_account}
 use Rattle.gx_units.specs.declared.names.AccountName.{AccountName}
@@ -15,7 +15,8 @@ use Rattle.gx_history.specs.declared.record.Step.TheVariants as steps
 use Rattle.gx_history.specs.declared.record.RuleName.{RuleName}
 use Rattle.gx_history.specs.declared.record.Verdict.{Verdict}
 use Rattle.gx_history.specs.declared.report.Message.{Message}
-use Rattle.gx_history.specs.People.{account_of, user_in}
+use Rattle.gx_history.specs.Masks.{mask_by}
+use Rattle.gx_history.specs.People.{account_of, is_reader, role_in, user_in}
 use Rattle.gx_history.specs.Requests.{action_of, is_granted}
 use Rattle.gx_history.specs.declared.policy.PolicyData.{PolicyData}
 use Rattle.gx_history.specs.declared.record.RecordData.{RecordData}
@@ -25,18 +26,26 @@ use Rattle.gx_history.specs.Verdicts.{IsLegal, day_limit, next}
 use Rattle.gx_day.specs.DayData.{at_moment}
 use Rattle.gx_day.specs.InForce.{day_in_force}
 use Rattle.gx_orders.specs.InForce.{orders_in_force}
-use Rattle.gx_people.specs.Entitled.{people_in_force}
+use Rattle.gx_people.specs.Entitled.{people_in_force, sees}
 use Rattle.gx_market.specs.BookInForce.{book_in_force}
 use Rattle.gx_streams.specs.Telling.{shown, told_after}
 use Rattle.gx_orders.specs.declared.live_order.LiveOrder.{LiveOrder}
 use Rattle.gx_orders.specs.declared.live_order.UserToken.{UserToken}
 use Rattle.gx_orders.specs.Changes.{denied_token, is_lasting, marking}
 use Rattle.gx_orders.specs.LiveOrders.{OrdersData, is_of_user, is_used}
-use Rattle.gx_streams.specs.Kept.{is_known, places_in, with_kept_last}
-use Rattle.gx_streams.specs.Streams.{AllStreams, on_told}
+use Rattle.gx_streams.specs.Kept.{places_in, with_kept_last}
+use Rattle.gx_streams.specs.Streams.{AllStreams, ReaderMask, is_told, mask_in, on_told}
 use Rattle.gx_keepers.specs.declared.keepers.Keepers.{Keepers}
 use Rattle.gx_keepers.specs.declared.next_record.NextRecord.{NextRecord}
 use Rattle.gx_keepers.specs.Ledgers.{StandsForDay}
+
+-- the accounts that the user sees among these people, if he is a reader
+abbrev pub mask_for : PolicyData → List User → UserName → Option ℕ
+mask_for policy people user = if is_reader (role_in policy.users user) then Some (mask_by (sees people user) policy.accounts) else None
+
+-- each reader gets the fills of the accounts that he sees
+abbrev pub AreSentTo : PolicyData → List User → List ReaderMask → Type 0
+AreSentTo policy people readers = (user : UserName) → mask_in readers user ≡ mask_for policy people user
 
 -- each keeper holds what its definition says of the records
 pub record AreInForce (policy : PolicyData) (history : List RecordData) (k : Keepers) : Type 0 where
@@ -47,6 +56,7 @@ pub record AreInForce (policy : PolicyData) (history : List RecordData) (k : Kee
   pub book : k.book ≡ book_in_force policy history
   pub ledger : StandsForDay policy k.ledger history
   pub streams : shown k.streams ≡ told_after policy history
+  pub sent : AreSentTo policy k.people k.streams.readers
 
 -- and after one more record
 abbrev pub AreCarriedOn : PolicyData → List RecordData → RecordData → Keepers → Type 0
@@ -61,6 +71,7 @@ pub record AreInForceBut (policy : PolicyData) (history : List RecordData) (r : 
   pub book : k.book ≡ book_in_force policy (history ++ r ∷ [])
   pub ledger : StandsForDay policy k.ledger (history ++ r ∷ [])
   pub streams : shown k.streams ≡ told_after policy (history ++ r ∷ [])
+  pub sent : AreSentTo policy k.people k.streams.readers
 
 -- the command, if it ends orders
 abbrev pub ending_command : Action → Option Action
@@ -70,21 +81,21 @@ ending_command action = if is_lasting action then None else Some action
 abbrev pub ending : Request → Verdict → Option Action
 ending q given = if is_granted given then option_and_then ending_command (action_of q) else None
 
--- the streams know the policy's users
+-- the users who are told report by report are the policy's, but for its readers
 abbrev pub KnowsUsers : PolicyData → AllStreams → Type 0
-KnowsUsers policy streams = (user : UserName) → is_known streams.told user ≡ is_some (user_in policy.users user)
+KnowsUsers policy streams = (user : UserName) → is_told streams user ≡ (is_some (user_in policy.users user) && not (is_reader (role_in policy.users user)))
 
--- the same users are known
+-- the same users are told
 abbrev pub KnowTheSame : AllStreams → AllStreams → Type 0
-KnowTheSame before after = (user : UserName) → is_known after.told user ≡ is_known before.told user
+KnowTheSame before after = (user : UserName) → is_told after user ≡ is_told before user
 
 -- nobody has fewer places than before
 abbrev pub HaveNoFewer : AllStreams → AllStreams → Type 0
 HaveNoFewer before after = (user : UserName) → places_in before.told user ≤ places_in after.told user
 
--- the user has so many places, if he is known
+-- the user has so many places, if he is told report by report
 abbrev pub HasPlaces : UserName → ℕ → AllStreams → Type 0
-HasPlaces user places streams = IsTrue (is_known streams.told user) → places ≤ places_in streams.told user
+HasPlaces user places streams = IsTrue (is_told streams user) → places ≤ places_in streams.told user
 
 -- so many places does a command that ends orders want for a trader of the account with so many live ones: one for each of them that ends, and one for the end of the day
 abbrev pub end_places : Action → AccountName → ℕ → ℕ
@@ -105,7 +116,7 @@ count_of live user = length (filter (is_of_user user) live)
 abbrev pub user_places : Action → List LiveOrder → User → ℕ
 user_places action live u = role_places action u.role (count_of live u.name)
 
--- the user, if he is known, has the places that the command wants for him
+-- the user, if he is told, has the places that the command wants for him
 abbrev pub HasEndPlaces : Action → List LiveOrder → AllStreams → User → Type 0
 HasEndPlaces action live streams u = HasPlaces u.name (user_places action live u) streams
 

@@ -1,10 +1,16 @@
 -- What a setting asks of the rules.
-use Rattle.std.specs.Prelude.{IsTrue, List, is_some}
+use Rattle.std.specs.Prelude.{IsFalse, IsTrue, List, Option, false, is_some}
+use Rattle.std.specs.Option.{option_map_or}
 use Rattle.gx_desk.specs.declared.Action.{Action}
 use Rattle.gx_desk.specs.declared.Action.TheVariants as actions
 use Rattle.gx_history.specs.declared.policy.FileRule.{FileRule}
 use Rattle.gx_history.specs.Asking.{knows_stocks}
-use Rattle.gx_history.specs.People.{rule_in}
+use Rattle.gx_history.specs.declared.policy.PolicyData.{PolicyData}
+use Rattle.gx_history.specs.declared.policy.User.{User}
+use Rattle.gx_history.specs.Masks.{mask_by}
+use Rattle.gx_history.specs.People.{reader_in, rule_in}
+use Rattle.gx_people.specs.Entitled.{sees}
+use Rattle.gx_streams.specs.Streams.{AllStreams, entitled}
 use Rattle.gx_rules.specs.Settings.{limit_in}
 
 -- the rule that a setting names has it
@@ -17,3 +23,24 @@ HasSetting rules (actions.Revoke reader account) = Unit {0}
 HasSetting rules (actions.Kill account) = Unit {0}
 HasSetting rules (actions.Lift account) = Unit {0}
 HasSetting rules actions.CloseDay = Unit {0}
+
+-- the reader whom a Grant names does not see the account
+abbrev pub IsUnseen : List User → Action → Type 0
+IsUnseen people (actions.Grant written account) = IsFalse (option_map_or (λ (u : User). sees people u.name account) (reader_in people written) false)
+IsUnseen people (actions.Revoke written account) = Unit {0}
+IsUnseen people (actions.SetLimit rule limit) = Unit {0}
+IsUnseen people (actions.Restrict rule stock) = Unit {0}
+IsUnseen people (actions.Unrestrict rule stock) = Unit {0}
+IsUnseen people (actions.Kill account) = Unit {0}
+IsUnseen people (actions.Lift account) = Unit {0}
+IsUnseen people actions.CloseDay = Unit {0}
+
+-- the reader of this name gets the fills of what he sees among these people
+abbrev pub sent_to : PolicyData → List User → AllStreams → Option User → AllStreams
+sent_to policy people streams found = option_map_or (λ (u : User). entitled u.name (mask_by (sees people u.name) policy.accounts) streams) found streams
+
+-- the streams after the command: whom a Grant or a Revoke names gets the fills of what he sees now
+abbrev pub sent_on : PolicyData → List User → List User → AllStreams → Action → AllStreams
+sent_on policy before now streams (actions.Grant written account) = sent_to policy now streams (reader_in before written)
+sent_on policy before now streams (actions.Revoke written account) = sent_to policy now streams (reader_in before written)
+sent_on policy before now streams other = streams

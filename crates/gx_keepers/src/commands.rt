@@ -91,8 +91,8 @@ fn set_day(day: &mut Day, action: &Action)
 ///
 /// # Errors
 ///
-/// `OutOfMemory`: there was no memory for one more account that a reader sees, or for one more
-/// stock in a list, and nothing has changed.
+/// `OutOfMemory`: there was no memory for one more account that a reader sees, for another span of
+/// fills that he gets, or for one more stock in a list, and nothing has changed.
 pub fn apply_command(
     keepers: &mut Keepers,
     next: NextRecord<'_>,
@@ -107,7 +107,13 @@ pub fn apply_command(
 {
     // What this ensures: no two users have one name.
     let _ = next.policy.rules();
-    set(&mut keepers.people, &mut keepers.rules, &c.action)?;
+    set(
+        &mut keepers.people,
+        &mut keepers.streams,
+        &mut keepers.rules,
+        next.policy,
+        &c.action,
+    )?;
     tell_of_command(&mut keepers.streams, &keepers.orders, next, c);
     end_orders(
         &mut keepers.ledger,

@@ -1,12 +1,13 @@
 //! What the gate keeps of its records.
 
-ghost use Rattle.std.specs.Prelude.{◌≡◌, [], IfOk};
+ghost use Rattle.std.specs.Prelude.{◌≡◌, [], IfOk, OnOk};
 ghost use Rattle.gx_book.specs.Books.{empty_book};
 ghost use Rattle.gx_positions.specs.Changing.{nothing};
 ghost use Rattle.gx_streams.specs.Streams.{empty_streams};
+ghost use Rattle.gx_streams.specs.Telling.{shown};
 ghost use Rattle.gx_ledger.specs.StandsFor.{StandsFor};
 ghost use Rattle.gx_day.specs.InForce.{fresh_day};
-ghost use Rattle.gx_keepers.specs.Keepers.{AreInForce};
+ghost use Rattle.gx_keepers.specs.Keepers.{AreInForce, AreSentTo};
 
 use gx_book::book::Book;
 use gx_day::day::Day;
@@ -33,11 +34,38 @@ pub struct Keepers {
     pub streams: Streams,
 }
 
+/// Each reader gets the fills of the accounts that the policy gives him.
+#[tactic(auto, using(crate::proofs::Sending::shown_stays))]
+fn send_to_readers(
+    streams: &mut Streams,
+    policy: &Policy,
+    people: &People,
+) -> Result<(), OutOfMemory>
+    requires of_people { people.now ≡ policy.now.users }
+    requires of_streams { streams.old ≡ empty_streams policy.now }
+    ensures shown { shown streams.new ≡ shown streams.old }
+    ensures sent { OnOk result (AreSentTo policy.now people.now streams.new.readers) }
+{
+    // What this ensures: no two users have one name.
+    let _ = policy.rules();
+    for user in policy.users() {
+        streams.entitle(user.name, people.mask(policy, user.name))?;
+    }
+    Ok(())
+}
+
+/// What the day begins with that is told, and to whom.
+#[derive(Drop)]
+struct Telling {
+    people: People,
+    streams: Streams,
+}
+
 /// What the day begins with that commands change.
 #[derive(Drop)]
 struct Settings {
-    people: People,
     rules: RuleBook,
+    day: Day,
 }
 
 /// What the day begins with that orders change.
@@ -47,29 +75,24 @@ struct Trading {
     ledger: Ledger,
 }
 
-/// What the day begins with that records tell.
-#[derive(Drop)]
-struct Telling {
-    day: Day,
-    streams: Streams,
+fn first_telling(alloc: Global, policy: &Policy) -> Result<Telling, OutOfMemory>
+    ensures people { IfOk result (λ t. t.people ≡ policy.now.users) }
+    ensures shown { IfOk result (λ t. shown t.streams ≡ shown (empty_streams policy.now)) }
+    ensures sent { IfOk result (λ t. AreSentTo policy.now t.people t.streams.readers) }
+{
+    let people = People::new(alloc, policy)?;
+    let mut streams = Streams::new(alloc, policy)?;
+    send_to_readers(&mut streams, policy, &people)?;
+    Ok(Telling { people, streams })
 }
 
 fn first_settings(alloc: Global, policy: &Policy) -> Result<Settings, OutOfMemory>
-    ensures people { IfOk result (λ s. s.people ≡ policy.now.users) }
     ensures rules { IfOk result (λ s. s.rules ≡ policy.now.rules) }
+    ensures day { IfOk result (λ s. s.day ≡ fresh_day policy.now) }
 {
-    let people = People::new(alloc, policy)?;
     let rules = RuleBook::new(alloc, policy)?;
-    Ok(Settings { people, rules })
-}
-
-fn first_telling(alloc: Global, policy: &Policy) -> Result<Telling, OutOfMemory>
-    ensures day { IfOk result (λ t. t.day ≡ fresh_day policy.now) }
-    ensures streams { IfOk result (λ t. t.streams ≡ empty_streams policy.now) }
-{
     let day = Day::new(alloc, policy)?;
-    let streams = Streams::new(alloc, policy)?;
-    Ok(Telling { day, streams })
+    Ok(Settings { rules, day })
 }
 
 fn first_trading(alloc: Global, policy: &Policy) -> Result<Trading, OutOfMemory>
@@ -90,9 +113,9 @@ impl Keepers {
         let settings = first_settings(alloc, policy)?;
         let trading = first_trading(alloc, policy)?;
         Ok(Keepers {
-            people: settings.people,
+            people: telling.people,
             rules: settings.rules,
-            day: telling.day,
+            day: settings.day,
             orders: Orders::new(alloc),
             book: trading.book,
             ledger: trading.ledger,

@@ -1,10 +1,11 @@
 //! What the policy says of accounts and stocks.
 
-ghost use Rattle.std.specs.Prelude.{◌≡◌, find};
+ghost use Rattle.std.specs.Prelude.{◌≡◌, find, position};
 ghost use Rattle.gx_units.specs.Names.{same_account, same_stock};
 ghost use Rattle.gx_history.specs.Asking.{fits_firm, lists_its_stock};
 ghost use Rattle.gx_history.specs.Orders.{firm_of};
 ghost use Rattle.gx_history.specs.People.{account_named, stock_named};
+ghost use Rattle.gx_keepers.specs.Matching.{place_of};
 
 use gx_history::policy::{Account, Policy, Stock};
 use gx_history::record::Request;
@@ -36,6 +37,22 @@ pub fn stock_named(policy: &Policy, name: Symbol) -> Option<Stock>
     ensures { result ≡ stock_named policy.now name }
 {
     find_stock(policy.stocks(), name)
+}
+
+fn find_place(accounts: &[Account], name: AccountName) -> Option<usize>
+    ensures { result ≡ position (λ a. same_account a.name name) accounts.now }
+{
+    accounts.iter().position(|account| account.name == name)
+}
+
+/// The account's place in the file, from 0; their number where it is not there.
+pub fn place_of(accounts: &[Account], name: AccountName) -> usize
+    ensures { result ≡ place_of accounts.now name }
+{
+    match find_place(accounts, name) {
+        Some(place) => place,
+        None => accounts.len(),
+    }
 }
 
 /// The account's firm, or the one asked for where the policy has no such account.

@@ -1,35 +1,62 @@
 //! What each matching step does to the keepers.
 //!
-//! The one call that can be refused, at a rest, comes first; nothing has changed then. What follows
-//! takes no memory: the places for reports were kept before.
+//! The one call that can be refused, at a fill and at a rest, comes first; nothing has changed then.
+//! What follows takes no memory: the place for the report of an expiry was kept before.
 
 ghost use Rattle.std.specs.Prelude.{◌≡◌, OnOk, OnErr};
 ghost use Rattle.gx_history.specs.declared.record.Verdict.TheVariants as verdicts;
 ghost use Rattle.gx_keepers.specs.Matching.{AreAfterMatch, AreAfterMatchBut, AreBeforeMatch};
-ghost use Rattle.gx_keepers.specs.Matching.{IsMatchPlaced, IsNextMatch};
+ghost use Rattle.gx_keepers.specs.Matching.{told_side, IsMatchPlaced, IsNextMatch};
 
 use crate::figures::open_order;
 use crate::keepers::Keepers;
+use crate::listed::place_of;
 use crate::next_record::NextMatch;
 use crate::places::keep_match_places;
-use crate::reports::{canceled, executed, tell};
+use crate::reports::{canceled, tell};
+use gx_history::policy::Policy;
 use gx_history::record::{Fill, Verdict};
 use gx_market::meeting::{opposite, resting_of};
-use gx_ouch::{CancelReason, Liquidity};
+use gx_orders::live_order::LiveOrder;
+use gx_ouch::CancelReason;
+use gx_streams::fill::{FillSide, ToldFill};
 use gx_units::OutOfMemory;
 
-/// A fill: both orders execute its shares, the best in the book has so many less, the ledger counts
-/// it, and both users are told, first the one whose order came in.
-fn apply_fill(keepers: &mut Keepers, next: NextMatch<'_>, f: Fill)
-    requires takes { IsNextMatch next keepers.old }
-    requires places { IsMatchPlaced next keepers.old }
-    requires fills { next.left.now.verdict ≡ verdicts.Filled f }
-    ensures { AreAfterMatchBut next.entry keepers.new }
+/// One side of a fill, as its user and the readers of its account are told of it.
+fn side_of(policy: &Policy, order: &LiveOrder) -> FillSide
+    ensures { result ≡ told_side policy.now order.now }
 {
+    FillSide {
+        user: order.user,
+        token: order.token,
+        account: order.account,
+        account_place: place_of(policy.accounts(), order.account),
+        side: order.terms.side,
+    }
+}
+
+/// A fill: both users are told, and each reader of either account; both orders execute its shares,
+/// the best in the book has so many less, and the ledger counts it.
+fn apply_fill(keepers: &mut Keepers, next: NextMatch<'_>, f: Fill) -> Result<(), OutOfMemory>
+    requires takes { IsNextMatch next keepers.old }
+    requires fills { next.left.now.verdict ≡ verdicts.Filled f }
+    ensures ok { OnOk result (AreAfterMatchBut next.entry keepers.new) }
+    ensures err { OnErr result (AreBeforeMatch next.entry keepers.new) }
+{
+    // What this ensures: each account that someone trades for is in the policy, at most 64 of them.
+    let _ = next.policy.rules();
     let Some(maker) = keepers.orders.numbered(f.maker) else {
         unreachable!();
     };
     let taker = next.first;
+    keepers.streams.append_fill(ToldFill {
+        match_number: next.left.number,
+        moment: next.left.moment,
+        shares: f.shares,
+        price: f.price,
+        taker: side_of(next.policy, taker),
+        maker: side_of(next.policy, &maker),
+    })?;
     keepers.orders.fill(f.taker, f.shares);
     keepers.orders.fill(f.maker, f.shares);
     let against = opposite(taker.terms.side);
@@ -39,20 +66,7 @@ fn apply_fill(keepers: &mut Keepers, next: NextMatch<'_>, f: Fill)
     let came = open_order(taker);
     let rested = open_order(&maker);
     keepers.ledger.fill(&came, &rested, f.shares, f.price);
-    let to_taker = executed(next.left, f, taker, Liquidity::Removed);
-    let to_maker = executed(next.left, f, &maker, Liquidity::Added);
-    tell(
-        &mut keepers.streams,
-        taker.user,
-        next.left.moment,
-        Some(to_taker),
-    );
-    tell(
-        &mut keepers.streams,
-        maker.user,
-        next.left.moment,
-        Some(to_maker),
-    );
+    Ok(())
 }
 
 /// An order that meets nothing and comes to rest: it stands in the book, and waits no more.
@@ -96,10 +110,7 @@ fn apply_outcome(keepers: &mut Keepers, next: NextMatch<'_>) -> Result<(), OutOf
     ensures err { OnErr result (AreBeforeMatch next.entry keepers.new) }
 {
     match next.left.verdict {
-        Verdict::Filled(f) => {
-            apply_fill(keepers, next, f);
-            Ok(())
-        }
+        Verdict::Filled(f) => apply_fill(keepers, next, f),
         Verdict::Rested(number) => apply_rest(keepers, next, number),
         Verdict::Expired(number) => {
             apply_expiry(keepers, next, number);
@@ -121,12 +132,12 @@ fn apply_match(keepers: &mut Keepers, next: NextMatch<'_>) -> Result<(), OutOfMe
     Ok(())
 }
 
-/// Keeps a place for each report that the step's record owes, and carries the keepers on by it.
+/// Keeps a place for the report of an expiry, and carries the keepers on by the step's record.
 ///
 /// # Errors
 ///
 /// `OutOfMemory` where a stream, or the book at a rest, finds no memory; then they are as they
-/// were, but for places that were kept.
+/// were, but for a place that was kept.
 pub fn carry_match(keepers: &mut Keepers, next: NextMatch<'_>) -> Result<(), OutOfMemory>
     requires takes { IsNextMatch next keepers.old }
     ensures ok { OnOk result (AreAfterMatch next.entry keepers.new) }

@@ -1,13 +1,12 @@
 //! Every place that a record can want, made before anything changes.
 
-ghost use Rattle.std.specs.Prelude.{◌≡◌, ◌≤◌, [], ◌∷◌, length, OnOk};
+ghost use Rattle.std.specs.Prelude.{◌≡◌, ◌≤◌, length, OnOk};
 ghost use Rattle.gx_history.specs.Verdicts.{day_limit};
 ghost use Rattle.gx_streams.specs.Telling.{shown};
 ghost use Rattle.gx_keepers.specs.Keepers.{count_of, end_places, ending, user_places, AreBefore};
 ghost use Rattle.gx_keepers.specs.Keepers.{HasPlaces, HaveEndPlaces, HaveNoFewer, IsNext};
 ghost use Rattle.gx_keepers.specs.Keepers.{IsPlaced, KnowTheSame, KnowsUsers};
-ghost use Rattle.gx_keepers.specs.Matching.{AreBeforeMatch, HavePlacesEach, IsMatchPlaced};
-ghost use Rattle.gx_keepers.specs.Matching.{IsNextMatch};
+ghost use Rattle.gx_keepers.specs.Matching.{AreBeforeMatch, IsMatchPlaced, IsNextMatch};
 
 use crate::ends::is_lasting;
 use crate::keepers::Keepers;
@@ -35,14 +34,15 @@ fn ending(request: &Request, given: Verdict) -> Option<Action>
     }
 }
 
-/// Keeps at least so many places for the user, if he is known.
+/// Keeps at least so many places for the user, if he is known and no reader.
 fn keep(streams: &mut Streams, user: UserName, places: usize) -> Result<(), OutOfMemory>
     ensures shown { shown streams.new ≡ shown streams.old }
     ensures known { KnowTheSame streams.old streams.new }
+    ensures readers { streams.new.readers ≡ streams.old.readers }
     ensures more { HaveNoFewer streams.old streams.new }
     ensures places { OnOk result (HasPlaces user places streams.new) }
 {
-    if !streams.knows(user) {
+    if !streams.is_told(user) {
         return Ok(());
     }
     streams.reserve(user, places)?;
@@ -89,6 +89,7 @@ fn keep_for_ends(
     requires known { KnowsUsers policy.now streams.old }
     requires few { length orders.now.live ≤ day_limit }
     ensures shown { shown streams.new ≡ shown streams.old }
+    ensures readers { streams.new.readers ≡ streams.old.readers }
     ensures more { HaveNoFewer streams.old streams.new }
     ensures places { OnOk result (HaveEndPlaces policy.now action.now orders.now.live streams.new) }
 {
@@ -117,18 +118,7 @@ pub fn keep_places(keepers: &mut Keepers, next: NextRecord<'_>) -> Result<(), Ou
     }
 }
 
-/// Keeps a place for each of the two users, and two if they are one.
-fn keep_for_two(streams: &mut Streams, one: UserName, other: UserName) -> Result<(), OutOfMemory>
-    ensures shown { shown streams.new ≡ shown streams.old }
-    ensures known { KnowTheSame streams.old streams.new }
-    ensures places { OnOk result (HavePlacesEach (one ∷ other ∷ []) streams.new) }
-{
-    let places = if one == other { 2 } else { 1 };
-    keep(streams, one, places)?;
-    keep(streams, other, places)
-}
-
-/// Keeps a place for each report that the record of a matching step owes.
+/// Keeps a place for the report of an order that expires. A fill makes its own places.
 ///
 /// # Errors
 ///
@@ -139,12 +129,6 @@ pub fn keep_match_places(keepers: &mut Keepers, next: NextMatch<'_>) -> Result<(
     ensures places { OnOk result (IsMatchPlaced next.entry keepers.new) }
 {
     match next.left.verdict {
-        Verdict::Filled(f) => {
-            let Some(maker) = keepers.orders.numbered(f.maker) else {
-                unreachable!();
-            };
-            keep_for_two(&mut keepers.streams, next.first.user, maker.user)
-        }
         Verdict::Expired(_) => keep(&mut keepers.streams, next.first.user, 1),
         _ => Ok(()),
     }

@@ -9,17 +9,17 @@ ghost use Rattle.gx_orders.specs.Changes.{ended_message};
 ghost use Rattle.gx_streams.specs.Kept.{places_in};
 ghost use Rattle.gx_keepers.specs.Keepers.{with_told};
 ghost use Rattle.gx_keepers.specs.Messages.{accepted_message, answer_message, canceled_message};
-ghost use Rattle.gx_keepers.specs.Messages.{day_end_message, executed_message, replaced_message};
+ghost use Rattle.gx_keepers.specs.Messages.{day_end_message, replaced_message};
 
 use crate::request::new_token;
 use gx_desk::{Answer, AnswerCode, Command};
 use gx_history::policy::{FileRule, Policy, RuleKind};
-use gx_history::record::{Fill, RecordData, Request, RuleName};
+use gx_history::record::{RecordData, Request, RuleName};
 use gx_history::report::{Message, Report};
 use gx_orders::live_order::LiveOrder;
 use gx_ouch::{
-    Accepted, CancelReason, Canceled, EventCode, Executed, Liquidity, OrderTerms, Outbound,
-    RejectReason, Rejected, Replaced,
+    Accepted, CancelReason, Canceled, EventCode, OrderTerms, Outbound, RejectReason, Rejected,
+    Replaced,
 };
 use gx_streams::streams::Streams;
 use gx_units::{Moment, RuleId, Token, UserName};
@@ -151,19 +151,6 @@ pub fn accepted(order: &LiveOrder) -> Message
         token: order.token,
         terms: order.terms,
         order_reference: order.number,
-    }))
-}
-
-/// Executed: to the user of an order on one side of the fill that the record makes.
-pub fn executed(left: &RecordData, f: Fill, order: &LiveOrder, liquidity: Liquidity) -> Message
-    ensures { result ≡ executed_message left.now f order.now liquidity }
-{
-    Message::Order(Outbound::Executed(Executed {
-        token: order.token,
-        shares: f.shares,
-        price: f.price,
-        liquidity,
-        match_number: left.number,
     }))
 }
 

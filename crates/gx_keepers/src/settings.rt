@@ -4,54 +4,95 @@ ghost use Rattle.std.specs.Prelude.{◌≡◌, OnOk, OnErr};
 ghost use Rattle.gx_desk.specs.declared.Action.TheVariants as actions;
 ghost use Rattle.gx_history.specs.InForce.{changed};
 ghost use Rattle.gx_people.specs.Entitled.{given};
-ghost use Rattle.gx_keepers.specs.Settings.{HasSetting};
+ghost use Rattle.gx_keepers.specs.Settings.{sent_on, HasSetting, IsUnseen};
 
 use gx_desk::{Action, WrittenName};
+use gx_history::policy::Policy;
 use gx_people::people::People;
 use gx_rules::RuleBook;
+use gx_streams::streams::Streams;
 use gx_units::{AccountName, OutOfMemory};
 
-/// Gives the account to the reader whom the officer names.
-#[tactic(auto, using(gx_people::proofs::Keeping::grants_go))]
-fn grant(people: &mut People, written: WrittenName, account: AccountName) -> Result<(), OutOfMemory>
-    ensures ok { OnOk result (people.new ≡ given people.old (actions.Grant written account)) }
-    ensures err { OnErr result (people.new ≡ people.old) }
+/// Gives the account to the reader whom the officer names, who gets its later fills.
+fn grant(
+    people: &mut People,
+    streams: &mut Streams,
+    policy: &Policy,
+    written: WrittenName,
+    account: AccountName,
+) -> Result<(), OutOfMemory>
+    requires unseen { IsUnseen people.old (actions.Grant written account) }
+    ensures people { OnOk result (people.new ≡ given people.old (actions.Grant written account)) }
+    ensures streams { OnOk result (streams.new
+        ≡ sent_on policy.now people.old people.new streams.old (actions.Grant written account)) }
+    ensures people_kept { OnErr result (people.new ≡ people.old) }
+    ensures streams_kept { OnErr result (streams.new ≡ streams.old) }
 {
-    match people.reader_named(written) {
-        Some(reader) => people.grant(reader, account),
-        None => Ok(()),
+    let Some(reader) = people.reader_named(written) else {
+        return Ok(());
+    };
+    people.grant(reader, account)?;
+    match streams.entitle(reader, people.mask(policy, reader)) {
+        Ok(()) => Ok(()),
+        Err(refused) => {
+            people.revoke(reader, account);
+            Err(refused)
+        }
     }
 }
 
-/// Takes the account from the reader whom the officer names.
-#[tactic(auto, using(gx_people::proofs::Keeping::revocations_go))]
-fn revoke(people: &mut People, written: WrittenName, account: AccountName)
-    ensures { people.new ≡ given people.old (actions.Revoke written account) }
+/// Takes the account from the reader whom the officer names, who gets no later fill of it.
+fn revoke(
+    people: &mut People,
+    streams: &mut Streams,
+    policy: &Policy,
+    written: WrittenName,
+    account: AccountName,
+) -> Result<(), OutOfMemory>
+    ensures people { OnOk result (people.new ≡ given people.old (actions.Revoke written account)) }
+    ensures streams { OnOk result (streams.new
+        ≡ sent_on policy.now people.old people.new streams.old (actions.Revoke written account)) }
+    ensures people_kept { OnErr result (people.new ≡ people.old) }
+    ensures streams_kept { OnErr result (streams.new ≡ streams.old) }
 {
-    if let Some(reader) = people.reader_named(written) {
-        people.revoke(reader, account);
-    }
+    let Some(reader) = people.reader_named(written) else {
+        return Ok(());
+    };
+    streams.entitle(reader, people.mask_without(policy, reader, account))?;
+    people.revoke(reader, account);
+    Ok(())
 }
 
-/// Changes people and rules as the command says; a Kill, a Lift and a Close Day change neither.
+/// Changes people, whose fills they get, and rules as the command says; a Kill, a Lift and a Close
+/// Day change none of these.
 ///
 /// # Errors
 ///
-/// `OutOfMemory`: there was no memory for one more account, or for one more stock, and nothing has
-/// changed.
-pub fn set(people: &mut People, rules: &mut RuleBook, action: &Action) -> Result<(), OutOfMemory>
+/// `OutOfMemory`: there was no memory for one more account, for one more span of fills, or for one
+/// more stock, and nothing has changed.
+pub fn set(
+    people: &mut People,
+    streams: &mut Streams,
+    rules: &mut RuleBook,
+    policy: &Policy,
+    action: &Action,
+) -> Result<(), OutOfMemory>
+    requires unseen { IsUnseen people.old action.now }
     requires known { HasSetting rules.old action.now }
     ensures people { OnOk result (people.new ≡ given people.old action.now) }
+    ensures streams { OnOk result (streams.new
+        ≡ sent_on policy.now people.old people.new streams.old action.now) }
     ensures rules { OnOk result (rules.new ≡ changed rules.old action.now) }
     ensures people_kept { OnErr result (people.new ≡ people.old) }
+    ensures streams_kept { OnErr result (streams.new ≡ streams.old) }
     ensures rules_kept { OnErr result (rules.new ≡ rules.old) }
 {
     match *action {
         Action::SetLimit(rule, limit) => rules.set_limit(rule, limit),
         Action::Restrict(rule, stock) => rules.restrict(rule, stock)?,
         Action::Unrestrict(rule, stock) => rules.unrestrict(rule, stock),
-        Action::Grant(reader, account) => grant(people, reader, account)?,
-        Action::Revoke(reader, account) => revoke(people, reader, account),
+        Action::Grant(reader, account) => grant(people, streams, policy, reader, account)?,
+        Action::Revoke(reader, account) => revoke(people, streams, policy, reader, account)?,
         Action::Kill(_) | Action::Lift(_) | Action::CloseDay => {}
     }
     Ok(())

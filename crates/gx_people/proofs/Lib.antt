@@ -3,3 +3,5 @@ pub mod Spelling
 pub mod Changing
 pub mod Entitling
 pub mod Keeping
+pub mod TakenBack
+pub mod Bits

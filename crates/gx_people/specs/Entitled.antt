@@ -53,6 +53,10 @@ may users officer power account = has users officer power && holds users officer
 abbrev pub sees : List User → UserName → AccountName → Bool
 sees users reader account = option_map_or (λ role. in_role role account) (role_in users reader) false
 
+-- and it is not the hidden one
+abbrev pub sees_but : List User → UserName → Option AccountName → AccountName → Bool
+sees_but users reader hidden account = sees users reader account && not (option_map_or (λ name. same_account name account) hidden false)
+
 -- a reader's accounts with this one last, unless it is there; any other role as it is
 abbrev pub with_account : AccountName → Role → Role
 with_account account (roles.Reader names) = roles.Reader (if names_account names account then names else names ++ account ∷ [])

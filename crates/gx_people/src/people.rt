@@ -1,18 +1,20 @@
 //! The people of a policy, as they are now.
 
+ghost use Rattle.std.specs.Prelude.{◌≤◌, ◌<◌, ◌^◌, length, IsFalse, Some};
 ghost use Rattle.std.specs.Prelude.{◌≡◌, IsTrue, IfOk, OnOk, OnErr, option_map, option_and_then, is_some, IfSome, IsOk, ◌&&◌, ◌||◌, not};
 ghost use Rattle.gx_units.specs.Names.{same_account, same_user};
 ghost use Rattle.gx_units.specs.declared.names.AccountName.{AccountName};
 ghost use Rattle.gx_units.specs.declared.names.UserName.{UserName};
+ghost use Rattle.gx_history.specs.Masks.{mask_by};
 ghost use Rattle.gx_history.specs.Logins.{password_is};
 ghost use Rattle.gx_history.specs.People.{account_of_role, is_officer, is_reader, is_trader, reader_in, role_in, user_in};
-ghost use Rattle.gx_people.specs.Entitled.{granted_to, has, holds, may, revoked_from, sees};
+ghost use Rattle.gx_people.specs.Entitled.{granted_to, has, holds, may, revoked_from, sees, sees_but};
 ghost use Rattle.gx_people.specs.View.{role_of_standing};
 
 use crate::person::{Person, Standing};
 use crate::power::Power;
 use gx_desk::WrittenName;
-use gx_history::policy::Policy;
+use gx_history::policy::{Account, Policy};
 use gx_units::{AccountName, OutOfMemory, Password, UserName};
 use indexmap::IndexMap;
 use std::alloc::Global;
@@ -152,6 +154,42 @@ impl People {
         }
     }
 
+    /// The accounts of these that the reader sees now, but for one that is hidden, as bits in their
+    /// order, the first in the lowest. Takes no memory.
+    fn mask_of(&self, accounts: &[Account], reader: UserName, hidden: Option<AccountName>) -> u64
+        requires few { length accounts.now ≤ 64 }
+        ensures bits { result ≡ mask_by (sees_but self.now reader hidden) accounts.now }
+        ensures within { result < 2 ^ length accounts.now }
+    {
+        match accounts.split_first() {
+            None => 0,
+            Some((first, others)) => {
+                let seen = self.sees(reader, first.name) && hidden != Some(first.name);
+                u64::from(seen) + 2 * self.mask_of(others, reader, hidden)
+            }
+        }
+    }
+
+    /// The accounts that the reader sees now, as bits in the file's order, the first in the lowest.
+    /// Takes no memory.
+    #[tactic(auto, using(crate::proofs::Bits::none_hidden))]
+    pub fn mask(&self, policy: &Policy, reader: UserName) -> u64
+        ensures { result ≡ mask_by (sees self.now reader) policy.now.accounts }
+    {
+        // What this ensures: there are at most 64 accounts.
+        let _ = policy.rules();
+        self.mask_of(policy.accounts(), reader, None)
+    }
+
+    /// Those that he would see without this one. Takes no memory.
+    pub fn mask_without(&self, policy: &Policy, reader: UserName, account: AccountName) -> u64
+        ensures { result ≡ mask_by (sees_but self.now reader (Some account)) policy.now.accounts }
+    {
+        // What this ensures: there are at most 64 accounts.
+        let _ = policy.rules();
+        self.mask_of(policy.accounts(), reader, Some(account))
+    }
+
     /// The name of the reader whom an officer names, in the policy's own spelling. It looks at each user in turn.
     pub fn reader_named(&self, written: WrittenName) -> Option<UserName>
         ensures name { result ≡ option_map (λ u. u.name) (reader_in self.now written) }
@@ -173,6 +211,8 @@ impl People {
             → sees self.new user other ≡ ((same_user user reader && same_account other account)
             || sees self.old user other)) }
         ensures again { IsTrue (sees self.old reader account) → IsOk result }
+        ensures back { OnOk result (IsFalse (sees self.old reader account)
+            → revoked_from reader account self.new ≡ self.old) }
         ensures unchanged { OnErr result (self.new ≡ self.old) }
     {
         let Some(person) = self.by_name.get_mut(&reader) else {

@@ -1,5 +1,5 @@
 -- The list of a user among those of all.
-use Rattle.std.proofs.Common.{◌≡◌, Bool, true, false, cond, List, [], ◌∷◌, map, refl, ◌∙◌, ap, sym}
+use Rattle.std.proofs.Common.{◌≡◌, Bool, true, false, not, ◌&&◌, cond, List, [], ◌∷◌, map, refl, ◌∙◌, ap, sym}
 use Rattle.std.specs.Prelude.{Option, Some, None, find, is_some}
 use Rattle.std.specs.Option.{option_map_or}
 use Rattle.gx_units.specs.Names.{same_user}
@@ -8,13 +8,14 @@ use Rattle.gx_history.specs.declared.policy.PolicyData.{PolicyData}
 use Rattle.gx_history.specs.declared.policy.User.{User}
 use Rattle.gx_history.specs.declared.record.RecordData.{RecordData}
 use Rattle.gx_history.specs.declared.report.Report.{Report}
-use Rattle.gx_history.specs.People.{user_in}
+use Rattle.gx_history.specs.People.{is_reader, role_in, user_in}
 use Rattle.gx_history.specs.Streams.{stream}
 use Rattle.gx_history.specs.Verdicts.{IsLegal}
 use Rattle.gx_history_laws.proofs.Adding.{user_is}
 use Rattle.gx_history_laws.proofs.Names.{same_user_flip}
 use Rattle.gx_streams.specs.Kept.{UserList, is_known, items_in, list_of}
-use Rattle.gx_streams.specs.Streams.{AllStreams, reports_in}
+use Rattle.gx_streams.specs.Sending.{KnowsReaders}
+use Rattle.gx_streams.specs.Streams.{AllStreams, is_told, mask_of, reports_in}
 use Rattle.gx_streams.specs.Telling.{UserReports, shown, shown_list, told_after, told_of}
 use Rattle.gx_streams.proofs.OnlyKnown.{only_known}
 
@@ -75,7 +76,13 @@ reports_are policy history streams legal h user =
     in_shown user streams.told ∙ ap (reports_for user) (shown_is policy history streams h) ∙ in_told policy history user policy.users
     ∙ stream_or_nothing policy history user legal (user_in policy.users user) refl
 
-pub known_are : (policy : PolicyData) (history : List RecordData) (streams : AllStreams) → shown streams ≡ told_after policy history
+known_are : (policy : PolicyData) (history : List RecordData) (streams : AllStreams) → shown streams ≡ told_after policy history
     → (user : UserName) → is_known streams.told user ≡ is_some (user_in policy.users user)
 known_are policy history streams h user =
     known_in_shown user streams.told ∙ ap (λ (lists : List UserReports). is_some (found_for user lists)) (shown_is policy history streams h) ∙ known_in_told policy history user policy.users
+
+pub told_are : (policy : PolicyData) (history : List RecordData) (streams : AllStreams) → shown streams ≡ told_after policy history → KnowsReaders policy streams
+    → (user : UserName) → is_told streams user ≡ (is_some (user_in policy.users user) && not (is_reader (role_in policy.users user)))
+told_are policy history streams h readers user =
+    ap (λ b. b && not (is_some (mask_of streams user))) (known_are policy history streams h user)
+    ∙ ap (λ b. is_some (user_in policy.users user) && not b) (readers user)

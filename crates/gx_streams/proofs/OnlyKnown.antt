@@ -1,8 +1,9 @@
--- A legal history tells nothing to a user whom the policy does not know.
-use Rattle.std.proofs.Common.{◌≡◌, ℕ, Bool, true, false, cond, List, [], ◌∷◌, ◌++◌, map, drop, not, refl, ◌∙◌, ap, sym, subst, inl, inr, ◌⊎◌}
+-- A legal history tells a user who neither trades nor gives commands of drop copies alone, and nothing to one whom the policy does not know.
+use Rattle.std.proofs.Common.{◌≡◌, ℕ, Bool, true, false, cond, List, [], ◌∷◌, ◌++◌, append_assoc, length, map, take, drop, not, refl, ◌∙◌, ap, sym, subst, inl, inr, ◌⊎◌}
 use Rattle.std.specs.Prelude.{Option, Some, None, filter, flat_map, find, option_and_then, option_map, option_to_list, ◌&&◌, ◌==◌}
 use Rattle.std.specs.Option.{option_map_or}
 use Rattle.std.specs.List.{AllByRecursion}
+use Rattle.std.proofs.lemmas.List.{append-nil}
 use Rattle.gx_units.specs.Names.{same_user}
 use Rattle.gx_units.specs.declared.names.UserName.{UserName}
 use Rattle.gx_ouch.specs.declared.letters.CancelReason.TheVariants as cancels
@@ -18,6 +19,7 @@ use Rattle.gx_history.specs.declared.facts.RuleFigures.{RuleFigures}
 use Rattle.gx_history.specs.declared.policy.FileRule.{FileRule}
 use Rattle.gx_history.specs.declared.policy.PolicyData.{PolicyData}
 use Rattle.gx_history.specs.declared.policy.Role.{Role}
+use Rattle.gx_history.specs.declared.policy.Role.TheVariants as roles
 use Rattle.gx_history.specs.declared.policy.User.{User}
 use Rattle.gx_history.specs.declared.record.Asked.{Asked}
 use Rattle.gx_history.specs.declared.record.Fill.{Fill}
@@ -34,54 +36,68 @@ use Rattle.gx_history.specs.declared.report.Message.{Message}
 use Rattle.gx_history.specs.declared.report.Message.TheVariants as messages
 use Rattle.gx_history.specs.declared.report.Report.{Report}
 use Rattle.gx_history.specs.Asking.{facts, fits_role}
-use Rattle.gx_history.specs.Brought.{copies_are_sent}
 use Rattle.gx_history.specs.Executions.{Execution, Standing, executions, live_orders, is_live, side_of, sides, standing, standing_numbered, standings}
 use Rattle.gx_history.specs.InForce.{grant_or_revoke_of, in_role, is_entitled, last_mark}
 use Rattle.gx_history.specs.Orders.{Order, ends_account, order_numbered, orders}
-use Rattle.gx_history.specs.People.{account_of, account_of_role, is_reader, is_trader, role_in, user_in}
+use Rattle.gx_history.specs.People.{account_of, account_of_role, is_officer, is_reader, is_trader, role_in, user_in}
 use Rattle.gx_history.specs.Requests.{is_login}
 use Rattle.gx_history.specs.RuleNames.{rules_before, rules_behind}
 use Rattle.gx_history.specs.Rules.{BuiltIn, OfFile, applies, first_forbidding, name_of, written_order}
-use Rattle.gx_history.specs.Streams.{answer, canceled, copies_of, day_end, drop_copy, ended, executed_message, granted_code, reported, reports_of, reports_of_denial, reports_of_execution, reports_of_expiry, reports_of_grant, reports_of_verdict, stream, to_user}
+use Rattle.gx_history.specs.Streams.{answer, canceled, copies, copies_of, day_end, drop_copy, ended, executed_message, granted_code, reported, reports_of, reports_of_denial, reports_of_execution, reports_of_expiry, reports_of_grant, reports_of_verdict, stream, to_user}
+use Rattle.gx_streams.specs.Sending.{is_fill}
 use Rattle.gx_history.specs.Verdicts.{Follows, IsLegal, facts_now, next, rules_now, verdict_by}
 use Rattle.gx_history_laws.proofs.Adding.{user_is}
 use Rattle.gx_history_laws.proofs.Granting.{legal_keeps, verdict_left}
-use Rattle.gx_history_laws.proofs.NextReports.{stream_next, stream_none}
+use Rattle.gx_history_laws.proofs.NextReports.{copies_next, copies_none, stream_next, stream_none}
 use Rattle.gx_history_laws.proofs.Numbers.{all_weaker}
 use Rattle.gx_history_laws.proofs.Owners.{IsHisAccounts, all_both, filtered, orders_are_their_users}
 
--- the policy does not know the user
-abbrev IsUnknown : PolicyData → UserName → Type 0
-IsUnknown policy user = user_in policy.users user ≡ None
+-- the user neither trades nor gives commands
+pub record IsNoParty (policy : PolicyData) (user : UserName) : Type 0 where
+  pub trades_not : is_trader (role_in policy.users user) ≡ false
+  pub commands_not : is_officer (role_in policy.users user) ≡ false
 
-no_role : (policy : PolicyData) (user : UserName) → IsUnknown policy user → role_in policy.users user ≡ None
-no_role policy user h = ap (option_map (λ (u : User). u.role)) h
+no_account : (role : Option Role) → is_trader role ≡ false → option_and_then account_of_role role ≡ None
+no_account None h = refl
+no_account (Some (roles.Trader account)) h = cc
+no_account (Some (roles.Officer powers scope)) h = refl
+no_account (Some (roles.Reader accounts)) h = refl
+
+-- no request that needs a role fits him
+fits_none : (role : Option Role) → is_trader role ≡ false → is_officer role ≡ false → (q : Request) → fits_role role q ≡ fits_role None q
+fits_none role t o (requests.Enter m) = t
+fits_none role t o (requests.Replace m) = t
+fits_none role t o (requests.Cancel m) = t
+fits_none role t o (requests.Command c) = o
+fits_none role t o (requests.Login m) = refl
+fits_none role t o requests.Logout = refl
+fits_none role t o (requests.Unreadable m) = refl
 
 -- only users with an account have orders
 abbrev IsApart : UserName → Order → Type 0
 IsApart user o = same_user o.user user ≡ false
 
-apart : (policy : PolicyData) (user : UserName) → IsUnknown policy user → (o : Order) → IsHisAccounts policy o → IsApart user o
+apart : (policy : PolicyData) (user : UserName) → IsNoParty policy user → (o : Order) → IsHisAccounts policy o → IsApart user o
 apart policy user h o his = by (same_user o.user user) refl
   where
     by : (b : Bool) → same_user o.user user ≡ b → b ≡ false
     by true is =
-        let none : account_of policy user ≡ None = ap (option_and_then account_of_role) (no_role policy user h) in
+        let none : account_of policy user ≡ None = no_account (role_in policy.users user) h.trades_not in
         let some : account_of policy user ≡ Some o.account = ap (account_of policy) (sym (user_is o.user user is)) ∙ his in
         let no : Some o.account ≡ None = sym some ∙ none in
         cc
     by false is = refl
 
-all_apart : (policy : PolicyData) (history : List RecordData) (user : UserName) → IsUnknown policy user → AllByRecursion (IsApart user) (orders policy history)
+all_apart : (policy : PolicyData) (history : List RecordData) (user : UserName) → IsNoParty policy user → AllByRecursion (IsApart user) (orders policy history)
 all_apart policy history user h =
     all_weaker (IsHisAccounts policy) (IsApart user) (apart policy user h) (orders policy history) (orders_are_their_users policy history)
 
 -- lists of which nothing is left
-all_mapped : {X Y : Type 0} (P : Y → Type 0) (f : X → Y) (xs : List X) → AllByRecursion (λ (x : X). P (f x)) xs → AllByRecursion P (map f xs)
+pub all_mapped : {X Y : Type 0} (P : Y → Type 0) (f : X → Y) (xs : List X) → AllByRecursion (λ (x : X). P (f x)) xs → AllByRecursion P (map f xs)
 all_mapped P f [] h = tt
 all_mapped P f (x ∷ xs) h = (h.0, all_mapped P f xs h.1)
 
-all_found : {X : Type 0} (P : X → Type 0) (p : X → Bool) (xs : List X) → AllByRecursion P xs → AllByRecursion P (option_to_list (find p xs))
+pub all_found : {X : Type 0} (P : X → Type 0) (p : X → Bool) (xs : List X) → AllByRecursion P xs → AllByRecursion P (option_to_list (find p xs))
 all_found P p [] h = tt
 all_found {X} P p (x ∷ xs) h = by (p x) (all_found P p xs h.1)
   where
@@ -104,16 +120,16 @@ not_to receiver user ms h = ap (λ b. cond b ms []) h
 abbrev IsNotHis : UserName → Standing → Type 0
 IsNotHis user s = IsApart user s.order
 
-standings_apart : (policy : PolicyData) (history : List RecordData) (user : UserName) → IsUnknown policy user → AllByRecursion (IsNotHis user) (standings policy history)
+standings_apart : (policy : PolicyData) (history : List RecordData) (user : UserName) → IsNoParty policy user → AllByRecursion (IsNotHis user) (standings policy history)
 unfolding standings
 standings_apart policy history user h = all_mapped (IsNotHis user) (standing (executions policy history) history) (orders policy history) (all_apart policy history user h)
 
-live_apart : (policy : PolicyData) (history : List RecordData) (user : UserName) → IsUnknown policy user → AllByRecursion (IsNotHis user) (live_orders policy history)
+live_apart : (policy : PolicyData) (history : List RecordData) (user : UserName) → IsNoParty policy user → AllByRecursion (IsNotHis user) (live_orders policy history)
 unfolding live_orders
 live_apart policy history user h = filtered (IsNotHis user) is_live (standings policy history) (standings_apart policy history user h)
 
 -- no order of his ends by a command
-none_ended : (policy : PolicyData) (history : List RecordData) (action : Action) (user : UserName) → IsUnknown policy user → ended policy history action user ≡ []
+none_ended : (policy : PolicyData) (history : List RecordData) (action : Action) (user : UserName) → IsNoParty policy user → ended policy history action user ≡ []
 none_ended policy history action user h =
     ap (λ (xs : List Standing). flat_map (λ (s : Standing). canceled cancels.Supervisory s.open_shares s.order) xs)
     (none_left (λ (s : Standing). same_user s.order.user user && ends_account s.order.account action) (live_orders policy history)
@@ -121,7 +137,7 @@ none_ended policy history action user h =
     (λ s is. ap (λ b. b && ends_account s.order.account action) is) (live_orders policy history) (live_apart policy history user h)))
 
 -- the day's end is told to traders alone
-no_day_end : (policy : PolicyData) (action : Action) (user : UserName) → IsUnknown policy user → day_end policy action user ≡ []
+no_day_end : (policy : PolicyData) (action : Action) (user : UserName) → IsNoParty policy user → day_end policy action user ≡ []
 no_day_end policy (actions.Kill account) user h = refl
 no_day_end policy (actions.Lift account) user h = refl
 no_day_end policy (actions.SetLimit rule limit) user h = refl
@@ -130,7 +146,7 @@ no_day_end policy (actions.Unrestrict rule stock) user h = refl
 no_day_end policy (actions.Grant reader account) user h = refl
 no_day_end policy (actions.Revoke reader account) user h = refl
 no_day_end policy actions.CloseDay user h =
-    ap (λ (role : Option Role). cond (is_trader role) (messages.Order (outbounds.SystemEvent events.EndOfDay) ∷ []) []) (no_role policy user h)
+    ap (λ b. cond b (messages.Order (outbounds.SystemEvent events.EndOfDay) ∷ []) []) h.trades_not
 
 -- where the role does not fit, a rule that is not answered comes first
 abbrev first_named : List (FileRule × RuleFigures) → Facts → Request → Bool → Bool → Bool → Option RuleName
@@ -167,11 +183,11 @@ role_fits_is : (policy : PolicyData) (history : List RecordData) (a : Asked) →
 unfolding facts
 role_fits_is policy history a = refl
 
-unknown_denied : (policy : PolicyData) (history : List RecordData) (a : Asked) (r : RecordData) → next policy history (steps.Asked a) ≡ Some r → IsUnknown policy a.user
+unknown_denied : (policy : PolicyData) (history : List RecordData) (a : Asked) (r : RecordData) → next policy history (steps.Asked a) ≡ Some r → IsNoParty policy a.user
     → is_login a.request ≡ false → fits_role None a.request ≡ false → IsTurnedAway r
 unknown_denied policy history a r left h login fits =
     by (turned_away (rules_now policy history a) (facts_now policy history a) a.request (facts_now policy history a).is_on_this_line refl login
-    (role_fits_is policy history a ∙ ap (λ (role : Option Role). fits_role role a.request) (no_role policy a.user h) ∙ fits))
+    (role_fits_is policy history a ∙ fits_none (role_in policy.users a.user) h.trades_not h.commands_not a.request ∙ fits))
   where
     first : Option RuleName
     first = first_forbidding (rules_now policy history a) (facts_now policy history a) a.request
@@ -180,9 +196,9 @@ unknown_denied policy history a r left h login fits =
     by (inl e) = inl (sym (verdict_left policy history a r left) ∙ ap verdict_by e)
     by (inr e) = inr (sym (verdict_left policy history a r left) ∙ ap verdict_by e)
 
--- a user whom the policy does not know, and a record that follows the history
+-- such a user, and a record that follows the history
 record Case (policy : PolicyData) (history : List RecordData) (r : RecordData) (user : UserName) : Type 0 where
-  pub is_unknown : IsUnknown policy user
+  pub is_no_party : IsNoParty policy user
   pub follows : Follows policy (history, r)
 
 left_by : (policy : PolicyData) (history : List RecordData) (r : RecordData) (user : UserName) → Case policy history r user → (a : Asked) → r.step ≡ steps.Asked a
@@ -194,7 +210,7 @@ his_denial : (policy : PolicyData) (history : List RecordData) (r : RecordData) 
     → same_user a.user user ≡ true → is_login q ≡ false → fits_role None q ≡ false → IsTurnedAway r
 his_denial policy history r user c a q asks e is login fits =
     let named : user ≡ a.user = sym (user_is a.user user is) in
-    unknown_denied policy history a r (left_by policy history r user c a asks) (subst (λ (u : UserName). IsUnknown policy u) named c.is_unknown) (ap is_login e ∙ login) (ap (fits_role None) e ∙ fits)
+    unknown_denied policy history a r (left_by policy history r user c a asks) (subst (IsNoParty policy) named c.is_no_party) (ap is_login e ∙ login) (ap (fits_role None) e ∙ fits)
 
 -- a granted request of a trader or an officer is another's
 not_his : (policy : PolicyData) (history : List RecordData) (r : RecordData) (user : UserName) → Case policy history r user → (a : Asked) (q : Request) → r.step ≡ steps.Asked a → a.request ≡ q
@@ -219,8 +235,8 @@ grant_owes policy history r user c a (requests.Replace m) asks e granted = not_t
 grant_owes policy history r user c a (requests.Cancel m) asks e granted = not_to a.user user _ (not_his policy history r user c a (requests.Cancel m) asks e granted refl refl)
 grant_owes policy history r user c a (requests.Command m) asks e granted =
     let told : List Message = answer r m (granted_code policy (history ++ r ∷ []) m) in
-    ap (λ (ms : List Message). (ms ++ day_end policy m.action user) ++ to_user a.user user told) (none_ended policy history m.action user c.is_unknown)
-    ∙ ap (λ (ms : List Message). ms ++ to_user a.user user told) (no_day_end policy m.action user c.is_unknown)
+    ap (λ (ms : List Message). (ms ++ day_end policy m.action user) ++ to_user a.user user told) (none_ended policy history m.action user c.is_no_party)
+    ∙ ap (λ (ms : List Message). ms ++ to_user a.user user told) (no_day_end policy m.action user c.is_no_party)
     ∙ not_to a.user user told (not_his policy history r user c a (requests.Command m) asks e granted refl refl)
 
 nothing_to : (b : Bool) → cond {A = List Message} b [] [] ≡ []
@@ -262,7 +278,7 @@ side_apart known f liquidity number user h =
     all_mapped (IsNoSideOf user) (λ (o : Order). let e : Execution = record { fill = f; liquidity = liquidity; order = o } in e) (option_to_list (order_numbered known number))
     (all_found (IsApart user) (λ (o : Order). o.number == number) known h)
 
-fill_owes : (policy : PolicyData) (history : List RecordData) (r : RecordData) (user : UserName) (f : Fill) → IsUnknown policy user
+fill_owes : (policy : PolicyData) (history : List RecordData) (r : RecordData) (user : UserName) (f : Fill) → IsNoParty policy user
     → flat_map (reports_of_execution r user) (sides policy history (verdicts.Filled f)) ≡ []
 fill_owes policy history r user f h =
     let known : List Order = orders policy history in
@@ -273,7 +289,7 @@ fill_owes policy history r user f h =
     (all_both (IsNoSideOf user) (side_of known f liquidities.Removed f.taker) (side_of known f liquidities.Added f.maker)
     (side_apart known f liquidities.Removed f.taker user others) (side_apart known f liquidities.Added f.maker user others)))
 
-expiry_owes : (policy : PolicyData) (history : List RecordData) (user : UserName) (number : ℕ) → IsUnknown policy user
+expiry_owes : (policy : PolicyData) (history : List RecordData) (user : UserName) (number : ℕ) → IsNoParty policy user
     → flat_map (reports_of_expiry user) (option_to_list (standing_numbered (standings policy history) number)) ≡ []
 expiry_owes policy history user number h =
     let found : List Standing = option_to_list (standing_numbered (standings policy history) number) in
@@ -288,33 +304,61 @@ verdict_owes policy history r user c verdicts.Granted (steps.Asked a) is asks = 
 verdict_owes policy history r user c verdicts.Granted (steps.Matching handed) is asks = refl
 verdict_owes policy history r user c (verdicts.Denied rule) (steps.Asked a) is asks = denial_owes policy history r user c a a.request rule asks refl is
 verdict_owes policy history r user c (verdicts.Denied rule) (steps.Matching handed) is asks = refl
-verdict_owes policy history r user c (verdicts.Filled f) step is asks = fill_owes policy history r user f c.is_unknown
+verdict_owes policy history r user c (verdicts.Filled f) step is asks = fill_owes policy history r user f c.is_no_party
 verdict_owes policy history r user c (verdicts.Rested number) step is asks = refl
-verdict_owes policy history r user c (verdicts.Expired number) step is asks = expiry_owes policy history user number c.is_unknown
+verdict_owes policy history r user c (verdicts.Expired number) step is asks = expiry_owes policy history user number c.is_no_party
 
--- nor is he entitled to any account
-not_entitled : (policy : PolicyData) (history : List RecordData) (user : UserName) (account : AccountName) → IsUnknown policy user → is_entitled policy history user account ≡ false
+-- so he is told of drop copies alone
+pub copies_alone : (policy : PolicyData) (history : List RecordData) (r : RecordData) (user : UserName) → IsNoParty policy user → Follows policy (history, r)
+    → reports_of policy user (history, r) ≡ copies_of policy user (history, r)
+copies_alone policy history r user h follows =
+    ap (λ (ms : List Message). map (reported r) ms ++ copies_of policy user (history, r)) (verdict_owes policy history r user (record { is_no_party = h; follows = follows }) r.verdict r.step refl refl)
+
+pub streams_are_copies : (policy : PolicyData) (history : List RecordData) (user : UserName) → IsLegal policy history → IsNoParty policy user → stream policy history user ≡ copies policy history user
+streams_are_copies policy history user legal h =
+    legal_keeps policy (λ (records : List RecordData). stream policy records user ≡ copies policy records user) (stream_none policy user ∙ sym (copies_none policy user))
+    (λ earlier r kept follows.
+    stream_next policy earlier r user
+    ∙ ap (λ (rs : List Report). rs ++ reports_of policy user (earlier, r)) kept
+    ∙ ap (λ (rs : List Report). copies policy earlier user ++ rs) (copies_alone policy earlier r user h follows)
+    ∙ sym (copies_next policy earlier r user))
+    history legal
+
+reader_is_no_party : (role : Option Role) → is_reader role ≡ true → (is_trader role ≡ false) × (is_officer role ≡ false)
+reader_is_no_party None h = cc
+reader_is_no_party (Some (roles.Trader account)) h = cc
+reader_is_no_party (Some (roles.Officer powers scope)) h = cc
+reader_is_no_party (Some (roles.Reader accounts)) h = (refl, refl)
+
+-- a reader
+pub readers_are : (policy : PolicyData) (user : UserName) → is_reader (role_in policy.users user) ≡ true → IsNoParty policy user
+readers_are policy user h =
+    let parts = reader_is_no_party (role_in policy.users user) h in
+    record { trades_not = parts.0; commands_not = parts.1 }
+
+no_role : (policy : PolicyData) (user : UserName) → user_in policy.users user ≡ None → role_in policy.users user ≡ None
+no_role policy user h = ap (option_map (λ (u : User). u.role)) h
+
+-- a user whom the policy does not know
+unknown_are : (policy : PolicyData) (user : UserName) → user_in policy.users user ≡ None → IsNoParty policy user
+unknown_are policy user h = record { trades_not = ap is_trader (no_role policy user h); commands_not = ap is_officer (no_role policy user h) }
+
+pub not_entitled : (policy : PolicyData) (history : List RecordData) (user : UserName) (account : AccountName) → is_reader (role_in policy.users user) ≡ false → is_entitled policy history user account ≡ false
 unfolding is_entitled
 not_entitled policy history user account h =
-    ap (λ (role : Option Role). is_reader role && last_mark (grant_or_revoke_of user account) history (option_map_or (λ x. in_role x account) role false)) (no_role policy user h)
-
-unsent : (sent b : Bool) (ms : List Message) → b ≡ false → cond (sent && b) ms [] ≡ []
-unsent sent b ms h = ap (λ x. cond (sent && x) ms []) h ∙ elim sent as (λ s. cond (s && false) ms [] ≡ []) [ true ↦ refl | false ↦ refl ]
-
-no_copy : (policy : PolicyData) (history : List RecordData) (r : RecordData) (user : UserName) → IsUnknown policy user → (e : Execution) → drop_copy policy history r user e ≡ []
-no_copy policy history r user h e =
-    unsent copies_are_sent (is_entitled policy history user e.order.account)
-    (messages.DropCopy (record { executed = executed_message r e; account = e.order.account; side = e.order.terms.side }) ∷ [])
-    (not_entitled policy history user e.order.account h)
+    ap (λ b. b && last_mark (grant_or_revoke_of user account) history (option_map_or (λ x. in_role x account) (role_in policy.users user) false)) h
 
 none_of_each : {X Y : Type 0} (f : X → List Y) → ((x : X) → f x ≡ []) → (xs : List X) → flat_map f xs ≡ []
 none_of_each f h [] = refl
 none_of_each {X} {Y} f h (x ∷ xs) = ap (λ (ys : List Y). ys ++ flat_map f xs) (h x) ∙ none_of_each f h xs
 
-owes_nothing : (policy : PolicyData) (history : List RecordData) (r : RecordData) (user : UserName) → Case policy history r user → reports_of policy user (history, r) ≡ []
-owes_nothing policy history r user c =
-    ap (λ (ms : List Message). map (reported r) ms ++ copies_of policy user (history, r)) (verdict_owes policy history r user c r.verdict r.step refl refl)
-    ∙ ap (map (reported r)) (none_of_each (drop_copy policy history r user) (no_copy policy history r user c.is_unknown) (sides policy history r.verdict))
+-- who is no reader is sent no copies
+pub no_copies : (policy : PolicyData) (history : List RecordData) (r : RecordData) (user : UserName) → is_reader (role_in policy.users user) ≡ false → copies_of policy user (history, r) ≡ []
+no_copies policy history r user h =
+    ap (map (reported r))
+    (none_of_each (drop_copy policy history r user)
+    (λ e. ap (λ b. cond b (messages.DropCopy (record { executed = executed_message r e; account = e.order.account; side = e.order.terms.side }) ∷ []) []) (not_entitled policy history user e.order.account h))
+    (sides policy history r.verdict))
 
 pub only_known : (policy : PolicyData) (history : List RecordData) (user : UserName) → IsLegal policy history → user_in policy.users user ≡ None → stream policy history user ≡ []
 only_known policy history user legal h =
@@ -322,5 +366,46 @@ only_known policy history user legal h =
     (λ earlier r kept follows.
     stream_next policy earlier r user
     ∙ ap (λ (rs : List Report). rs ++ reports_of policy user (earlier, r)) kept
-    ∙ owes_nothing policy earlier r user (record { is_unknown = h; follows = follows }))
+    ∙ copies_alone policy earlier r user (unknown_are policy user h) follows
+    ∙ no_copies policy earlier r user (ap is_reader (no_role policy user h)))
     history legal
+
+-- only a fill sends copies
+no_sides : (policy : PolicyData) (history : List RecordData) (v : Verdict) → is_fill v ≡ false → sides policy history v ≡ []
+no_sides policy history verdicts.Granted h = refl
+no_sides policy history (verdicts.Denied rule) h = refl
+no_sides policy history (verdicts.Filled f) h = cc
+no_sides policy history (verdicts.Rested number) h = refl
+no_sides policy history (verdicts.Expired number) h = refl
+
+pub none_sent : (policy : PolicyData) (history : List RecordData) (r : RecordData) (user : UserName) → is_fill r.verdict ≡ false → copies_of policy user (history, r) ≡ []
+none_sent policy history r user h = ap (λ (es : List Execution). map (reported r) (flat_map (drop_copy policy history r user) es)) (no_sides policy history r.verdict h)
+
+pub fills_alone : (policy : PolicyData) (history : List RecordData) (r : RecordData) (reader : UserName) → is_fill r.verdict ≡ false → copies policy (history ++ r ∷ []) reader ≡ copies policy history reader
+fills_alone policy history r reader h =
+    copies_next policy history r reader ∙ ap (λ (rs : List Report). copies policy history reader ++ rs) (none_sent policy history r reader h) ∙ append-nil (copies policy history reader)
+
+-- what later records send, behind what was sent
+sent_by : PolicyData → List RecordData → List RecordData → UserName → List Report
+sent_by policy history [] reader = []
+sent_by policy history (r ∷ later) reader = copies_of policy reader (history, r) ++ sent_by policy (history ++ r ∷ []) later reader
+
+sent_more : (policy : PolicyData) (history later : List RecordData) (reader : UserName)
+    → copies policy (history ++ later) reader ≡ copies policy history reader ++ sent_by policy history later reader
+unfolding sent_by
+sent_more policy history [] reader = ap (λ (rs : List RecordData). copies policy rs reader) (append-nil history) ∙ sym (append-nil (copies policy history reader))
+sent_more policy history (r ∷ later) reader =
+    ap (λ (rs : List RecordData). copies policy rs reader) (sym (append_assoc history (r ∷ []) later))
+    ∙ sent_more policy (history ++ r ∷ []) later reader
+    ∙ ap (λ (rs : List Report). rs ++ sent_by policy (history ++ r ∷ []) later reader) (copies_next policy history r reader)
+    ∙ append_assoc (copies policy history reader) (copies_of policy reader (history, r)) (sent_by policy (history ++ r ∷ []) later reader)
+
+front : (xs ys : List Report) → take (length xs) (xs ++ ys) ≡ xs
+front [] ys = refl
+front (x ∷ xs) ys = ap (λ (rest : List Report). x ∷ rest) (front xs ys)
+
+pub sent_is_kept : (policy : PolicyData) (history later : List RecordData) (reader : UserName)
+    → take (length (copies policy history reader)) (copies policy (history ++ later) reader) ≡ copies policy history reader
+sent_is_kept policy history later reader =
+    ap (take (length (copies policy history reader))) (sent_more policy history later reader)
+    ∙ front (copies policy history reader) (sent_by policy history later reader)

@@ -1,14 +1,16 @@
 -- The lists of users after one of them changed, and the places that are kept.
-use Rattle.std.proofs.Common.{◌≡◌, ℕ, ◌+◌, ◌-◌, ◌<◌, ◌≤◌, max, Bool, true, false, cond, List, [], ◌∷◌, ◌++◌, length, map, refl, ◌∙◌, ap, sym, arith, true≢false, if◌then◌else◌}
+use Rattle.std.proofs.Common.{◌≡◌, ℕ, ◌+◌, ◌-◌, ◌<◌, ◌≤◌, max, Bool, true, false, not, ◌&&◌, cond, List, [], ◌∷◌, ◌++◌, length, map, refl, ◌∙◌, ap, sym, arith, true≢false, if◌then◌else◌}
 use Rattle.std.specs.Prelude.{Option, Some, None, is_some, filter}
 use Rattle.std.specs.Option.{option_map_or}
 use Rattle.gx_units.specs.Names.{same_user}
 use Rattle.gx_units.specs.declared.names.UserName.{UserName}
 use Rattle.gx_history.specs.declared.report.Report.{Report}
 use Rattle.gx_history_laws.proofs.Adding.{user_is, user_is_itself}
+use Rattle.gx_history_laws.proofs.Judging.{both}
 use Rattle.gx_streams.specs.Kept.{Kept, UserList, is_known, list_of, on_user, places_in, with_kept_last, with_last, with_places}
-use Rattle.gx_streams.specs.Streams.{AllStreams, on_told}
+use Rattle.gx_streams.specs.Streams.{AllStreams, is_told, mask_of, on_told}
 use Rattle.gx_streams.specs.Telling.{owed_to, with_all_owed, with_owed}
+use Rattle.gx_streams.proofs.Users.{known_after}
 
 abbrev picked : (Kept Report → Kept Report) → UserList Report → Bool → UserList Report
 picked change l b = if b then record { user = l.user; kept = change l.kept } else l
@@ -55,18 +57,8 @@ another {Y} of otherwise user change other apart (l ∷ ls) = by (same_user user
         ap (λ b. found (on_user user change ls) (same_user other (picked change l b).user) (picked change l b)) is
         ∙ ap (λ b. found (on_user user change ls) b l) is_other ∙ later ∙ sym (ap (λ b. found ls b l) is_other)
 
-known_after : (lists : List (UserList Report)) (user : UserName) (change : Kept Report → Kept Report) (other : UserName) → is_known (on_user user change lists) other ≡ is_known lists other
-known_after [] user change other = refl
-known_after (l ∷ ls) user change other =
-    elim (same_user user l.user) as (λ b. let m : UserList Report = if b then record { user = l.user; kept = change l.kept } else l in is_some (cond (same_user other m.user) (Some m) (list_of (on_user user change ls) other)) ≡ is_known (l ∷ ls) other)
-    [ true ↦ step (record { user = l.user; kept = change l.kept }) (known_after ls user change other) | false ↦ step l (known_after ls user change other) ]
-  where
-    step : (changed : UserList Report) → is_known (on_user user change ls) other ≡ is_known ls other → is_some (cond (same_user other l.user) (Some changed) (list_of (on_user user change ls) other)) ≡ is_some (cond (same_user other l.user) (Some l) (list_of ls other))
-    step changed later = elim (same_user other l.user) as (λ b. is_some (cond b (Some changed) (list_of (on_user user change ls) other)) ≡ is_some (cond b (Some l) (list_of ls other)))
-        [ true ↦ refl | false ↦ later ]
-
-pub users_stay : (streams : AllStreams) (user : UserName) (change : Kept Report → Kept Report) (other : UserName) → is_known (on_told user change streams).told other ≡ is_known streams.told other
-users_stay streams user change other = known_after streams.told user change other
+pub users_stay : (streams : AllStreams) (user : UserName) (change : Kept Report → Kept Report) (other : UserName) → is_told (on_told user change streams) other ≡ is_told streams other
+users_stay streams user change other = ap (λ b. b && not (is_some (mask_of streams other))) (known_after streams.told user other change)
 
 pub others_keep : (streams : AllStreams) (user : UserName) (change : Kept Report → Kept Report) (other : UserName)
     → same_user user other ≡ false → places_in (on_told user change streams).told other ≡ places_in streams.told other
@@ -94,8 +86,10 @@ so_many None places known = absurd (true≢false (sym known))
 so_many (Some l) places known = refl
 
 pub places_kept : (streams : AllStreams) (user : UserName) (places : ℕ)
-    → is_known streams.told user ≡ true → places_in (on_told user (with_places places) streams).told user ≡ max (places_in streams.told user) places
-places_kept streams user places known = his (λ (k : Kept Report). k.spare) 0 user (with_places places) streams.told ∙ so_many (list_of streams.told user) places known
+    → is_told streams user ≡ true → places_in (on_told user (with_places places) streams).told user ≡ max (places_in streams.told user) places
+places_kept streams user places told =
+    let known : is_known streams.told user ≡ true = (both (is_known streams.told user) (not (is_some (mask_of streams user))) told).0 in
+    his (λ (k : Kept Report). k.spare) 0 user (with_places places) streams.told ∙ so_many (list_of streams.told user) places known
 
 -- how many are owed to the user, by whether the first is
 count_at : (o : UserName × Report) (owed : List (UserName × Report)) (user : UserName) (b : Bool) → same_user o.0 user ≡ b

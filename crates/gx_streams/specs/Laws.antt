@@ -1,5 +1,5 @@
 -- What the streams show, beside what a day's records tell each user.
-use Rattle.std.specs.Prelude.{◌≡◌, ◌-◌, ◌<◌, ◌≤◌, ℕ, max, IsTrue, IsFalse, is_some, length, List, [], ◌∷◌, ◌++◌, map, filter, None, ◌&&◌}
+use Rattle.std.specs.Prelude.{◌≡◌, ◌-◌, ◌<◌, ◌≤◌, ℕ, max, IsTrue, IsFalse, is_some, length, take, List, [], ◌∷◌, ◌++◌, map, filter, None, ◌&&◌, not, false}
 use Rattle.gx_units.specs.Names.{same_user}
 use Rattle.gx_units.specs.declared.names.UserName.{UserName}
 use Rattle.gx_desk.specs.declared.Action.{Action}
@@ -9,11 +9,13 @@ use Rattle.gx_history.specs.declared.report.Message.{Message}
 use Rattle.gx_history.specs.declared.report.Report.{Report}
 use Rattle.gx_history.specs.Executions.{Standing, live_orders}
 use Rattle.gx_history.specs.Orders.{ends_account}
-use Rattle.gx_history.specs.People.{user_in}
-use Rattle.gx_history.specs.Streams.{ended, reported, reports_of, stream, to_user}
+use Rattle.gx_history.specs.People.{is_reader, role_in, user_in}
+use Rattle.gx_history.specs.Streams.{copies, ended, reported, reports_of, stream, to_user}
 use Rattle.gx_history.specs.Verdicts.{IsLegal}
-use Rattle.gx_streams.specs.Kept.{Kept, is_known, places_in, with_kept_last, with_last, with_places}
-use Rattle.gx_streams.specs.Streams.{AllStreams, empty_streams, on_told, reports_in}
+use Rattle.gx_streams.specs.Kept.{Kept, places_in, with_kept_last, with_last, with_places}
+use Rattle.gx_streams.specs.declared.fill.ToldFill.{ToldFill}
+use Rattle.gx_streams.specs.Sending.{AreSent, IsMadeBy, KnowsReaders, is_fill}
+use Rattle.gx_streams.specs.Streams.{AllStreams, empty_streams, is_told, on_told, reports_in, told_by_fill, with_fill}
 use Rattle.gx_streams.specs.Telling.{each_told, owed_for_ended, owed_message, owed_to, shown, told_after, told_to, with_all_owed, with_owed}
 
 -- the record owes messages to one user alone
@@ -166,10 +168,10 @@ abbrev pub StaysToldByNone : Type 0
 StaysToldByNone = (policy : PolicyData) (before after : List RecordData) (streams : AllStreams)
     → shown streams ≡ told_after policy before → TellsNobody policy before after → shown streams ≡ told_after policy after
 
--- no change of a list changes who is known
+-- no change of a list changes who is told
 abbrev pub UsersStay : Type 0
 UsersStay = (streams : AllStreams) (user : UserName) (change : Kept Report → Kept Report) (other : UserName)
-    → is_known (on_told user change streams).told other ≡ is_known streams.told other
+    → is_told (on_told user change streams) other ≡ is_told streams other
 
 -- a change of one user's list leaves the places of all others
 abbrev pub OthersKeepPlaces : Type 0
@@ -189,7 +191,7 @@ OnePlaceIsTaken = (streams : AllStreams) (user : UserName) (report : Report)
 -- at least as many places are kept as were asked for
 abbrev pub PlacesAreKept : Type 0
 PlacesAreKept = (streams : AllStreams) (user : UserName) (places : ℕ)
-    → IsTrue (is_known streams.told user) → places_in (on_told user (with_places places) streams).told user ≡ max (places_in streams.told user) places
+    → IsTrue (is_told streams user) → places_in (on_told user (with_places places) streams).told user ≡ max (places_in streams.told user) places
 
 -- reports told in turn take as many places of each user as are for him
 abbrev pub OwedTakePlaces : Type 0
@@ -212,8 +214,33 @@ ReportsAreStreams = (policy : PolicyData) (history : List RecordData) (streams :
     → IsLegal policy history → shown streams ≡ told_after policy history
     → (user : UserName) → reports_in streams user ≡ stream policy history user
 
--- and who is known is known to the policy
+-- and who is told is known to the policy, and no reader
 abbrev pub KnownAreThePolicys : Type 0
 KnownAreThePolicys = (policy : PolicyData) (history : List RecordData) (streams : AllStreams)
-    → shown streams ≡ told_after policy history
-    → (user : UserName) → is_known streams.told user ≡ is_some (user_in policy.users user)
+    → shown streams ≡ told_after policy history → KnowsReaders policy streams
+    → (user : UserName) → is_told streams user ≡ (is_some (user_in policy.users user) && not (is_reader (role_in policy.users user)))
+
+-- a fill is shown last of each whom it tells
+abbrev pub FillsAreShown : Type 0
+FillsAreShown = (streams : AllStreams) (f : ToldFill) → shown (with_fill f streams) ≡ each_told (told_by_fill streams.readers f) (shown streams)
+
+-- where what is shown is what was told, and each reader gets the fills of the accounts that are his: so it is once the record's fill is told
+abbrev pub StaysToldByFill : Type 0
+StaysToldByFill = (policy : PolicyData) (history : List RecordData) (r : RecordData) (streams : AllStreams) (f : ToldFill)
+    → length policy.accounts ≤ 64 → shown streams ≡ told_after policy history → AreSent policy history streams → IsMadeBy policy history r f
+    → shown (with_fill f streams) ≡ told_after policy (history ++ r ∷ [])
+
+-- a reader is told exactly the drop copies of the fills of accounts then his
+abbrev pub ReadersAreSentCopies : Type 0
+ReadersAreSentCopies = (policy : PolicyData) (history : List RecordData) (reader : UserName)
+    → IsLegal policy history → IsTrue (is_reader (role_in policy.users reader)) → stream policy history reader ≡ copies policy history reader
+
+-- and a record that makes no fill, as a Grant or a Revoke, tells him nothing and takes nothing back
+abbrev pub FillsAloneAreSent : Type 0
+FillsAloneAreSent = (policy : PolicyData) (history : List RecordData) (r : RecordData) (reader : UserName)
+    → is_fill r.verdict ≡ false → copies policy (history ++ r ∷ []) reader ≡ copies policy history reader
+
+-- nor does any later record, a fill among them, change what he was told: more comes behind it
+abbrev pub SentIsKept : Type 0
+SentIsKept = (policy : PolicyData) (history later : List RecordData) (reader : UserName)
+    → take (length (copies policy history reader)) (copies policy (history ++ later) reader) ≡ copies policy history reader

@@ -1,5 +1,9 @@
 pub mod Kept
+pub mod Fills
+pub mod Spans
 pub mod Streams
 pub mod Table
+pub mod Windows
 pub mod Telling
+pub mod Sending
 pub mod Laws

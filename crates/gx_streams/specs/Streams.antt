@@ -1,22 +1,74 @@
--- Streams: the reports of each user, and the places kept for more.
-use Rattle.std.specs.Prelude.{List}
+-- Streams: the reports of each user, the places kept for more, and the mask in force of each reader.
+use Rattle.std.specs.Prelude.{ℕ, Bool, ◌&&◌, not, is_some, List, [], ◌∷◌, ◌++◌, Option, Some, map, option_map, if◌then◌else◌}
+use Rattle.std.specs.Option.{option_map_or}
+use Rattle.std.specs.List.{find, flat_map}
+use Rattle.gx_units.specs.Names.{same_user}
 use Rattle.gx_units.specs.declared.names.UserName.{UserName}
 use Rattle.gx_history.specs.declared.policy.PolicyData.{PolicyData}
+use Rattle.gx_history.specs.declared.policy.User.{User}
 use Rattle.gx_history.specs.declared.report.Report.{Report}
-use Rattle.gx_streams.specs.Kept.{Kept, UserList, items_in, nothing_told, on_user}
+use Rattle.gx_history.specs.People.{is_reader}
+use Rattle.gx_streams.specs.declared.fill.ToldFill.{ToldFill}
+use Rattle.gx_streams.specs.Fills.{copies_of, executed_of}
+use Rattle.gx_streams.specs.Kept.{Kept, UserList, at_first, is_known, items_in, nothing_told, on_user}
 
--- the lists of all users
+-- a reader, and the accounts whose later fills he gets, in the file's order, the first in the lowest bit
+pub record ReaderMask : Type 0 where
+  pub user : UserName
+  pub mask : ℕ
+
+-- the lists of all users, and the masks of the readers among them
 pub record AllStreams : Type 0 where
   pub told : List (UserList Report)
+  pub readers : List ReaderMask
 
 -- the user's reports; none of a user who is not known
 abbrev pub reports_in : AllStreams → UserName → List Report
 reports_in streams user = items_in streams.told user
 
+-- the mask of the reader of this name
+abbrev pub mask_in : List ReaderMask → UserName → Option ℕ
+mask_in readers user = option_map (λ (r : ReaderMask). r.mask) (find (λ (r : ReaderMask). same_user user r.user) readers)
+
+-- the user's mask, if he is a reader
+abbrev pub mask_of : AllStreams → UserName → Option ℕ
+mask_of streams user = mask_in streams.readers user
+
+-- the user is known and no reader: reports are put into his stream one by one
+abbrev pub is_told : AllStreams → UserName → Bool
+is_told streams user = is_known streams.told user && not (is_some (mask_of streams user))
+
 -- one user's list changed, and all else as it was
 abbrev pub on_told : UserName → (Kept Report → Kept Report) → AllStreams → AllStreams
-on_told user change streams = record { told = on_user user change streams.told }
+on_told user change streams = record { told = on_user user change streams.told; readers = streams.readers }
 
--- the policy's users, whom nothing was told
+-- what a fill tells a user: a reader the drop copies by his mask, any other the reports of his sides
+abbrev pub told_by_fill : List ReaderMask → ToldFill → UserName → List Report
+told_by_fill readers f user = option_map_or (λ (mask : ℕ). copies_of mask f) (mask_in readers user) (executed_of f user)
+
+-- a user's list with what the fill tells him last
+abbrev pub with_fill_told : List ReaderMask → ToldFill → UserList Report → UserList Report
+with_fill_told readers f l = record { user = l.user; kept = record { items = l.kept.items ++ told_by_fill readers f l.user; spare = l.kept.spare } }
+
+-- the fill told to each user
+abbrev pub with_fill : ToldFill → AllStreams → AllStreams
+with_fill f streams = record { told = map (with_fill_told streams.readers f) streams.told; readers = streams.readers }
+
+-- the reader gets the later fills of these accounts
+abbrev pub with_mask : ℕ → ReaderMask → ReaderMask
+with_mask mask r = record { user = r.user; mask = mask }
+
+-- one reader gets the later fills of these accounts; no list changes
+abbrev pub entitled : UserName → ℕ → AllStreams → AllStreams
+entitled user mask streams = record {
+  told = streams.told;
+  readers = at_first (λ (r : ReaderMask). same_user user r.user) (with_mask mask) streams.readers;
+}
+
+-- a reader gets nothing yet
+abbrev pub no_mask : User → List ReaderMask
+no_mask u = if is_reader (Some u.role) then (record { user = u.name; mask = 0 }) ∷ [] else []
+
+-- the policy's users, whom nothing was told, and its readers, who get nothing yet
 abbrev pub empty_streams : PolicyData → AllStreams
-empty_streams policy = record { told = nothing_told policy }
+empty_streams policy = record { told = nothing_told policy; readers = flat_map no_mask policy.users }

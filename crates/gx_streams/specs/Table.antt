@@ -1,18 +1,64 @@
--- The streams that the table stands for.
-use Rattle.std.specs.Prelude.{List, map}
+-- The streams that the tables stand for.
+use Rattle.std.specs.Prelude.{◌<◌, ℕ, IsTrue, List, length, map}
+use Rattle.std.specs.Option.{option_map_or}
+use Rattle.std.specs.List.{AllByRecursion, find, slice_get}
 use Rattle.gx_units.specs.declared.names.UserName.{UserName}
+use Rattle.gx_ouch.specs.declared.outbound.Outbound.TheVariants as outbounds
+use Rattle.gx_ouch.specs.declared.letters.EventCode.TheVariants as events
+use Rattle.gx_history.specs.declared.report.Message.TheVariants as messages
 use Rattle.gx_history.specs.declared.report.Report.{Report}
-use Rattle.gx_streams.specs.Kept.{Kept, UserList}
-use Rattle.gx_streams.specs.Streams.{AllStreams}
+use Rattle.gx_streams.specs.declared.fill.ToldFill.{ToldFill}
+use Rattle.gx_streams.specs.declared.entry.Entry.{Entry}
+use Rattle.gx_streams.specs.declared.entry.Entry.TheVariants as entries
+use Rattle.gx_streams.specs.Fills.{executed_report}
+use Rattle.gx_streams.specs.Kept.{Kept, UserList, is_known}
+use Rattle.gx_streams.specs.Spans.{ReaderSpans, IsSound, copies_in, is_named}
+use Rattle.gx_streams.specs.Streams.{AllStreams, ReaderMask}
 
 -- the user of an entry
-abbrev pub user_list : UserName × Kept Report → UserList Report
+abbrev pub user_list : UserName × Kept Entry → UserList Entry
 user_list e = record { user = e.0; kept = e.1 }
 
 -- the users of the entries
-abbrev pub lists_of : List (UserName × Kept Report) → List (UserList Report)
+abbrev pub lists_of : List (UserName × Kept Entry) → List (UserList Entry)
 lists_of es = map user_list es
 
--- the streams of the entries
-abbrev pub streams_of : List (UserName × Kept Report) → AllStreams
-streams_of es = record { told = lists_of es }
+-- stands for a fill that is not there, which no entry names
+abbrev pub no_report : Report
+no_report = record { timestamp = 0; message = messages.Order (outbounds.SystemEvent events.EndOfDay) }
+
+-- the report that an entry stands for
+abbrev pub report_of : List ToldFill → Entry → Report
+report_of fills (entries.Typed report) = report
+report_of fills (entries.Filled place party) = option_map_or (λ (f : ToldFill). executed_report f party) (slice_get fills place) no_report
+
+-- the fill of the entry, if it has one, is there
+abbrev pub IsThere : ℕ → Entry → Type 0
+IsThere count (entries.Typed report) = Unit {0}
+IsThere count (entries.Filled place party) = place < count
+
+-- the reports that entries stand for
+abbrev pub kept_reports : List ToldFill → Kept Entry → Kept Report
+kept_reports fills kept = record { items = map (report_of fills) kept.items; spare = kept.spare }
+
+-- the drop copies that a reader's spans stand for; no place is kept for him
+abbrev pub kept_copies : List ToldFill → ReaderSpans → Kept Report
+kept_copies fills r = record { items = copies_in fills r.earlier r.current; spare = 0 }
+
+-- what a user was told: a reader his drop copies, any other what his entries stand for
+abbrev pub list_shown : List ToldFill → List ReaderSpans → UserList Entry → UserList Report
+list_shown fills readers l = record { user = l.user; kept = option_map_or (kept_copies fills) (find (is_named l.user) readers) (kept_reports fills l.kept) }
+
+-- the mask in force of a reader
+abbrev pub reader_mask : ReaderSpans → ReaderMask
+reader_mask r = record { user = r.user; mask = r.current.mask }
+
+-- the streams that fills, entries and spans stand for
+abbrev pub streams_of : List ToldFill → List (UserList Entry) → List ReaderSpans → AllStreams
+streams_of fills told readers = record { told = map (list_shown fills readers) told; readers = map reader_mask readers }
+
+-- each entry's fill is there, each reader's spans are sound, and he is one of the users
+pub record IsSoundTable (fills : List ToldFill) (told : List (UserList Entry)) (readers : List ReaderSpans) : Type 0 where
+  pub there : AllByRecursion (λ (l : UserList Entry). AllByRecursion (IsThere (length fills)) l.kept.items) told
+  pub sound : AllByRecursion (IsSound fills) readers
+  pub known : AllByRecursion (λ (r : ReaderSpans). IsTrue (is_known told r.user)) readers

@@ -1,6 +1,7 @@
 //! Laws of the definitions, each as what a function without a body ensures.
 
 ghost use Rattle.gx_streams.specs.Laws.{AllAreTold, AllOwedAreShown, AllOwedAreTold, EachHasAPlace, EndedAndAnswerAreTold, EndedAreCounted, EndedAreOwed, EndedAreTold, FirstNothingIsTold, KeptLastIsShown, KnownAreThePolicys, LastIsShown, NoPlaceIsTaken, NoneForOneIsNone, NobodyIsTold, NothingOwedIsTold, OneOwedIsTold, OnePlaceIsTaken, OneIsAmongAll, OneIsTold, OnlyKnownAreTold, OthersKeepPlaces, OwedGoOn, OwedTakePlaces, PlacesAreKept, PlacesAreNotShown, ReportsAreStreams, StaysToldByAll, StaysToldByNone, StaysToldByOne, TellingGoesOn, TwoAreAmongAll, UsersStay};
+ghost use Rattle.gx_streams.specs.Laws.{FillsAloneAreSent, FillsAreShown, ReadersAreSentCopies, SentIsKept, StaysToldByFill};
 
 /// What a day's records tell each user goes on record by record: each adds what it owes to the end.
 pub fn streams_go_on()
@@ -18,6 +19,7 @@ pub fn changes_are_shown()
     ensures last { LastIsShown }
     ensures kept { KeptLastIsShown }
     ensures places { PlacesAreNotShown }
+    ensures fills { FillsAreShown }
     ensures owed { AllOwedAreShown }
     ensures next { OwedGoOn }
 {}
@@ -27,6 +29,7 @@ pub fn streams_stay_told()
     ensures one { StaysToldByOne }
     ensures all { StaysToldByAll }
     ensures none { StaysToldByNone }
+    ensures fill { StaysToldByFill }
 {}
 
 /// What a record owes is what it adds to the streams.
@@ -61,4 +64,12 @@ pub fn only_the_known_are_told()
 pub fn reports_are_streams()
     ensures reports { ReportsAreStreams }
     ensures known { KnownAreThePolicys }
+{}
+
+/// A reader's stream is exactly the drop copies of the fills of accounts then his, and nothing but a fill adds to it:
+/// what is granted or revoked later changes nothing that he was told.
+pub fn readers_are_sent_copies()
+    ensures copies { ReadersAreSentCopies }
+    ensures kept { SentIsKept }
+    ensures alone { FillsAloneAreSent }
 {}

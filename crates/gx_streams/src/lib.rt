@@ -1,7 +1,14 @@
-//! What each user is told: his reports in order, with places kept for more, so that reports that are owed can always
-//! be put there.
+//! What each user is told: his reports in order, with places kept for more, so that reports that
+//! are owed can always be put there; and each fill once, for all who are told of it.
 #![tactic(auto)]
 
+mod entry;
+pub mod fill;
 pub mod laws;
+mod reader;
+mod readers;
+mod span;
 mod stream;
 pub mod streams;
+mod told;
+mod window;

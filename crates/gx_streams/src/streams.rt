@@ -1,24 +1,39 @@
 //! The streams of all users.
 
-ghost use Rattle.std.specs.Prelude.{◌≡◌, ◌<◌, ◌^◌, ◌≤◌, length, IsTrue, IfOk, IsOk, OnOk, OnErr};
+ghost use Rattle.std.specs.Prelude.{◌≡◌, ◌<◌, ◌^◌, ◌≤◌, length, map, option_map};
+ghost use Rattle.std.specs.Prelude.{IsTrue, IfOk, IsOk, OnOk, OnErr};
 ghost use Rattle.gx_history.specs.Lists.{slice};
-ghost use Rattle.gx_streams.specs.Kept.{is_known, places_in, with_kept_last, with_last, with_places};
-ghost use Rattle.gx_streams.specs.Streams.{empty_streams, on_told, reports_in};
+ghost use Rattle.gx_streams.specs.Kept.{places_in, with_kept_last, with_last, with_places};
+ghost use Rattle.gx_streams.specs.Spans.{copies_in, AreNumbered};
+ghost use Rattle.gx_streams.specs.Streams.{empty_streams, entitled, is_told, on_told, reports_in};
+ghost use Rattle.gx_streams.specs.Streams.{with_fill};
+ghost use Rattle.gx_streams.specs.Table.{no_report, report_of};
 
-use crate::stream::Stream;
+use crate::entry::Entry;
+use crate::fill::{Party, ToldFill};
+use crate::reader::Reader;
+use crate::readers::Readers;
+use crate::told::Told;
+use crate::window::Window;
 use gx_history::policy::Policy;
-use gx_history::report::Report;
-use gx_history::slices::slice;
+use gx_history::report::{Message, Report};
+use gx_history::slices::{count_before, slice};
+use gx_ouch::{EventCode, Outbound};
 use gx_units::{OutOfMemory, UserName};
-use indexmap::IndexMap;
 use std::alloc::Global;
 use std::marker::Model;
 
-/// What each user of the policy was told, in order, and places kept for more.
+/// No span has more fills.
+const SPAN_LIMIT: usize = 1024;
+
+/// What each user of the policy was told, in order, places kept for more, and whose later fills
+/// each reader gets.
 #[derive(Drop)]
 pub struct Streams {
     alloc: Global,
-    by_user: IndexMap<UserName, Stream>,
+    fills: Vec<ToldFill>,
+    told: Told,
+    readers: Readers,
 }
 
 impl Model for Streams {
@@ -26,60 +41,109 @@ impl Model for Streams {
 
     ghost Value = { AllStreams };
 
-    ghost use Rattle.gx_streams.specs.Table.{streams_of};
+    ghost use Rattle.gx_streams.specs.Table.{streams_of, IsSoundTable};
 
-    ghost view = { λ s. streams_of s.by_user.entries };
+    ghost view = { λ s. streams_of s.fills.items s.told s.readers };
+
+    ghost invariant = { λ s. IsSoundTable s.fills.items s.told s.readers };
+}
+
+/// Stands for a fill that is not there; no entry names such a fill.
+fn no_report() -> Report
+    ensures { result ≡ no_report }
+{
+    Report {
+        timestamp: 0,
+        message: Message::Order(Outbound::SystemEvent(EventCode::EndOfDay)),
+    }
+}
+
+fn report_of(fills: &[ToldFill], entry: &Entry) -> Report
+    ensures { result ≡ report_of fills.now entry.now }
+{
+    match entry {
+        Entry::Typed(report) => *report,
+        Entry::Filled(place, party) => match fills.get(*place) {
+            Some(fill) => fill.report(*party),
+            None => no_report(),
+        },
+    }
+}
+
+fn reports_of(
+    alloc: Global,
+    fills: &[ToldFill],
+    entries: &[Entry],
+) -> Result<Vec<Report>, OutOfMemory>
+    ensures { IfOk result (λ reports. reports.items ≡ map (report_of fills.now) entries.now) }
+{
+    let mut reports = Vec::with_capacity(alloc, entries.len())?;
+    for entry in entries {
+        reports.push(report_of(fills, entry))?;
+    }
+    Ok(reports)
+}
+
+#[tactic(auto, using(crate::proofs::Reading::taken_is))]
+fn copies(
+    alloc: Global,
+    fills: &[ToldFill],
+    reader: &Reader,
+    from: u64,
+    most: u64,
+) -> Result<Vec<Report>, OutOfMemory>
+    requires { AreNumbered fills.now 1 reader.now.earlier reader.now.current }
+    ensures { IfOk result (λ reports. reports.items
+        ≡ slice (copies_in fills.now reader.now.earlier reader.now.current) from most) }
+{
+    let mut window = Window::new(alloc, count_before(from), most as usize);
+    window.see_spans(fills, reader.earlier(), reader.current())?;
+    Ok(window.into_taken())
 }
 
 impl Streams {
-    /// The policy's users, whom nothing was told, and no place kept.
+    /// The policy's users, whom nothing was told, no place kept, and no reader with an account.
+    #[tactic(auto, using(crate::proofs::Opened::opened))]
     pub fn new(alloc: Global, policy: &Policy) -> Result<Streams, OutOfMemory>
         ensures { IfOk result (λ streams. streams ≡ empty_streams policy.now) }
     {
-        // What this ensures: no two users have one name.
-        let _ = policy.rules();
-        let mut by_user = IndexMap::with_capacity(alloc, policy.users().len())?;
-        for user in policy.users() {
-            by_user.insert(user.name, Stream::new(alloc))?;
-        }
-        Ok(Streams { alloc, by_user })
+        Ok(Streams {
+            alloc,
+            fills: Vec::new(alloc),
+            told: Told::new(alloc, policy)?,
+            readers: Readers::new(alloc, policy)?,
+        })
     }
 
-    /// Whether the user is one of the policy. Takes no memory.
-    #[tactic(auto, using(crate::proofs::Users::known_found))]
-    pub fn knows(&self, user: UserName) -> bool
-        ensures { result ≡ is_known self.now.told user }
+    /// Whether the user is one of the policy, and no reader. Takes no memory.
+    pub fn is_told(&self, user: UserName) -> bool
+        ensures { result ≡ is_told self.now user }
     {
-        self.by_user.contains_key(&user)
+        self.told.knows(user) && self.readers.find(user).is_none()
     }
 
-    /// Puts the report last in the user's stream, in a place of its own: those that are kept stay kept.
+    /// Puts the report last in the user's stream, in a place of its own: those that are kept stay
+    /// kept.
     ///
     /// `OutOfMemory`: the stream could not grow, and nothing has changed.
     pub fn append(&mut self, user: UserName, report: Report) -> Result<(), OutOfMemory>
-        requires known { IsTrue (is_known self.old.told user) }
+        requires told { IsTrue (is_told self.old user) }
         ensures ok { OnOk result (self.new ≡ on_told user (with_last report) self.old) }
         ensures err { OnErr result (self.new ≡ self.old) }
     {
-        let Some(stream) = self.by_user.get_mut(&user) else {
-            return Ok(());
-        };
-        stream.push(report)
+        self.told.append(user, Entry::Typed(report))
     }
 
     /// Keeps at least so many places for the user. Places that are kept already count.
     ///
     /// `OutOfMemory`: the stream could not grow, and nothing has changed.
     pub fn reserve(&mut self, user: UserName, places: usize) -> Result<(), OutOfMemory>
-        requires known { IsTrue (is_known self.old.told user) }
+        requires told { IsTrue (is_told self.old user) }
         ensures ok { OnOk result (self.new ≡ on_told user (with_places places) self.old) }
         ensures enough { places ≤ places_in self.old.told user → IsOk result }
         ensures err { OnErr result (self.new ≡ self.old) }
     {
-        let Some(stream) = self.by_user.get_mut(&user) else {
-            return Ok(());
-        };
-        stream.reserve(places)
+        self.told.reserve(user, places)
     }
 
     /// Puts the report last in the user's stream, in a place that is kept. Takes no memory.
@@ -87,48 +151,118 @@ impl Streams {
         requires { 0 < places_in self.old.told user }
         ensures { self.new ≡ on_told user (with_kept_last report) self.old }
     {
-        let Some(stream) = self.by_user.get_mut(&user) else {
-            return;
-        };
-        stream.push_reserved(report);
+        self.told.append_reserved(user, Entry::Typed(report));
     }
 
-    #[tactic(auto, using(crate::proofs::Users::items_found))]
-    fn reports(&self, user: UserName) -> &[Report]
-        ensures { result.now ≡ reports_in self.now user }
+    /// Begins a span for the reader at this place, with the mask that he has.
+    fn begin_span(&mut self, place: usize) -> Result<(), OutOfMemory>
+        ensures { self.new ≡ self.old }
     {
-        match self.by_user.get(&user) {
-            Some(stream) => stream.as_slice(),
-            None => &[],
+        match self.readers.mask_at(place) {
+            Some((user, mask)) => self.entitle(user, mask),
+            None => Ok(()),
         }
     }
 
-    /// The user's reports from this number on, 0 counting as 1, and at most so many. It takes only what it gives: memory
-    /// for a copy of these, and no walk over those before.
+    /// Once the spans may have no more fills, begins one for each reader, with the mask that he has.
+    fn begin_spans(&mut self) -> Result<(), OutOfMemory>
+        ensures { self.new ≡ self.old }
+    {
+        if self.fills.as_slice().len() % SPAN_LIMIT != 0 {
+            return Ok(());
+        }
+        for place in 0..self.readers.count() {
+            self.begin_span(place)?;
+        }
+        Ok(())
+    }
+
+    /// Puts the fill last, and counts it for each reader in the span that goes on.
+    fn put_fill(&mut self, fill: ToldFill) -> Result<(), OutOfMemory>
+        requires taker { IsTrue (is_told self.old fill.taker.user) }
+        requires maker { IsTrue (is_told self.old fill.maker.user) }
+        ensures ok { OnOk result (self.new ≡ with_fill fill self.old) }
+        ensures err { OnErr result (self.new ≡ self.old) }
+    {
+        let place = self.fills.as_slice().len();
+        self.fills.reserve(1)?;
+        let taker = Entry::Filled(place, Party::Taker);
+        let maker = Entry::Filled(place, Party::Maker);
+        self.told
+            .append_both(fill.taker.user, taker, fill.maker.user, maker)?;
+        self.readers.note(&fill);
+        match self.fills.push(fill) {
+            Ok(()) => {}
+            Err(_) => unreachable!(),
+        }
+        Ok(())
+    }
+
+    /// Puts the report of the fill last in the taker's user's stream, then in the maker's, and in
+    /// each reader's a drop copy of the taker's side and then one of the maker's, where the account
+    /// is his. Places that are kept stay kept.
+    ///
+    /// `OutOfMemory`: something could not grow, and nothing has changed.
+    pub fn append_fill(&mut self, fill: ToldFill) -> Result<(), OutOfMemory>
+        requires taker { IsTrue (is_told self.old fill.taker.user) }
+        requires maker { IsTrue (is_told self.old fill.maker.user) }
+        ensures ok { OnOk result (self.new ≡ with_fill fill self.old) }
+        ensures err { OnErr result (self.new ≡ self.old) }
+    {
+        self.begin_spans()?;
+        self.put_fill(fill)
+    }
+
+    /// The reader gets the later fills of the accounts in the mask, which are in the file's order,
+    /// the first in the lowest bit. No list changes.
+    ///
+    /// `OutOfMemory`: there was no memory for one more span, and nothing has changed.
+    pub fn entitle(&mut self, reader: UserName, mask: u64) -> Result<(), OutOfMemory>
+        ensures ok { OnOk result (self.new ≡ entitled reader mask self.old) }
+        ensures err { OnErr result (self.new ≡ self.old) }
+    {
+        let fill = self.fills.as_slice().len();
+        self.readers.entitle(reader, mask, fill)
+    }
+
+    /// The user's reports from this number on, 0 counting as 1, and at most so many. It takes
+    /// memory for these alone. Of a reader it looks at each span, and at the fills of those that it
+    /// gives something of, at most 1,024 of each, up to the last report that is asked for.
     ///
     /// `OutOfMemory`: there was no memory for the copy.
     pub fn slice(&self, user: UserName, from: u64, most: u64) -> Result<Vec<Report>, OutOfMemory>
         ensures { IfOk result (λ part. part.items ≡ slice (reports_in self.now user) from most) }
     {
-        Ok(slice(self.reports(user), from, most).to_vec(self.alloc)?)
+        let fills = self.fills.as_slice();
+        match self.readers.find(user) {
+            Some(reader) => copies(self.alloc, fills, reader, from, most),
+            None => {
+                let entries = slice(self.told.entries(user), from, most);
+                reports_of(self.alloc, fills, entries)
+            }
+        }
     }
 
-    /// How many reports the user has. Takes no memory.
+    /// How many reports the user has. Takes no memory, and walks no fills.
     pub fn len(&self, user: UserName) -> usize
         ensures count { result ≡ length (reports_in self.now user) }
         ensures few { result < 2 ^ 63 }
     {
-        self.reports(user).len()
+        // What this ensures: there are so few fills.
+        let _ = self.fills.as_slice();
+        match self.readers.find(user) {
+            Some(reader) => reader.count(),
+            None => self.told.entries(user).len(),
+        }
     }
 
     /// How many places are kept for the user. Takes no memory.
-    #[tactic(auto, using(crate::proofs::Users::spare_found))]
     pub fn spare(&self, user: UserName) -> usize
         ensures { result ≡ places_in self.now.told user }
     {
-        match self.by_user.get(&user) {
-            Some(stream) => stream.spare(),
-            None => 0,
+        match self.readers.find(user) {
+            Some(_) => 0,
+            None => self.told.spare(user),
         }
     }
 }

@@ -12,4 +12,5 @@ returns-clause-ok c =
       book = but.book;
       ledger = but.ledger;
       streams = but.streams;
+      sent = but.sent;
     }

@@ -1,18 +1,19 @@
-use Rattle.gx_keepers.proofs.Commanded.{command_goes_on, command_places, has_setting}
+use Rattle.gx_keepers.proofs.Commanded.{command_goes_on, command_places, has_setting, is_unseen}
 use Rattle.gx_keepers.proofs.commands.apply_command.Goals as goal
 
 pub set-requires : goal.set-requires
 set-requires c = record {
+  unseen = is_unseen c.args.next.policy.now c.args.next.history.now.records c.args.next.asked.now c.args.next.left.now c.args.c.now c.args.keepers.now c.requires.takes c.requires.granted c.requires.commands c.rules.ensures.sound;
   known = has_setting c.args.next.policy.now c.args.next.history.now.records c.args.next.asked.now c.args.next.left.now c.args.c.now c.args.keepers.now c.requires.takes c.requires.granted c.requires.commands;
 }
 
 pub tell_of_command-requires : goal.tell_of_command-requires
 tell_of_command-requires c =
-    command_places c.args.next.policy.now c.args.next.history.now.records c.args.next.asked.now c.args.next.left.now c.args.c.now c.args.keepers.now
+    command_places c.args.next.policy.now c.args.next.history.now.records c.args.next.asked.now c.args.next.left.now c.args.c.now c.args.keepers.now _ _ c.in_ok-set.ensures.streams
     c.requires.takes c.requires.places c.requires.granted c.requires.commands c.rules.ensures.sound
 
 pub returns-clause-ok : goal.returns-clause-ok
 returns-clause-ok c =
-    command_goes_on c.args.next.policy.now c.args.next.history.now.records c.args.next.asked.now c.args.next.left.now c.args.c.now c.args.keepers.now _
+    command_goes_on c.args.next.policy.now c.args.next.history.now.records c.args.next.asked.now c.args.next.left.now c.args.c.now c.args.keepers.now _ _
     c.requires.takes c.requires.granted c.requires.commands c.rules.ensures.sound
-    c.in_ok-set.ensures.people c.in_ok-set.ensures.rules c.set_day.ensures c.end_orders.ensures.left c.end_orders.ensures.taken c.end_orders.ensures.closed c.tell_of_command.ensures
+    c.in_ok-set.ensures.people c.in_ok-set.ensures.streams c.in_ok-set.ensures.rules c.set_day.ensures c.end_orders.ensures.left c.end_orders.ensures.taken c.end_orders.ensures.closed c.tell_of_command.ensures

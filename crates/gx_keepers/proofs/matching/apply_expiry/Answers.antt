@@ -8,7 +8,7 @@ use Rattle.gx_keepers.proofs.matching.apply_expiry.Goals as goal
 pub tell-requires : goal.tell-requires
 tell-requires c =
     end_has_place c.args.next.policy.now c.args.next.history.now.records c.args.next.first.now c.args.next.left.now c.args.keepers.now c.args.number
-    c.requires.takes c.requires.places c.requires.expires
+    c.requires.takes (c.requires.places c.args.number c.requires.expires) c.requires.expires
 
 pub returns : goal.returns
 returns c =

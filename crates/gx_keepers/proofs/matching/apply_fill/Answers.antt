@@ -1,10 +1,8 @@
 use Rattle.std.proofs.Common.{◌≡◌, true, false, refl, ◌∙◌, ap, subst, sym, List}
-use Rattle.std.specs.Prelude.{IfSome, Some, is_some}
+use Rattle.std.specs.Prelude.{IfSome, is_some}
 use Rattle.gx_orders.specs.declared.live_order.LiveOrder.{LiveOrder}
 use Rattle.gx_orders.specs.LiveOrders.{HasOpen, filled_at, order_numbered}
-use Rattle.gx_streams.specs.Streams.{AllStreams}
-use Rattle.gx_keepers.specs.Keepers.{with_told}
-use Rattle.gx_keepers.proofs.Matches.{best_has_shares, can_fill, fill_goes_on, maker_has_place, maker_is_there, taker_has_place}
+use Rattle.gx_keepers.proofs.Matches.{best_has_shares, can_fill, fill_goes_on, maker_is_there, maker_told, taker_told}
 use Rattle.gx_keepers.proofs.matching.apply_fill.Goals as goal
 
 pub unreachable-requires : goal.unreachable-requires
@@ -14,6 +12,14 @@ unreachable-requires c =
     c.requires.takes c.requires.fills c.numbered.ensures.found in
     let none : false ≡ true = sym (ap is_some c.in_default.is) ∙ known in
     cc
+
+pub append_fill-requires : goal.append_fill-requires
+append_fill-requires c = record {
+  taker = taker_told c.args.next.policy.now c.args.next.history.now.records c.args.next.first.now c.args.next.left.now c.args.keepers.now c.args.f c.in-Some.maker c.side_of.result
+      c.requires.takes c.requires.fills (sym c.numbered.ensures.found ∙ c.in-Some.is) c.side_of.ensures;
+  maker = maker_told c.args.next.policy.now c.args.next.history.now.records c.args.next.first.now c.args.next.left.now c.args.keepers.now c.args.f c.in-Some.maker c.side_of-2.result
+      c.requires.takes c.requires.fills (sym c.numbered.ensures.found ∙ c.in-Some.is) c.side_of-2.ensures;
+}
 
 pub fill-requires : goal.fill-requires
 fill-requires c =
@@ -30,23 +36,13 @@ take_from_best-requires c = record {
       c.requires.takes c.requires.fills c.opposite-against.ensures;
 }
 
-pub tell-requires : goal.tell-requires
-tell-requires c =
-    taker_has_place c.args.next.policy.now c.args.next.history.now.records c.args.next.first.now c.args.next.left.now c.args.keepers.now c.args.f c.in-Some.maker
-    c.requires.takes c.requires.places c.requires.fills (sym c.numbered.ensures.found ∙ c.in-Some.is)
-
-pub tell-requires-2 : goal.tell-requires-2
-tell-requires-2 c =
-    maker_has_place c.args.next.policy.now c.args.next.history.now.records c.args.next.first.now c.args.next.left.now c.args.keepers.now c.args.f c.in-Some.maker c.executed-to_taker.result c.tell.new.streams
-    c.requires.takes c.requires.places c.requires.fills (sym c.numbered.ensures.found ∙ c.in-Some.is) c.executed-to_taker.ensures c.tell.ensures
-
-pub returns : goal.returns
-returns c =
-    fill_goes_on c.args.next.policy.now c.args.next.history.now.records c.args.next.first.now c.args.next.left.now c.args.keepers.now _ c.args.f c.in-Some.maker c.open_order-came.result c.open_order-rested.result _ c.executed-to_taker.result c.executed-to_maker.result
-    c.requires.takes c.requires.fills (sym c.numbered.ensures.found ∙ c.in-Some.is) c.open_order-came.ensures c.open_order-rested.ensures c.opposite-against.ensures c.executed-to_taker.ensures c.executed-to_maker.ensures refl refl refl
+pub returns-clause-ok : goal.returns-clause-ok
+returns-clause-ok c =
+    fill_goes_on c.args.next.policy.now c.args.next.history.now.records c.args.next.first.now c.args.next.left.now c.args.keepers.now _ c.args.f c.in-Some.maker c.open_order-came.result c.open_order-rested.result _ c.side_of.result c.side_of-2.result _
+    c.requires.takes c.requires.fills (sym c.numbered.ensures.found ∙ c.in-Some.is) c.open_order-came.ensures c.open_order-rested.ensures c.opposite-against.ensures c.rules.ensures.sound
+    c.side_of.ensures c.side_of-2.ensures refl refl refl refl
     (λ i. record {
       live = (c.fill-2.ensures.live ∙ ap (filled_at c.args.f.maker c.args.f.shares) c.fill.ensures.live) i;
       used = (c.fill-2.ensures.used ∙ c.fill.ensures.used) i;
     })
-    c.take_from_best.ensures c.fill-3.ensures.filled
-    (c.tell-2.ensures ∙ ap (λ (s : AllStreams). with_told c.in-Some.maker.user c.args.next.left.now.moment (Some c.executed-to_maker.result) s) c.tell.ensures)
+    c.take_from_best.ensures c.fill-3.ensures.filled c.in_ok-append_fill.ensures.ok

@@ -1,8 +1,8 @@
 use Rattle.std.proofs.Common.{◌≤◌, ◌∙◌, ap, sym}
 use Rattle.std.proofs.Math.Path.{subst}
 use Rattle.gx_units.specs.declared.names.UserName.{UserName}
-use Rattle.gx_streams.specs.Kept.{is_known, places_in, with_places}
-use Rattle.gx_streams.specs.Streams.{AllStreams}
+use Rattle.gx_streams.specs.Kept.{places_in, with_places}
+use Rattle.gx_streams.specs.Streams.{AllStreams, is_told}
 use Rattle.gx_streams.specs.Telling.{shown}
 use Rattle.gx_streams.proofs.Places.{users_stay}
 use Rattle.gx_streams.proofs.Telling.{places_not_shown}
@@ -14,14 +14,17 @@ returns-clause-shown c = ap shown c.in_ok-reserve.ensures.ok ∙ places_not_show
 
 pub returns-clause-known : goal.returns-clause-known
 returns-clause-known c = λ (other : UserName).
-    ap (λ (s : AllStreams). is_known s.told other) c.in_ok-reserve.ensures.ok ∙ users_stay c.args.streams.now c.args.user (with_places c.args.places) other
+    ap (λ (s : AllStreams). is_told s other) c.in_ok-reserve.ensures.ok ∙ users_stay c.args.streams.now c.args.user (with_places c.args.places) other
 
 pub returns-clause-more : goal.returns-clause-more
 returns-clause-more c = λ (other : UserName).
     subst (λ (s : AllStreams). places_in c.args.streams.now.told other ≤ places_in s.told other) (sym c.in_ok-reserve.ensures.ok)
-    (more_places c.args.streams.now c.args.user c.args.places other (sym c.knows.ensures ∙ c.if-not-knows.false))
+    (more_places c.args.streams.now c.args.user c.args.places other (sym c.is_told.ensures ∙ c.if-not-is_told.false))
 
 pub returns-clause-places : goal.returns-clause-places
 returns-clause-places c = λ known.
     subst (λ (s : AllStreams). c.args.places ≤ places_in s.told c.args.user) (sym c.in_ok-reserve.ensures.ok)
-    (as_many_places c.args.streams.now c.args.user c.args.places (sym c.knows.ensures ∙ c.if-not-knows.false))
+    (as_many_places c.args.streams.now c.args.user c.args.places (sym c.is_told.ensures ∙ c.if-not-is_told.false))
+
+pub returns-clause-readers : goal.returns-clause-readers
+returns-clause-readers c = ap (λ (s : AllStreams). s.readers) c.in_ok-reserve.ensures.ok

@@ -14,6 +14,7 @@ loop-user-preserved c =
     record {
       shown = c.in_ok-keep.ensures.shown ∙ before.shown;
       known = λ (other : UserName). c.in_ok-keep.ensures.known other ∙ before.known other;
+      readers = c.in_ok-keep.ensures.readers ∙ before.readers;
       more = λ (other : UserName). omega (arith, before.more other, c.in_ok-keep.ensures.more other);
       places =
           more_have_places c.args.action.now c.args.orders.now.live c.loop-user.streams c.keep.new.streams c.users-user-items.result.now c.loop-user.user-index c.user-item.result

@@ -1,7 +1,8 @@
 use Rattle.std.proofs.Common.{◌≡◌, ◌≤◌, take}
 use Rattle.std.specs.List.{AllByRecursion}
 use Rattle.gx_units.specs.declared.names.UserName.{UserName}
-use Rattle.gx_streams.specs.Kept.{is_known, places_in}
+use Rattle.gx_streams.specs.Kept.{places_in}
+use Rattle.gx_streams.specs.Streams.{is_told}
 use Rattle.gx_streams.specs.Telling.{shown}
 use Rattle.gx_keepers.specs.Keepers.{HasEndPlaces}
 use Rattle.gx_keepers.proofs.places.keep_for_ends.Given as goal
@@ -10,7 +11,8 @@ abbrev pub invariant-loop-user : goal.invariant-loop-user
 invariant-loop-user l =
     record {
       shown : shown l.streams ≡ shown l.fn.streams;
-      known : (other : UserName) → is_known l.streams.told other ≡ is_known l.fn.streams.told other;
+      known : (other : UserName) → is_told l.streams other ≡ is_told l.fn.streams other;
+      readers : l.streams.readers ≡ l.fn.streams.readers;
       more : (other : UserName) → places_in l.fn.streams.told other ≤ places_in l.streams.told other;
       places : AllByRecursion (HasEndPlaces l.fn.action l.fn.orders.live l.streams) (take l.user-index l.user-items);
     }

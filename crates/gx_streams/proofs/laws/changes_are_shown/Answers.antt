@@ -1,5 +1,6 @@
 use Rattle.gx_streams.proofs.Telling.{all_owed_shown, kept_last_shown, last_shown, owed_next, places_not_shown}
+use Rattle.gx_streams.proofs.Sending.{fill_is_shown}
 use Rattle.gx_streams.proofs.laws.changes_are_shown.Goals as goal
 
 pub returns : goal.returns
-returns c = record { last = last_shown; kept = kept_last_shown; places = places_not_shown; owed = all_owed_shown; next = owed_next }
+returns c = record { last = last_shown; kept = kept_last_shown; places = places_not_shown; owed = all_owed_shown; next = owed_next; fills = fill_is_shown }

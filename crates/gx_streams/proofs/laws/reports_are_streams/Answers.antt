@@ -1,5 +1,5 @@
-use Rattle.gx_streams.proofs.Finding.{known_are, reports_are}
+use Rattle.gx_streams.proofs.Finding.{reports_are, told_are}
 use Rattle.gx_streams.proofs.laws.reports_are_streams.Goals as goal
 
 pub returns : goal.returns
-returns c = record { reports = reports_are; known = known_are }
+returns c = record { reports = reports_are; known = told_are }

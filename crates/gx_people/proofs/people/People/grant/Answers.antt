@@ -1,11 +1,12 @@
 use Rattle.std.proofs.Common.{◌≡◌, ◌∙◌, ap, sym, refl, true≢false}
 use Rattle.std.proofs.lemmas.Result.{on_ok_weaker, on_err_weaker}
 use Rattle.gx_history.specs.People.{is_reader, role_in}
-use Rattle.gx_people.specs.Entitled.{granted_to, sees, with_account}
+use Rattle.gx_people.specs.Entitled.{granted_to, revoked_from, sees, with_account}
 use Rattle.gx_people.specs.View.{role_of_standing, users_of}
 use Rattle.gx_people.specs.declared.person.Person.{Person}
 use Rattle.gx_people.proofs.Entitling.{granted_pair}
 use Rattle.gx_people.proofs.Table.{role_written, same_in_place, nobody_reads, seen_found}
+use Rattle.gx_people.proofs.TakenBack.{back_again}
 use Rattle.gx_people.proofs.people.People.grant.Goals as goal
 
 -- the reader is known
@@ -31,5 +32,12 @@ returns c =
       pair = on_ok_weaker c.grant.result (λ done user other. ap (λ us. sees us user other) (new_is done) ∙ granted_pair c.args.reader c.args.account c.args.self.now c.requires.known user other) c.grant.ensures.granted;
       again = λ seen.
           c.grant.ensures.again (sym (seen_found entries c.args.reader c.args.account before c.in-Some.ensures.value) ∙ ap (λ us. sees us c.args.reader c.args.account) c.self.view_is ∙ seen);
+      back = on_ok_weaker c.grant.result
+          (λ done unseen.
+          ap (revoked_from c.args.reader c.args.account) (new_is done ∙ ap (granted_to c.args.reader c.args.account) (sym c.self.view_is))
+          ∙ back_again c.args.reader c.args.account entries before c.in-Some.ensures.unique (sym c.in-Some.ensures.value)
+          (sym (seen_found entries c.args.reader c.args.account before c.in-Some.ensures.value) ∙ ap (λ us. sees us c.args.reader c.args.account) c.self.view_is ∙ unseen)
+          ∙ c.self.view_is)
+          c.grant.ensures.granted;
       unchanged = on_err_weaker c.grant.result (λ same. written ∙ same_in_place c.args.reader entries before after c.in-Some.ensures.unique (sym c.in-Some.ensures.value) refl same ∙ c.self.view_is) c.grant.ensures.unchanged;
     }

@@ -1,24 +1,30 @@
-use Rattle.std.proofs.Common.{◌∙◌, ap, sym, true≢false}
-use Rattle.std.specs.Prelude.{is_some}
-use Rattle.std.proofs.lemmas.Result.{on_ok_weaker, on_err_weaker}
-use Rattle.gx_streams.specs.Kept.{is_known, with_last}
-use Rattle.gx_streams.specs.Streams.{AllStreams}
-use Rattle.gx_streams.proofs.Users.{known_found, written_back, written_same}
+use Rattle.std.proofs.Common.{length}
+use Rattle.std.proofs.lemmas.Result.{on_ok_weaker}
+use Rattle.gx_streams.specs.declared.entry.Entry.TheVariants as entries
+use Rattle.gx_streams.specs.Kept.{on_user, with_last}
+use Rattle.gx_streams.proofs.Shown.{known_changed, last_shown, there_with_last}
+use Rattle.gx_streams.proofs.Whole.{sound_told, told_changed, told_here}
 use Rattle.gx_streams.proofs.streams.Streams.append.Goals as goal
 
--- the user is known
-pub returns-in_default-clause-ok : goal.returns-in_default-clause-ok
-returns-in_default-clause-ok c =
-    absurd (true≢false (sym c.requires.known ∙ (ap (λ (s : AllStreams). is_known s.told c.args.user) (sym c.self.view_is) ∙ known_found c.self.inside.by_user.entries c.args.user ∙ ap is_some (sym c.in_default.ensures.value))))
+pub append-requires : goal.append-requires
+append-requires c = record { known = (told_here c.self.inside.fills.items c.self.inside.told c.self.inside.readers c.args.self.now c.args.user c.self.view_is c.requires.told).known }
+
+pub invariant_of-self : goal.invariant_of-self
+invariant_of-self c =
+    let entry = entries.Typed c.args.report in
+    let was = c.self.invariant in
+    sound_told c.append.result c.self.inside.fills.items c.self.inside.told (on_user c.args.user (with_last entry) c.self.inside.told) c.append.new.self c.self.inside.readers c.append.ensures.ok c.append.ensures.err
+    (record {
+      there = there_with_last (length c.self.inside.fills.items) entry c.args.user c.self.inside.told tt was.there;
+      sound = was.sound;
+      known = known_changed c.self.inside.told c.args.user (with_last entry) c.self.inside.readers was.known;
+    }) was
 
 pub returns-clause-ok : goal.returns-clause-ok
 returns-clause-ok c =
-    on_ok_weaker c.push.result
-    (λ done. written_back c.self.inside.by_user.entries _ c.args.self.now c.args.user (with_last c.args.report) c.in-Some.stream.now c.push.new.self (c.get_mut.follows.holds c.push.new.self).0 done c.in-Some.ensures.unique c.in-Some.ensures.value c.self.view_is)
-    c.push.ensures.ok
-
-pub returns-clause-err : goal.returns-clause-err
-returns-clause-err c =
-    on_err_weaker c.push.result
-    (λ same. written_same c.self.inside.by_user.entries _ c.args.self.now c.args.user c.in-Some.stream.now c.push.new.self (c.get_mut.follows.holds c.push.new.self).0 same c.in-Some.ensures.value c.self.view_is)
-    c.push.ensures.err
+    let entry = entries.Typed c.args.report in
+    let his = told_here c.self.inside.fills.items c.self.inside.told c.self.inside.readers c.args.self.now c.args.user c.self.view_is c.requires.told in
+    on_ok_weaker c.append.result
+    (λ done. told_changed c.self.inside.fills.items c.self.inside.told c.append.new.self c.self.inside.readers c.args.self.now c.args.user (with_last entry) (with_last c.args.report) done
+    (last_shown c.self.inside.fills.items c.self.inside.readers entry c.args.user c.self.inside.told his.reads_not) c.self.view_is)
+    c.append.ensures.ok

@@ -1,26 +1,27 @@
-use Rattle.std.proofs.Common.{ℕ, ◌≡◌, ◌<◌, ◌∙◌, ap, sym, subst, arith}
-use Rattle.std.specs.Prelude.{Option}
-use Rattle.std.specs.Option.{option_map_or}
-use Rattle.gx_history.specs.declared.report.Report.{Report}
-use Rattle.gx_streams.specs.Kept.{Kept, places_in, with_kept_last}
-use Rattle.gx_streams.specs.Streams.{AllStreams}
-use Rattle.gx_streams.proofs.Users.{spare_found, written_back}
+use Rattle.std.proofs.Common.{length, subst, sym}
+use Rattle.gx_streams.specs.declared.entry.Entry.TheVariants as entries
+use Rattle.gx_streams.specs.Kept.{with_kept_last}
+use Rattle.gx_streams.specs.Table.{IsSoundTable}
+use Rattle.gx_streams.proofs.Shown.{kept_last_shown, known_changed, there_with_kept_last}
+use Rattle.gx_streams.proofs.Whole.{placed_here, told_changed}
 use Rattle.gx_streams.proofs.streams.Streams.append_reserved.Goals as goal
 
--- a place is kept, so the user is known
-pub returns-in_default : goal.returns-in_default
-returns-in_default c =
-    let none : places_in c.args.self.now.told c.args.user ≡ 0 =
-    ap (λ (s : AllStreams). places_in s.told c.args.user) (sym c.self.view_is) ∙ spare_found c.self.inside.by_user.entries c.args.user ∙ ap (λ (o : Option (Kept Report)). option_map_or (λ (k : Kept Report). k.spare) o 0) (sym c.in_default.ensures.value)
-    in
-    absurd (omega (arith, none, c.requires))
+pub append_reserved-requires : goal.append_reserved-requires
+append_reserved-requires c = (placed_here c.self.inside.fills.items c.self.inside.told c.self.inside.readers c.args.self.now c.args.user c.self.view_is c.requires).1
 
-pub push_reserved-requires : goal.push_reserved-requires
-push_reserved-requires c =
-    subst (λ (n : ℕ). 0 < n)
-    (ap (λ (s : AllStreams). places_in s.told c.args.user) (sym c.self.view_is) ∙ spare_found c.self.inside.by_user.entries c.args.user ∙ ap (λ (o : Option (Kept Report)). option_map_or (λ (k : Kept Report). k.spare) o 0) (sym c.in-Some.ensures.value))
-    c.requires
+pub invariant_of-self : goal.invariant_of-self
+invariant_of-self c =
+    let entry = entries.Typed c.args.report in
+    let was = c.self.invariant in
+    subst (λ t. IsSoundTable c.self.inside.fills.items t c.self.inside.readers) (sym c.append_reserved.ensures)
+    (record {
+      there = there_with_kept_last (length c.self.inside.fills.items) entry c.args.user c.self.inside.told tt was.there;
+      sound = was.sound;
+      known = known_changed c.self.inside.told c.args.user (with_kept_last entry) c.self.inside.readers was.known;
+    })
 
 pub returns : goal.returns
 returns c =
-    written_back c.self.inside.by_user.entries _ c.args.self.now c.args.user (with_kept_last c.args.report) c.in-Some.stream.now c.push_reserved.new.self (c.get_mut.follows.holds c.push_reserved.new.self).0 c.push_reserved.ensures c.in-Some.ensures.unique c.in-Some.ensures.value c.self.view_is
+    let reads_not = (placed_here c.self.inside.fills.items c.self.inside.told c.self.inside.readers c.args.self.now c.args.user c.self.view_is c.requires).0 in
+    told_changed c.self.inside.fills.items c.self.inside.told c.append_reserved.new.self c.self.inside.readers c.args.self.now c.args.user (with_kept_last (entries.Typed c.args.report)) (with_kept_last c.args.report)
+    c.append_reserved.ensures (kept_last_shown c.self.inside.fills.items c.self.inside.readers (entries.Typed c.args.report) c.args.user c.self.inside.told reads_not) c.self.view_is

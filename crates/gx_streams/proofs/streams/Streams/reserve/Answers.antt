@@ -1,33 +1,40 @@
-use Rattle.std.proofs.Common.{ℕ, ◌≤◌, ◌∙◌, ap, subst, sym, true≢false}
-use Rattle.std.specs.Prelude.{Option, is_some}
+use Rattle.std.proofs.Common.{ℕ, ◌≤◌, ◌∙◌, ap, length, subst, sym}
+use Rattle.std.specs.Prelude.{Option}
 use Rattle.std.specs.Option.{option_map_or}
-use Rattle.std.proofs.lemmas.Result.{on_ok_weaker, on_err_weaker}
-use Rattle.gx_history.specs.declared.report.Report.{Report}
-use Rattle.gx_streams.specs.Kept.{Kept, is_known, places_in, with_places}
-use Rattle.gx_streams.specs.Streams.{AllStreams}
-use Rattle.gx_streams.proofs.Users.{known_found, spare_found, written_back, written_same}
+use Rattle.std.proofs.lemmas.Result.{on_ok_weaker}
+use Rattle.gx_streams.specs.Kept.{on_user, places_in, with_places}
+use Rattle.gx_streams.specs.Spans.{ReaderSpans}
+use Rattle.gx_streams.proofs.Reading.{read_spare}
+use Rattle.gx_streams.proofs.Shown.{known_changed, places_made_shown, there_with_places}
+use Rattle.gx_streams.proofs.Whole.{sound_told, told_changed, told_here}
 use Rattle.gx_streams.proofs.streams.Streams.reserve.Goals as goal
 
--- the user is known
-pub returns-in_default-clause-ok : goal.returns-in_default-clause-ok
-returns-in_default-clause-ok c =
-    absurd (true≢false (sym c.requires.known ∙ (ap (λ (s : AllStreams). is_known s.told c.args.user) (sym c.self.view_is) ∙ known_found c.self.inside.by_user.entries c.args.user ∙ ap is_some (sym c.in_default.ensures.value))))
+pub reserve-requires : goal.reserve-requires
+reserve-requires c = record { known = (told_here c.self.inside.fills.items c.self.inside.told c.self.inside.readers c.args.self.now c.args.user c.self.view_is c.requires.told).known }
+
+pub invariant_of-self : goal.invariant_of-self
+invariant_of-self c =
+    let was = c.self.invariant in
+    sound_told c.reserve.result c.self.inside.fills.items c.self.inside.told (on_user c.args.user (with_places c.args.places) c.self.inside.told) c.reserve.new.self c.self.inside.readers c.reserve.ensures.ok c.reserve.ensures.err
+    (record {
+      there = there_with_places (length c.self.inside.fills.items) c.args.places c.args.user c.self.inside.told was.there;
+      sound = was.sound;
+      known = known_changed c.self.inside.told c.args.user (with_places c.args.places) c.self.inside.readers was.known;
+    }) was
 
 pub returns-clause-ok : goal.returns-clause-ok
 returns-clause-ok c =
+    let his = told_here c.self.inside.fills.items c.self.inside.told c.self.inside.readers c.args.self.now c.args.user c.self.view_is c.requires.told in
     on_ok_weaker c.reserve.result
-    (λ done. written_back c.self.inside.by_user.entries _ c.args.self.now c.args.user (with_places c.args.places) c.in-Some.stream.now c.reserve.new.self (c.get_mut.follows.holds c.reserve.new.self).0 done c.in-Some.ensures.unique c.in-Some.ensures.value c.self.view_is)
+    (λ done. told_changed c.self.inside.fills.items c.self.inside.told c.reserve.new.self c.self.inside.readers c.args.self.now c.args.user (with_places c.args.places) (with_places c.args.places) done
+    (places_made_shown c.self.inside.fills.items c.self.inside.readers c.args.places c.args.user c.self.inside.told his.reads_not) c.self.view_is)
     c.reserve.ensures.ok
-
-pub returns-clause-err : goal.returns-clause-err
-returns-clause-err c =
-    on_err_weaker c.reserve.result
-    (λ same. written_same c.self.inside.by_user.entries _ c.args.self.now c.args.user c.in-Some.stream.now c.reserve.new.self (c.get_mut.follows.holds c.reserve.new.self).0 same c.in-Some.ensures.value c.self.view_is)
-    c.reserve.ensures.err
 
 pub returns-clause-enough : goal.returns-clause-enough
 returns-clause-enough c = λ h.
+    let his = told_here c.self.inside.fills.items c.self.inside.told c.self.inside.readers c.args.self.now c.args.user c.self.view_is c.requires.told in
     c.reserve.ensures.enough
     (subst (λ (n : ℕ). c.args.places ≤ n)
-    (ap (λ (s : AllStreams). places_in s.told c.args.user) (sym c.self.view_is) ∙ spare_found c.self.inside.by_user.entries c.args.user ∙ ap (λ (o : Option (Kept Report)). option_map_or (λ (k : Kept Report). k.spare) o 0) (sym c.in-Some.ensures.value))
+    (sym (read_spare c.self.inside.fills.items c.self.inside.told c.self.inside.readers c.args.self.now c.args.user c.self.view_is)
+    ∙ ap (λ (o : Option ReaderSpans). option_map_or (λ (r : ReaderSpans). 0) o (places_in c.self.inside.told c.args.user)) his.reads_not)
     h)

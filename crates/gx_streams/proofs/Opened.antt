@@ -1,0 +1,83 @@
+-- Streams as they open.
+use Rattle.std.proofs.Common.{◌≡◌, List, [], ◌∷◌, ◌++◌, map, cond, refl, ◌∙◌, sym, ap, subst, if◌then◌else◌, true, false, arith}
+use Rattle.std.specs.Prelude.{Option, Some, is_some}
+use Rattle.std.specs.Option.{option_map_or}
+use Rattle.std.specs.List.{AllByRecursion, find, flat_map}
+use Rattle.gx_units.specs.Names.{same_user}
+use Rattle.gx_units.specs.declared.names.UserName.{UserName}
+use Rattle.gx_history.specs.declared.policy.User.{User}
+use Rattle.gx_history.specs.declared.policy.PolicyData.{PolicyData}
+use Rattle.gx_history.specs.declared.report.Report.{Report}
+use Rattle.gx_history.specs.People.{is_reader}
+use Rattle.gx_history_laws.proofs.Adding.{user_is_itself}
+use Rattle.gx_streams.specs.declared.entry.Entry.{Entry}
+use Rattle.gx_streams.specs.declared.fill.ToldFill.{ToldFill}
+use Rattle.gx_streams.specs.Kept.{Kept, UserList, list_of, nothing_kept, nothing_told, told_nothing}
+use Rattle.gx_streams.specs.Spans.{IsSound, ReaderSpans, first_spans, is_named, no_spans, spans_for}
+use Rattle.gx_streams.specs.Streams.{AllStreams, ReaderMask, empty_streams, no_mask}
+use Rattle.gx_streams.specs.Table.{IsSoundTable, IsThere, kept_copies, list_shown, reader_mask, streams_of}
+use Rattle.gx_streams.proofs.Shown.{AllKnown}
+
+-- whoever is found among readers without spans has nothing
+none_copied : (users : List User) (name : UserName) → option_map_or (kept_copies []) (find (is_named name) (flat_map spans_for users)) nothing_kept ≡ nothing_kept
+none_copied [] name = refl
+none_copied (u ∷ users) name =
+    elim (is_reader (Some u.role)) as (λ b. copied (find (is_named name) ((if b then no_spans u.name ∷ [] else []) ++ flat_map spans_for users)) ≡ nothing_kept) [
+      | true ↦ elim (same_user name u.name) as (λ d. copied (cond d (Some (no_spans u.name)) (find (is_named name) (flat_map spans_for users))) ≡ nothing_kept) [ true ↦ refl | false ↦ none_copied users name ]
+      | false ↦ none_copied users name
+    ]
+  where
+    copied : Option ReaderSpans → Kept Report
+    copied o = option_map_or (kept_copies []) o nothing_kept
+
+told : (all users : List User) → map (list_shown [] (flat_map spans_for all)) (map told_nothing users) ≡ map told_nothing users
+told all [] = refl
+told all (u ∷ users) =
+    let row : Kept Report → UserList Report = λ k. record { user = u.name; kept = k } in
+    ap (λ k. row k ∷ map (list_shown [] (flat_map spans_for all)) (map told_nothing users)) (none_copied all u.name)
+    ∙ ap (λ rest. told_nothing u ∷ rest) (told all users)
+
+masked : (users : List User) → map reader_mask (flat_map spans_for users) ≡ flat_map no_mask users
+masked [] = refl
+masked (u ∷ users) =
+    elim (is_reader (Some u.role)) as (λ b. map reader_mask ((if b then no_spans u.name ∷ [] else []) ++ flat_map spans_for users)
+    ≡ (if b then (let r : ReaderMask = record { user = u.name; mask = 0 } in r) ∷ [] else []) ++ flat_map no_mask users)
+    [ true ↦ ap (λ rest. reader_mask (no_spans u.name) ∷ rest) (masked users) | false ↦ masked users ]
+
+pub opened : (policy : PolicyData) → streams_of [] (nothing_told policy) (first_spans policy) ≡ empty_streams policy
+opened policy =
+    let state : List (UserList Report) → List ReaderMask → AllStreams = λ t r. record { told = t; readers = r } in
+    ap (λ t. state t (map reader_mask (first_spans policy))) (told policy.users policy.users) ∙ ap (state (map told_nothing policy.users)) (masked policy.users)
+
+there : (users : List User) → AllByRecursion (λ (l : UserList Entry). AllByRecursion (IsThere 0) l.kept.items) (map told_nothing users)
+there [] = tt
+there (u ∷ users) = (tt, there users)
+
+no_spans_sound : (u : User) → IsSound [] (no_spans u.name)
+no_spans_sound u = record { begun = tt; now_begun = omega arith; count_is = refl; numbered = refl; few = omega arith }
+
+sound : (users : List User) → AllByRecursion (IsSound []) (flat_map spans_for users)
+sound [] = tt
+sound (u ∷ users) =
+    elim (is_reader (Some u.role)) as (λ b. AllByRecursion (IsSound []) ((if b then no_spans u.name ∷ [] else []) ++ flat_map spans_for users))
+    [ true ↦ (no_spans_sound u, sound users) | false ↦ sound users ]
+
+-- who is known among some is known among more
+still_known : (l : UserList Entry) (ls : List (UserList Entry)) (rs : List ReaderSpans) → AllKnown ls rs → AllKnown (l ∷ ls) rs
+still_known l ls [] all = tt
+still_known l ls (r ∷ rs) all = (
+  elim (same_user r.user l.user) as (λ b. is_some (cond b (Some l) (list_of ls r.user)) ≡ true) [ true ↦ refl | false ↦ all.0 ],
+  still_known l ls rs all.1,
+)
+
+known : (users : List User) → AllKnown (map (told_nothing {X = Entry}) users) (flat_map spans_for users)
+known [] = tt
+known (u ∷ users) =
+    let later : AllKnown (map (told_nothing {X = Entry}) (u ∷ users)) (flat_map spans_for users) = still_known (told_nothing u) (map (told_nothing {X = Entry}) users) (flat_map spans_for users) (known users) in
+    elim (is_reader (Some u.role)) as (λ b. AllKnown (map (told_nothing {X = Entry}) (u ∷ users)) ((if b then no_spans u.name ∷ [] else []) ++ flat_map spans_for users))
+    [ true ↦ (ap (λ b. is_some (cond b (Some (told_nothing u)) (list_of (map (told_nothing {X = Entry}) users) u.name))) (user_is_itself u.name), later) | false ↦ later ]
+
+pub opened_sound : (policy : PolicyData) (fills : List ToldFill) (lists : List (UserList Entry)) (spans : List ReaderSpans) → fills ≡ [] → lists ≡ nothing_told policy → spans ≡ first_spans policy → IsSoundTable fills lists spans
+opened_sound policy fills lists spans none is are =
+    let good : IsSoundTable [] (nothing_told policy) (first_spans policy) = record { there = there policy.users; sound = sound policy.users; known = known policy.users } in
+    subst (λ f. IsSoundTable f lists spans) (sym none) (subst (λ l. IsSoundTable [] l spans) (sym is) (subst (IsSoundTable [] (nothing_told policy)) (sym are) good))

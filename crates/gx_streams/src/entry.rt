@@ -1,0 +1,13 @@
+//! What is kept of one report.
+
+use crate::fill::Party;
+use gx_history::report::Report;
+
+/// One report of a user who is no reader.
+#[derive(Clone, Copy)]
+pub(crate) enum Entry {
+    /// The report itself.
+    Typed(Report),
+    /// Executed: the fill's place in the list of all fills, and the user's side of it.
+    Filled(usize, Party),
+}

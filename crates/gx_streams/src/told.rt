@@ -1,0 +1,151 @@
+//! The lists of all users.
+
+ghost use Rattle.std.specs.Prelude.{◌≡◌, ◌<◌, ◌≤◌, IsTrue, IfOk, IsOk, OnOk, OnErr};
+ghost use Rattle.gx_streams.specs.Kept.{is_known, items_in, nothing_told, on_user, places_in, with_kept_last, with_last, with_places, without_last};
+
+use crate::entry::Entry;
+use crate::stream::Stream;
+use gx_history::policy::Policy;
+use gx_units::{OutOfMemory, UserName};
+use indexmap::IndexMap;
+use std::alloc::Global;
+use std::marker::Model;
+
+/// What is kept of what each user of the policy was told, in order, and places kept for more.
+#[derive(Drop)]
+pub(crate) struct Told {
+    by_user: IndexMap<UserName, Stream>,
+}
+
+impl Model for Told {
+    ghost use Rattle.std.specs.Prelude.{List};
+    ghost use Rattle.gx_streams.specs.Kept.{UserList};
+    ghost use Rattle.gx_streams.specs.declared.entry.Entry.{Entry};
+
+    ghost Value = { List (UserList Entry) };
+
+    ghost use Rattle.gx_streams.specs.Table.{lists_of};
+
+    ghost view = { λ told. lists_of told.by_user.entries };
+}
+
+impl Told {
+    /// The policy's users, whom nothing was told, and no place kept.
+    pub(crate) fn new(alloc: Global, policy: &Policy) -> Result<Told, OutOfMemory>
+        ensures { IfOk result (λ told. told ≡ nothing_told policy.now) }
+    {
+        // What this ensures: no two users have one name.
+        let _ = policy.rules();
+        let mut by_user = IndexMap::with_capacity(alloc, policy.users().len())?;
+        for user in policy.users() {
+            by_user.insert(user.name, Stream::new(alloc))?;
+        }
+        Ok(Told { by_user })
+    }
+
+    /// Whether the user is one of the policy. Takes no memory.
+    #[tactic(auto, using(crate::proofs::Users::known_found))]
+    pub(crate) fn knows(&self, user: UserName) -> bool
+        ensures { result ≡ is_known self.now user }
+    {
+        self.by_user.contains_key(&user)
+    }
+
+    /// Puts the entry last in the user's stream, in a place of its own: those that are kept stay kept.
+    ///
+    /// `OutOfMemory`: the stream could not grow, and nothing has changed.
+    pub(crate) fn append(&mut self, user: UserName, entry: Entry) -> Result<(), OutOfMemory>
+        requires known { IsTrue (is_known self.old user) }
+        ensures ok { OnOk result (self.new ≡ on_user user (with_last entry) self.old) }
+        ensures err { OnErr result (self.new ≡ self.old) }
+    {
+        let Some(stream) = self.by_user.get_mut(&user) else {
+            return Ok(());
+        };
+        stream.push(entry)
+    }
+
+    fn take_back(&mut self, user: UserName)
+        requires known { IsTrue (is_known self.old user) }
+        ensures { self.new ≡ on_user user without_last self.old }
+    {
+        let Some(stream) = self.by_user.get_mut(&user) else {
+            return;
+        };
+        stream.take_back();
+    }
+
+    /// Puts one entry last in the first user's list, and then the other in the second's.
+    ///
+    /// `OutOfMemory`: one of them could not grow, and nothing has changed.
+    #[tactic(auto, using(crate::proofs::Users::known_after, crate::proofs::Users::taken_back))]
+    pub(crate) fn append_both(
+        &mut self,
+        first: UserName,
+        one: Entry,
+        second: UserName,
+        other: Entry,
+    ) -> Result<(), OutOfMemory>
+        requires first { IsTrue (is_known self.old first) }
+        requires second { IsTrue (is_known self.old second) }
+        ensures ok { OnOk result (self.new ≡ on_user second (with_last other) (on_user first (with_last one) self.old)) }
+        ensures err { OnErr result (self.new ≡ self.old) }
+    {
+        self.append(first, one)?;
+        match self.append(second, other) {
+            Ok(()) => Ok(()),
+            Err(refused) => {
+                self.take_back(first);
+                Err(refused)
+            }
+        }
+    }
+
+    /// Keeps at least so many places for the user. Places that are kept already count.
+    ///
+    /// `OutOfMemory`: the stream could not grow, and nothing has changed.
+    pub(crate) fn reserve(&mut self, user: UserName, places: usize) -> Result<(), OutOfMemory>
+        requires known { IsTrue (is_known self.old user) }
+        ensures ok { OnOk result (self.new ≡ on_user user (with_places places) self.old) }
+        ensures enough { places ≤ places_in self.old user → IsOk result }
+        ensures err { OnErr result (self.new ≡ self.old) }
+    {
+        let Some(stream) = self.by_user.get_mut(&user) else {
+            return Ok(());
+        };
+        stream.reserve(places)
+    }
+
+    /// Puts the entry last in the user's stream, in a place that is kept. Takes no memory.
+    pub(crate) fn append_reserved(&mut self, user: UserName, entry: Entry)
+        requires { 0 < places_in self.old user }
+        ensures { self.new ≡ on_user user (with_kept_last entry) self.old }
+    {
+        let Some(stream) = self.by_user.get_mut(&user) else {
+            return;
+        };
+        stream.push_reserved(entry);
+    }
+
+    /// The user's entries, in order.
+    #[tactic(auto, using(crate::proofs::Users::items_found))]
+    pub(crate) fn entries(&self, user: UserName) -> &[Entry]
+        ensures { result.now ≡ items_in self.now user }
+    {
+        match self.by_user.get(&user) {
+            Some(stream) => stream.as_slice(),
+            None => &[],
+        }
+    }
+
+    /// How many places are kept for the user. Takes no memory.
+    #[tactic(auto, using(crate::proofs::Users::spare_found))]
+    pub(crate) fn spare(&self, user: UserName) -> usize
+        ensures { result ≡ places_in self.now user }
+    {
+        match self.by_user.get(&user) {
+            Some(stream) => stream.spare(),
+            None => 0,
+        }
+    }
+}
