@@ -3,6 +3,7 @@ use Rattle.std.proofs.Common.{◌≡◌, ℕ, ◌+◌, ◌<◌, ◌≤◌, arith
 use Rattle.std.proofs.Math.Path.{subst}
 use Rattle.std.proofs.lemmas.List.{append_assoc, append_cancel_left, map-append}
 use Rattle.std.specs.Prelude.{Option, Some, None, is_some, option_and_then, option_map, ◌&&◌, ◌||◌}
+use Rattle.std.specs.Option.{option_map_or}
 use Rattle.std.specs.List.{AllByRecursion, filter, list_any}
 use Rattle.gx_units.specs.Names.{same_user}
 use Rattle.gx_units.specs.declared.names.AccountName.{AccountName}
@@ -21,11 +22,11 @@ use Rattle.gx_history.specs.declared.record.Step.TheVariants as steps
 use Rattle.gx_history.specs.declared.record.Verdict.TheVariants as verdicts
 use Rattle.gx_history.specs.declared.report.Message.{Message}
 use Rattle.gx_history.specs.declared.report.Report.{Report}
-use Rattle.gx_history.specs.Asking.{changes, knows_limit, knows_names, rule_in_force}
+use Rattle.gx_history.specs.Asking.{knows_limit, knows_names, rule_in_force}
 use Rattle.gx_history.specs.InForce.{changed, limit_of, rules_in_force}
 use Rattle.gx_history.specs.Lists.{are_distinct}
 use Rattle.gx_history.specs.Orders.{ends_account}
-use Rattle.gx_history.specs.People.{is_trader, reader_in, role_in, user_in}
+use Rattle.gx_history.specs.People.{account_named, is_trader, reader_in, role_in, user_in}
 use Rattle.gx_history.specs.Requests.{action_of}
 use Rattle.gx_history.specs.Soundness.{is_sound}
 use Rattle.gx_history.specs.Streams.{answer, day_end, ended, reported, reports_of, stream, to_user}
@@ -35,7 +36,6 @@ use Rattle.gx_history_laws.proofs.Judging.{both}
 use Rattle.gx_history_laws.proofs.Names.{same_user_flip, users_differ}
 use Rattle.gx_history_laws.proofs.NextReports.{stream_next}
 use Rattle.gx_history_laws.proofs.Runs.{step_left}
-use Rattle.gx_effects.proofs.Allowed.{changes_something}
 use Rattle.gx_effects.proofs.Commanding.{GrantsCommand, grants_the_command, told_by_command}
 use Rattle.gx_day.specs.InForce.{day_commanded}
 use Rattle.gx_day.proofs.Answering.{command_is_known}
@@ -48,9 +48,8 @@ use Rattle.gx_orders.proofs.Telling.{ends_are_told}
 use Rattle.gx_book.specs.Books.{StockOrders}
 use Rattle.gx_market.specs.Changes.{ended_by}
 use Rattle.gx_market.proofs.Requested as booked
-use Rattle.gx_people.specs.Entitled.{given, people_in_force, sees}
-use Rattle.gx_people.proofs.Keeping.{named_see}
-use Rattle.gx_people.proofs.Table.{map_or}
+use Rattle.gx_people.specs.Entitled.{given, has_room, people_in_force}
+use Rattle.gx_people.proofs.Room.{readers_have_room}
 use Rattle.gx_streams.specs.Kept.{UserList, places_in}
 use Rattle.gx_streams.specs.Streams.{AllStreams, ReaderMask}
 use Rattle.gx_streams.specs.Telling.{each_told, owed_to, shown, with_all_owed, with_owed}
@@ -63,7 +62,7 @@ use Rattle.gx_keepers.specs.Ends.{HaveOwedPlaces, is_ended, live_left, owed_by_a
 use Rattle.gx_keepers.specs.Keepers.{AreInForceBut, AreSentTo, HavePlaces, Takes}
 use Rattle.gx_keepers.specs.Ledgers.{ended_orders}
 use Rattle.gx_keepers.specs.Messages.{day_end_message}
-use Rattle.gx_keepers.specs.Settings.{HasSetting, IsUnseen, sent_on}
+use Rattle.gx_keepers.specs.Settings.{HasRoom, HasSetting, sent_on}
 use Rattle.gx_keepers.proofs.Carrying.{by_grant}
 use Rattle.gx_keepers.proofs.Figuring.{command_figured, none_end}
 use Rattle.gx_keepers.proofs.Sending.{owed_masks, sent_after, sent_told, shown_by_told}
@@ -355,25 +354,23 @@ has_setting policy history a r c k t grants asks =
     subst (λ (rules : List FileRule). HasSetting rules c.action) (sym t.in_force.rules)
     (knows_setting policy history c.action (command_is_known policy history a r c t.left grants asks))
 
--- the reader whom a granted Grant names has not got the account
-pub is_unseen : (policy : PolicyData) (history : List RecordData) (a : Asked) (r : RecordData) (c : Command) (k : Keepers)
-    → Takes policy history a r k → r.verdict ≡ verdicts.Granted → a.request ≡ requests.Command c → is_sound policy ≡ true → IsUnseen k.people c.action
-is_unseen policy history a r c k t granted asks sound =
-    subst (λ (people : List User). IsUnseen people c.action) (sym t.in_force.people)
-    (by c.action (changes_something policy history a r c.action (grants policy history a r c k t granted asks) t.left))
+-- the reader whom a granted Grant names has room for the account
+pub has_room_for : (policy : PolicyData) (history : List RecordData) (a : Asked) (r : RecordData) (c : Command) (k : Keepers)
+    → Takes policy history a r k → r.verdict ≡ verdicts.Granted → a.request ≡ requests.Command c → is_sound policy ≡ true → HasRoom k.people c.action
+has_room_for policy history a r c k t granted asks sound =
+    subst (λ (people : List User). HasRoom people c.action) (sym t.in_force.people)
+    (by c.action (command_is_known policy history a r c t.left granted asks))
   where
-    flipped : (b : Bool) → not b ≡ true → b ≡ false
-    flipped true h = cc
-    flipped false h = refl
-
-    by : (action : Action) → changes policy history a.user action ≡ true → IsUnseen (people_in_force policy history) action
-    by (actions.Grant written account) h =
-        map_or (λ (u : User). u.name) (λ (name : UserName). sees (people_in_force policy history) name account) (reader_in (people_in_force policy history) written)
-        ∙ named_see policy history written account sound ∙ flipped _ h
-    by (actions.Revoke written account) h = tt
-    by (actions.SetLimit rule limit) h = tt
-    by (actions.Restrict rule stock) h = tt
-    by (actions.Unrestrict rule stock) h = tt
-    by (actions.Kill account) h = tt
-    by (actions.Lift account) h = tt
-    by actions.CloseDay h = tt
+    by : (action : Action) → knows_names policy history action ≡ true → HasRoom (people_in_force policy history) action
+    by (actions.Grant written account) known = named (reader_in (people_in_force policy history) written)
+      where
+        named : (found : Option User) → option_map_or (λ (u : User). has_room (people_in_force policy history) u.name account) found true ≡ true
+        named None = refl
+        named (Some u) = readers_have_room policy history u.name account sound t.legal (both (is_some (reader_in policy.users written)) (is_some (account_named policy account)) known).1
+    by (actions.Revoke written account) known = tt
+    by (actions.SetLimit rule limit) known = tt
+    by (actions.Restrict rule stock) known = tt
+    by (actions.Unrestrict rule stock) known = tt
+    by (actions.Kill account) known = tt
+    by (actions.Lift account) known = tt
+    by actions.CloseDay known = tt

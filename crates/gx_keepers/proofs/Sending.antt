@@ -24,8 +24,8 @@ use Rattle.gx_history_laws.proofs.Adding.{user_is, user_is_itself}
 use Rattle.gx_history_laws.proofs.Judging.{both}
 use Rattle.gx_history_laws.proofs.Masks.{same_mask}
 use Rattle.gx_history_laws.proofs.Order.{some_same}
-use Rattle.gx_history_laws.proofs.Names.{same_account_flip, same_user_flip, users_differ}
-use Rattle.gx_people.specs.Entitled.{change_role, given, granted_to, revoked_from, sees, sees_but, with_account, without_account}
+use Rattle.gx_history_laws.proofs.Names.{same_user_flip, users_differ}
+use Rattle.gx_people.specs.Entitled.{change_role, given, granted_to, has_room, revoked_from, sees, sees_with, sees_without, with_account, without_account}
 use Rattle.gx_streams.specs.Kept.{at_first}
 use Rattle.gx_streams.specs.Streams.{AllStreams, ReaderMask, empty_streams, entitled, mask_in, no_mask, with_mask}
 use Rattle.gx_streams.specs.Telling.{shown, shown_list, with_all_owed, with_owed}
@@ -177,23 +177,21 @@ owed_masks (o ∷ owed) streams = owed_masks owed (with_owed streams o)
 
 -- ---- what a Revoke leaves, before it is made
 
-hidden_is : (same seen : Bool) → (seen && not same) ≡ (not same && seen)
-hidden_is true true = refl
-hidden_is true false = refl
-hidden_is false true = refl
-hidden_is false false = refl
-
+-- what he would see without the account is what he sees once it is taken from him
 pub without_is : (policy : PolicyData) (before now : List User) (reader : UserName) (account : AccountName)
     → ((user : UserName) (other : AccountName) → sees now user other ≡ (not (same_user user reader && same_account other account) && sees before user other))
-    → mask_by (sees_but before reader (Some account)) policy.accounts ≡ mask_by (sees now reader) policy.accounts
+    → mask_by (sees_without before reader account) policy.accounts ≡ mask_by (sees now reader) policy.accounts
 without_is policy before now reader account pair =
-    same_mask (sees_but before reader (Some account)) (sees now reader)
-    (λ other.
-    ap (λ b. sees before reader other && not b) (same_account_flip account other)
-    ∙ hidden_is (same_account other account) (sees before reader other)
-    ∙ ap (λ b. not (b && same_account other account) && sees before reader other) (sym (user_is_itself reader))
-    ∙ sym (pair reader other))
-    policy.accounts
+    same_mask (sees_without before reader account) (sees now reader)
+    (λ other. ap (λ b. not (b && same_account other account) && sees before reader other) (sym (user_is_itself reader)) ∙ sym (pair reader other)) policy.accounts
+
+-- and what he would see with it is what he sees once it is given to him
+pub with_is : (policy : PolicyData) (before now : List User) (reader : UserName) (account : AccountName)
+    → ((user : UserName) (other : AccountName) → sees now user other ≡ ((same_user user reader && same_account other account) || sees before user other))
+    → mask_by (sees_with before reader account) policy.accounts ≡ mask_by (sees now reader) policy.accounts
+with_is policy before now reader account pair =
+    same_mask (sees_with before reader account) (sees now reader)
+    (λ other. ap (λ b. (b && same_account other account) || sees before reader other) (sym (user_is_itself reader)) ∙ sym (pair reader other)) policy.accounts
 
 -- ---- the beginning of a day
 
@@ -345,6 +343,12 @@ sent_named policy now streams (Some u) reader e = ap (λ (name : UserName). enti
 pub sent_nobody : (policy : PolicyData) (now : List User) (streams : AllStreams) (found : Option User) → option_map (λ (u : User). u.name) found ≡ None → sent_to policy now streams found ≡ streams
 sent_nobody policy now streams None e = refl
 sent_nobody policy now streams (Some u) e = cc
+
+-- the reader named has room where whom the name finds has
+pub room_named : (users : List User) (found : Option User) (reader : UserName) (account : AccountName) → option_map (λ (u : User). u.name) found ≡ Some reader
+    → option_map_or (λ (u : User). has_room users u.name account) found true ≡ true → has_room users reader account ≡ true
+room_named users None reader account e room = cc
+room_named users (Some u) reader account e room = ap (λ (name : UserName). has_room users name account) (sym (some_same e)) ∙ room
 
 -- nobody is given anything
 pub given_nobody : (users : List User) (written : WrittenName) (account : AccountName) → option_map (λ (u : User). u.name) (reader_in users written) ≡ None

@@ -1,5 +1,5 @@
 -- What a setting asks of the rules.
-use Rattle.std.specs.Prelude.{IsFalse, IsTrue, List, Option, false, is_some}
+use Rattle.std.specs.Prelude.{IsTrue, List, Option, true, is_some}
 use Rattle.std.specs.Option.{option_map_or}
 use Rattle.gx_desk.specs.declared.Action.{Action}
 use Rattle.gx_desk.specs.declared.Action.TheVariants as actions
@@ -9,7 +9,7 @@ use Rattle.gx_history.specs.declared.policy.PolicyData.{PolicyData}
 use Rattle.gx_history.specs.declared.policy.User.{User}
 use Rattle.gx_history.specs.Masks.{mask_by}
 use Rattle.gx_history.specs.People.{reader_in, rule_in}
-use Rattle.gx_people.specs.Entitled.{sees}
+use Rattle.gx_people.specs.Entitled.{has_room, sees}
 use Rattle.gx_streams.specs.Streams.{AllStreams, entitled}
 use Rattle.gx_rules.specs.Settings.{limit_in}
 
@@ -24,16 +24,16 @@ HasSetting rules (actions.Kill account) = Unit {0}
 HasSetting rules (actions.Lift account) = Unit {0}
 HasSetting rules actions.CloseDay = Unit {0}
 
--- the reader whom a Grant names does not see the account
-abbrev pub IsUnseen : List User → Action → Type 0
-IsUnseen people (actions.Grant written account) = IsFalse (option_map_or (λ (u : User). sees people u.name account) (reader_in people written) false)
-IsUnseen people (actions.Revoke written account) = Unit {0}
-IsUnseen people (actions.SetLimit rule limit) = Unit {0}
-IsUnseen people (actions.Restrict rule stock) = Unit {0}
-IsUnseen people (actions.Unrestrict rule stock) = Unit {0}
-IsUnseen people (actions.Kill account) = Unit {0}
-IsUnseen people (actions.Lift account) = Unit {0}
-IsUnseen people actions.CloseDay = Unit {0}
+-- the reader whom a Grant names has room for the account
+abbrev pub HasRoom : List User → Action → Type 0
+HasRoom people (actions.Grant written account) = IsTrue (option_map_or (λ (u : User). has_room people u.name account) (reader_in people written) true)
+HasRoom people (actions.Revoke written account) = Unit {0}
+HasRoom people (actions.SetLimit rule limit) = Unit {0}
+HasRoom people (actions.Restrict rule stock) = Unit {0}
+HasRoom people (actions.Unrestrict rule stock) = Unit {0}
+HasRoom people (actions.Kill account) = Unit {0}
+HasRoom people (actions.Lift account) = Unit {0}
+HasRoom people actions.CloseDay = Unit {0}
 
 -- the reader of this name gets the fills of what he sees among these people
 abbrev pub sent_to : PolicyData → List User → AllStreams → Option User → AllStreams

@@ -91,8 +91,8 @@ fn set_day(day: &mut Day, action: &Action)
 ///
 /// # Errors
 ///
-/// `OutOfMemory`: there was no memory for one more account that a reader sees, for another span of
-/// fills that he gets, or for one more stock in a list, and nothing has changed.
+/// `OutOfMemory`: there was no memory for another span of fills that a reader gets, or for one more
+/// stock in a list, and nothing has changed.
 pub fn apply_command(
     keepers: &mut Keepers,
     next: NextRecord<'_>,

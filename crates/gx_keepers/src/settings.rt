@@ -4,7 +4,7 @@ ghost use Rattle.std.specs.Prelude.{◌≡◌, OnOk, OnErr};
 ghost use Rattle.gx_desk.specs.declared.Action.TheVariants as actions;
 ghost use Rattle.gx_history.specs.InForce.{changed};
 ghost use Rattle.gx_people.specs.Entitled.{given};
-ghost use Rattle.gx_keepers.specs.Settings.{sent_on, HasSetting, IsUnseen};
+ghost use Rattle.gx_keepers.specs.Settings.{sent_on, HasRoom, HasSetting};
 
 use gx_desk::{Action, WrittenName};
 use gx_history::policy::Policy;
@@ -21,7 +21,7 @@ fn grant(
     written: WrittenName,
     account: AccountName,
 ) -> Result<(), OutOfMemory>
-    requires unseen { IsUnseen people.old (actions.Grant written account) }
+    requires room { HasRoom people.old (actions.Grant written account) }
     ensures people { OnOk result (people.new ≡ given people.old (actions.Grant written account)) }
     ensures streams { OnOk result (streams.new
         ≡ sent_on policy.now people.old people.new streams.old (actions.Grant written account)) }
@@ -31,14 +31,9 @@ fn grant(
     let Some(reader) = people.reader_named(written) else {
         return Ok(());
     };
-    people.grant(reader, account)?;
-    match streams.entitle(reader, people.mask(policy, reader)) {
-        Ok(()) => Ok(()),
-        Err(refused) => {
-            people.revoke(reader, account);
-            Err(refused)
-        }
-    }
+    streams.entitle(reader, people.mask_with(policy, reader, account))?;
+    people.grant(reader, account);
+    Ok(())
 }
 
 /// Takes the account from the reader whom the officer names, who gets no later fill of it.
@@ -68,8 +63,8 @@ fn revoke(
 ///
 /// # Errors
 ///
-/// `OutOfMemory`: there was no memory for one more account, for one more span of fills, or for one
-/// more stock, and nothing has changed.
+/// `OutOfMemory`: there was no memory for one more span of fills, or for one more stock, and
+/// nothing has changed.
 pub fn set(
     people: &mut People,
     streams: &mut Streams,
@@ -77,7 +72,7 @@ pub fn set(
     policy: &Policy,
     action: &Action,
 ) -> Result<(), OutOfMemory>
-    requires unseen { IsUnseen people.old action.now }
+    requires room { HasRoom people.old action.now }
     requires known { HasSetting rules.old action.now }
     ensures people { OnOk result (people.new ≡ given people.old action.now) }
     ensures streams { OnOk result (streams.new

@@ -3,5 +3,4 @@ pub mod Spelling
 pub mod Changing
 pub mod Entitling
 pub mod Keeping
-pub mod TakenBack
-pub mod Bits
+pub mod Room

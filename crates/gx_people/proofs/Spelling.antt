@@ -44,7 +44,7 @@ same_written written a b upper_a upper_b is_a is_b =
 abbrev pub AreUpper : List User → Type 0
 AreUpper users = AllByRecursion (λ (u : User). has_no_lower_case u.name.bytes ≡ true) users
 
-both_hold : (a b : Bool) → a ≡ true → b ≡ true → (a && b) ≡ true
+pub both_hold : (a b : Bool) → a ≡ true → b ≡ true → (a && b) ≡ true
 both_hold a b h k = ap (λ c. c && b) h ∙ k
 
 space_upper : (byte : ℕ) → is_space byte ≡ true → not (is_lower_case byte) ≡ true

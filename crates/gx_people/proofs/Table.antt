@@ -17,7 +17,6 @@ use Rattle.gx_desk.specs.declared.WrittenName.{WrittenName}
 use Rattle.gx_history.specs.declared.policy.Role.{Role}
 use Rattle.gx_history.specs.declared.policy.User.{User}
 use Rattle.gx_history.specs.Lists.{are_distinct}
-use Rattle.gx_history.specs.InForce.{in_role}
 use Rattle.gx_history.specs.Logins.{password_is, same_password}
 use Rattle.gx_history.specs.People.{is_reader, user_in, role_in, reader_in}
 use Rattle.gx_history_laws.proofs.Adding.{user_is, user_is_itself}
@@ -25,7 +24,7 @@ use Rattle.gx_history_laws.proofs.Judging.{both}
 use Rattle.gx_history_laws.proofs.Names.{same_user_flip}
 use Rattle.gx_history_laws.proofs.Order.{some_same}
 use Rattle.gx_history_laws.proofs.Tables.{changed_in_place, new_next}
-use Rattle.gx_people.specs.Entitled.{change_role, sees}
+use Rattle.gx_people.specs.Entitled.{change_role, has_room, role_has_room}
 use Rattle.gx_people.specs.View.{role_of_standing, user_of, users_of}
 use Rattle.gx_people.specs.declared.person.Person.{Person}
 
@@ -86,21 +85,6 @@ role_written f name entries before after distinct found password role =
         let user : Password → Role → User = λ (p : Password) (r : Role). record { name = n; password = p; role = r } in
         ap (λ p. user p (f (role_of_standing before.standing))) (sym password) ∙ ap (user after.password) (sym role)
 
-nothing_changed : (name : UserName) (entries : List (UserName × Person)) → map (change_role name (λ r. r)) (users_of entries) ≡ users_of entries
-nothing_changed name [] = refl
-nothing_changed name (e ∷ es) =
-    let role : Role = role_of_standing e.1.standing in
-    elim (same_user e.0 name) as (λ b. (record { name = e.0; password = e.1.password; role = if b then role else role }) ∷ map (change_role name (λ r. r)) (users_of es) ≡ users_of (e ∷ es))
-    [ true ↦ ap (λ us. user_of e ∷ us) (nothing_changed name es) | false ↦ ap (λ us. user_of e ∷ us) (nothing_changed name es) ]
-
--- the person of this name, with the same role
-pub same_in_place : (name : UserName) (entries : List (UserName × Person)) (before after : Person)
-    → IsDistinct same_user (keys_of entries) → lookup (same_user name) entries ≡ Some before
-    → after.password ≡ before.password → role_of_standing after.standing ≡ role_of_standing before.standing
-    → users_of (set_value (same_user name) entries after) ≡ users_of entries
-same_in_place name entries before after distinct found password role =
-    role_written (λ r. r) name entries before after distinct found password role ∙ nothing_changed name entries
-
 -- one more of the policy's users
 pub added_next : (entries : List (UserName × Person)) (name : UserName) (person : Person) (users : List User) (i : ℕ) (u : User)
     → are_distinct (λ (a b : User). same_user a.name b.name) users ≡ true → users_of entries ≡ take i users → i < length users → u ≡ get_or users i u → user_of (name, person) ≡ u
@@ -160,9 +144,10 @@ named_reads entries written name distinct = by (reader_in (users_of entries) wri
     by None is e = absurd (true≢false (ap is_some e))
     by (Some u) is e = ap (λ (n : UserName). is_reader (role_in (users_of entries) n)) (some_same e) ∙ found_reads entries written u distinct is
 
--- what the person found sees
-pub seen_found : (entries : List (UserName × Person)) (name : UserName) (account : AccountName) (p : Person) → Some p ≡ lookup (same_user name) entries
-    → sees (users_of entries) name account ≡ in_role (role_of_standing p.standing) account
-seen_found entries name account p found =
-    ap (λ o. option_map_or (λ role. in_role role account) o false)
-    (role_found entries name ∙ ap (option_map (λ (q : Person). role_of_standing q.standing)) (sym found))
+-- what the person found has room for
+pub room_found : (entries : List (UserName × Person)) (name : UserName) (account : AccountName) (p : Person) → Some p ≡ lookup (same_user name) entries
+    → role_has_room (role_of_standing p.standing) account ≡ has_room (users_of entries) name account
+room_found entries name account p found =
+    sym
+    (ap (λ o. option_map_or (λ role. role_has_room role account) o true)
+    (role_found entries name ∙ ap (option_map (λ (q : Person). role_of_standing q.standing)) (sym found)))

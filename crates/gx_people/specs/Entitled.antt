@@ -1,6 +1,6 @@
 -- Who may do what, and who sees which account, among users as they are now.
 use Rattle.std.specs.Option.{option_map_or}
-use Rattle.std.specs.Prelude.{Bool, false, not, ◌&&◌, List, [], ◌∷◌, ◌++◌, map, fold, filter, if◌then◌else◌, Option, Some}
+use Rattle.std.specs.Prelude.{ℕ, Bool, true, false, not, ◌&&◌, ◌||◌, nat_lt, List, [], ◌∷◌, ◌++◌, length, map, fold, filter, if◌then◌else◌, Option, Some}
 use Rattle.gx_units.specs.Names.{same_user, same_account}
 use Rattle.gx_units.specs.declared.names.AccountName.{AccountName}
 use Rattle.gx_units.specs.declared.names.UserName.{UserName}
@@ -15,6 +15,8 @@ use Rattle.gx_history.specs.declared.record.RecordData.{RecordData}
 use Rattle.gx_history.specs.InForce.{in_role}
 use Rattle.gx_history.specs.People.{covers, names_account, reader_in, role_in}
 use Rattle.gx_history.specs.Requests.{granted_actions}
+use Rattle.gx_people.specs.declared.people.Change.{Change}
+use Rattle.gx_people.specs.declared.people.Change.TheVariants as changes
 use Rattle.gx_people.specs.declared.power.Power.{Power}
 use Rattle.gx_people.specs.declared.power.Power.TheVariants as powers
 
@@ -53,9 +55,32 @@ may users officer power account = has users officer power && holds users officer
 abbrev pub sees : List User → UserName → AccountName → Bool
 sees users reader account = option_map_or (λ role. in_role role account) (role_in users reader) false
 
--- and it is not the hidden one
-abbrev pub sees_but : List User → UserName → Option AccountName → AccountName → Bool
-sees_but users reader hidden account = sees users reader account && not (option_map_or (λ name. same_account name account) hidden false)
+-- he would see the other account, were this one his too
+abbrev pub sees_with : List User → UserName → AccountName → AccountName → Bool
+sees_with users reader account other = same_account other account || sees users reader other
+
+-- and were this one not his
+abbrev pub sees_without : List User → UserName → AccountName → AccountName → Bool
+sees_without users reader account other = not (same_account other account) && sees users reader other
+
+-- what he would see after the change
+abbrev pub sees_after : List User → UserName → Change → AccountName → Bool
+sees_after users reader changes.Nothing = sees users reader
+sees_after users reader (changes.Grant account) = sees_with users reader account
+sees_after users reader (changes.Revoke account) = sees_without users reader account
+
+-- as many accounts as a policy may have
+abbrev pub account_limit : ℕ
+account_limit = 64
+
+-- the account is the reader's already, or fewer are his than a policy may have
+abbrev pub role_has_room : Role → AccountName → Bool
+role_has_room (roles.Reader names) account = names_account names account || nat_lt (length names) account_limit
+role_has_room other account = true
+
+-- the reader of this name has the account already, or fewer than a policy may have
+abbrev pub has_room : List User → UserName → AccountName → Bool
+has_room users reader account = option_map_or (λ role. role_has_room role account) (role_in users reader) true
 
 -- a reader's accounts with this one last, unless it is there; any other role as it is
 abbrev pub with_account : AccountName → Role → Role

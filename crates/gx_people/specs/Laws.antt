@@ -1,5 +1,6 @@
 -- What the users in force keep of the policy, and what each command changes.
 use Rattle.std.specs.Option.{option_map_or}
+use Rattle.std.specs.List.{list_all}
 use Rattle.std.specs.Prelude.{◌≡◌, false, not, ◌&&◌, ◌||◌, IsTrue, is_some, List, [], ◌∷◌, ◌++◌, Some, option_map, option_and_then}
 use Rattle.gx_units.specs.Names.{same_user, same_account}
 use Rattle.gx_units.specs.declared.names.AccountName.{AccountName}
@@ -14,10 +15,11 @@ use Rattle.gx_history.specs.declared.record.RecordData.{RecordData}
 use Rattle.gx_history.specs.Asking.{has_power, sees_now}
 use Rattle.gx_history.specs.InForce.{is_entitled}
 use Rattle.gx_history.specs.Logins.{password_is}
-use Rattle.gx_history.specs.People.{account_of, account_of_role, is_officer, is_reader, is_trader, reader_in, role_in, user_in}
+use Rattle.gx_history.specs.People.{account_named, account_of, account_of_role, is_officer, is_reader, is_trader, reader_in, role_in, user_in}
 use Rattle.gx_history.specs.Requests.{granted_action}
-use Rattle.gx_history.specs.Soundness.{is_sound}
-use Rattle.gx_people.specs.Entitled.{given, granted_to, has, holds, holds_in_role, people_in_force, power_of, revoked_from, sees}
+use Rattle.gx_history.specs.Soundness.{is_sound, is_user_sound}
+use Rattle.gx_history.specs.Verdicts.{IsLegal}
+use Rattle.gx_people.specs.Entitled.{given, granted_to, has, has_room, holds, holds_in_role, people_in_force, power_of, revoked_from, sees}
 
 -- who sees which account in force is who is entitled to it
 abbrev pub EntitlementsAreKept : Type 0
@@ -104,3 +106,14 @@ GrantsGoToTheNamed = (users : List User) (written : WrittenName) (account : Acco
 abbrev pub RevocationsGoToTheNamed : Type 0
 RevocationsGoToTheNamed = (users : List User) (written : WrittenName) (account : AccountName) (reader : UserName)
     → option_map (λ (u : User). u.name) (reader_in users written) ≡ Some reader → given users (actions.Revoke written account) ≡ revoked_from reader account users
+
+-- in a legal day the users in force are sound, as the policy's are
+abbrev pub UsersStaySound : Type 0
+UsersStaySound = (policy : PolicyData) (history : List RecordData) → IsTrue (is_sound policy) → IsLegal policy history
+    → IsTrue (list_all (is_user_sound policy) (people_in_force policy history))
+
+-- so a reader has an account of the policy already, or fewer accounts than a policy may have
+abbrev pub ReadersHaveRoom : Type 0
+ReadersHaveRoom = (policy : PolicyData) (history : List RecordData) (reader : UserName) (account : AccountName)
+    → IsTrue (is_sound policy) → IsLegal policy history → IsTrue (is_some (account_named policy account))
+    → IsTrue (has_room (people_in_force policy history) reader account)

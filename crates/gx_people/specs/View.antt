@@ -12,7 +12,7 @@ use Rattle.gx_people.specs.declared.person.Standing.TheVariants as standings
 abbrev pub role_of_standing : Standing → Role
 role_of_standing (standings.Trader account) = roles.Trader account
 role_of_standing (standings.Officer his scope) = roles.Officer his scope
-role_of_standing (standings.Reader accounts) = roles.Reader accounts.items
+role_of_standing (standings.Reader accounts) = roles.Reader accounts
 
 -- the user of an entry
 abbrev pub user_of : UserName × Person → User

@@ -1,6 +1,6 @@
 //! Laws of the definitions, each as what a function without a body ensures.
 
-ghost use Rattle.gx_people.specs.Laws.{AccountsStay, EntitlementsAreKept, FirstAsThePolicySays, GrantsAddOnePair, GrantsGoToTheNamed, NamedReadersSee, NamesStay, NextByTheCommand, OfficersStay, PasswordsStay, PowersStay, ReadersStay, RevocationsGoToTheNamed, RevocationsTakeOnePair, ScopesStay, TradersStay, UsersStay};
+ghost use Rattle.gx_people.specs.Laws.{AccountsStay, EntitlementsAreKept, FirstAsThePolicySays, GrantsAddOnePair, GrantsGoToTheNamed, NamedReadersSee, NamesStay, NextByTheCommand, OfficersStay, PasswordsStay, PowersStay, ReadersHaveRoom, ReadersStay, RevocationsGoToTheNamed, RevocationsTakeOnePair, ScopesStay, TradersStay, UsersStay, UsersStaySound};
 
 /// Under a sound policy a reader sees an account exactly where the policy and the day's records entitle him to it.
 pub fn entitlements_are_kept()
@@ -33,4 +33,11 @@ pub fn commands_change_one_pair()
     ensures revoked { RevocationsTakeOnePair }
     ensures grant { GrantsGoToTheNamed }
     ensures revoke { RevocationsGoToTheNamed }
+{}
+
+/// In a legal day under a sound policy the users in force are sound, so a reader's accounts are the policy's, none of
+/// them twice: he has one of the policy's already, or there is room for it.
+pub fn readers_have_room()
+    ensures sound { UsersStaySound }
+    ensures room { ReadersHaveRoom }
 {}

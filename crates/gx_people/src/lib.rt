@@ -2,6 +2,7 @@
 //! account now.
 #![tactic(auto)]
 
+mod accounts;
 pub mod laws;
 pub mod people;
 mod person;

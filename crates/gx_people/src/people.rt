@@ -1,14 +1,15 @@
 //! The people of a policy, as they are now.
 
-ghost use Rattle.std.specs.Prelude.{◌≤◌, ◌<◌, ◌^◌, length, IsFalse, Some};
-ghost use Rattle.std.specs.Prelude.{◌≡◌, IsTrue, IfOk, OnOk, OnErr, option_map, option_and_then, is_some, IfSome, IsOk, ◌&&◌, ◌||◌, not};
+ghost use Rattle.std.specs.Prelude.{◌≤◌, ◌<◌, ◌^◌, length};
+ghost use Rattle.std.specs.Prelude.{◌≡◌, IsTrue, IfOk, option_map, option_and_then, is_some, IfSome, ◌&&◌, ◌||◌, not};
 ghost use Rattle.gx_units.specs.Names.{same_account, same_user};
 ghost use Rattle.gx_units.specs.declared.names.AccountName.{AccountName};
 ghost use Rattle.gx_units.specs.declared.names.UserName.{UserName};
 ghost use Rattle.gx_history.specs.Masks.{mask_by};
 ghost use Rattle.gx_history.specs.Logins.{password_is};
 ghost use Rattle.gx_history.specs.People.{account_of_role, is_officer, is_reader, is_trader, reader_in, role_in, user_in};
-ghost use Rattle.gx_people.specs.Entitled.{granted_to, has, holds, may, revoked_from, sees, sees_but};
+ghost use Rattle.gx_people.specs.Entitled.{granted_to, has, has_room, holds, may, revoked_from};
+ghost use Rattle.gx_people.specs.Entitled.{sees, sees_after, sees_with, sees_without};
 ghost use Rattle.gx_people.specs.View.{role_of_standing};
 
 use crate::person::{Person, Standing};
@@ -19,6 +20,16 @@ use gx_units::{AccountName, OutOfMemory, Password, UserName};
 use indexmap::IndexMap;
 use std::alloc::Global;
 use std::marker::Model;
+
+/// A change of what a reader sees, as it would be.
+#[derive(Clone, Copy)]
+enum Change {
+    Nothing,
+    /// He is shown this account.
+    Grant(AccountName),
+    /// This account is hidden from him.
+    Revoke(AccountName),
+}
 
 /// The users of a policy, in the file's order, each reader with the accounts that are his now.
 #[derive(Drop)]
@@ -38,7 +49,8 @@ impl Model for People {
 }
 
 impl People {
-    /// The people as the policy says, before any command. Takes memory for a copy of what it keeps.
+    /// The people as the policy says, before any command. Takes memory for a copy of what it keeps, and for each reader
+    /// for as many accounts as a policy may have.
     pub fn new(alloc: Global, policy: &Policy) -> Result<People, OutOfMemory>
         ensures { IfOk result (λ people. people ≡ policy.now.users) }
     {
@@ -154,40 +166,63 @@ impl People {
         }
     }
 
-    /// The accounts of these that the reader sees now, but for one that is hidden, as bits in their
-    /// order, the first in the lowest. Takes no memory.
-    fn mask_of(&self, accounts: &[Account], reader: UserName, hidden: Option<AccountName>) -> u64
+    /// Whether the user would see the account after the change.
+    fn sees_after(&self, reader: UserName, change: Change, account: AccountName) -> bool
+        ensures { result ≡ sees_after self.now reader change account }
+    {
+        match change {
+            Change::Nothing => self.sees(reader, account),
+            Change::Grant(shown) => account == shown || self.sees(reader, account),
+            Change::Revoke(hidden) => account != hidden && self.sees(reader, account),
+        }
+    }
+
+    /// The accounts of these that the reader would see after the change, as bits in their order,
+    /// the first in the lowest. Takes no memory.
+    fn mask_of(&self, accounts: &[Account], reader: UserName, change: Change) -> u64
         requires few { length accounts.now ≤ 64 }
-        ensures bits { result ≡ mask_by (sees_but self.now reader hidden) accounts.now }
+        ensures bits { result ≡ mask_by (sees_after self.now reader change) accounts.now }
         ensures within { result < 2 ^ length accounts.now }
     {
         match accounts.split_first() {
             None => 0,
             Some((first, others)) => {
-                let seen = self.sees(reader, first.name) && hidden != Some(first.name);
-                u64::from(seen) + 2 * self.mask_of(others, reader, hidden)
+                let seen = self.sees_after(reader, change, first.name);
+                u64::from(seen) + 2 * self.mask_of(others, reader, change)
             }
         }
     }
 
-    /// The accounts that the reader sees now, as bits in the file's order, the first in the lowest.
-    /// Takes no memory.
-    #[tactic(auto, using(crate::proofs::Bits::none_hidden))]
-    pub fn mask(&self, policy: &Policy, reader: UserName) -> u64
-        ensures { result ≡ mask_by (sees self.now reader) policy.now.accounts }
+    /// The accounts of the policy that the reader would see after the change, as bits in the file's
+    /// order, the first in the lowest. Takes no memory.
+    fn mask_after(&self, policy: &Policy, reader: UserName, change: Change) -> u64
+        ensures { result ≡ mask_by (sees_after self.now reader change) policy.now.accounts }
     {
         // What this ensures: there are at most 64 accounts.
         let _ = policy.rules();
-        self.mask_of(policy.accounts(), reader, None)
+        self.mask_of(policy.accounts(), reader, change)
+    }
+
+    /// The accounts that the reader sees now, as bits in the file's order, the first in the lowest.
+    /// Takes no memory.
+    pub fn mask(&self, policy: &Policy, reader: UserName) -> u64
+        ensures { result ≡ mask_by (sees self.now reader) policy.now.accounts }
+    {
+        self.mask_after(policy, reader, Change::Nothing)
+    }
+
+    /// Those that he would see with this one. Takes no memory.
+    pub fn mask_with(&self, policy: &Policy, reader: UserName, account: AccountName) -> u64
+        ensures { result ≡ mask_by (sees_with self.now reader account) policy.now.accounts }
+    {
+        self.mask_after(policy, reader, Change::Grant(account))
     }
 
     /// Those that he would see without this one. Takes no memory.
     pub fn mask_without(&self, policy: &Policy, reader: UserName, account: AccountName) -> u64
-        ensures { result ≡ mask_by (sees_but self.now reader (Some account)) policy.now.accounts }
+        ensures { result ≡ mask_by (sees_without self.now reader account) policy.now.accounts }
     {
-        // What this ensures: there are at most 64 accounts.
-        let _ = policy.rules();
-        self.mask_of(policy.accounts(), reader, Some(account))
+        self.mask_after(policy, reader, Change::Revoke(account))
     }
 
     /// The name of the reader whom an officer names, in the policy's own spelling. It looks at each user in turn.
@@ -203,22 +238,19 @@ impl People {
         None
     }
 
-    /// Gives the reader the account. Only where there is no memory for one more is it refused, and then nothing changes.
-    pub fn grant(&mut self, reader: UserName, account: AccountName) -> Result<(), OutOfMemory>
+    /// Gives the reader the account. Takes no memory.
+    pub fn grant(&mut self, reader: UserName, account: AccountName)
         requires known { IsTrue (is_reader (role_in self.old reader)) }
-        ensures granted { OnOk result (self.new ≡ granted_to reader account self.old) }
-        ensures pair { OnOk result ((user : UserName) (other : AccountName)
-            → sees self.new user other ≡ ((same_user user reader && same_account other account)
-            || sees self.old user other)) }
-        ensures again { IsTrue (sees self.old reader account) → IsOk result }
-        ensures back { OnOk result (IsFalse (sees self.old reader account)
-            → revoked_from reader account self.new ≡ self.old) }
-        ensures unchanged { OnErr result (self.new ≡ self.old) }
+        requires room { IsTrue (has_room self.old reader account) }
+        ensures granted { self.new ≡ granted_to reader account self.old }
+        ensures pair { (user : UserName) (other : AccountName) → sees self.new user other
+            ≡ ((same_user user reader && same_account other account)
+            || sees self.old user other) }
     {
         let Some(person) = self.by_name.get_mut(&reader) else {
-            return Ok(());
+            return;
         };
-        person.standing.grant(account)
+        person.standing.grant(account);
     }
 
     /// Takes the account from the reader.

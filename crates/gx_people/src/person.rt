@@ -1,12 +1,12 @@
 //! What the gate keeps of one user.
 
-ghost use Rattle.std.specs.Prelude.{◌≡◌, IfOk, OnOk, OnErr, IsOk, IsTrue, Some, filter, not};
-ghost use Rattle.gx_units.specs.Names.{same_account};
+ghost use Rattle.std.specs.Prelude.{◌≡◌, IfOk, IsTrue, Some};
 ghost use Rattle.gx_history.specs.InForce.{in_role};
-ghost use Rattle.gx_history.specs.People.{is_reader, names_account};
-ghost use Rattle.gx_people.specs.Entitled.{with_account, without_account};
+ghost use Rattle.gx_history.specs.People.{is_reader};
+ghost use Rattle.gx_people.specs.Entitled.{role_has_room, with_account, without_account};
 ghost use Rattle.gx_people.specs.View.{role_of_standing};
 
+use crate::accounts::ReaderAccounts;
 use gx_history::policy::{Powers, Role, Scope};
 use gx_units::{AccountName, OutOfMemory, Password};
 use std::alloc::Global;
@@ -26,30 +26,22 @@ pub(crate) enum Standing {
     /// Gives commands, within his powers and his accounts.
     Officer(Powers, Scope),
     /// Is shown the fills of these accounts.
-    Reader(Vec<AccountName>),
-}
-
-fn names_account(names: &[AccountName], account: AccountName) -> bool
-    ensures { result ≡ names_account names.now account }
-{
-    names.iter().any(|name| *name == account)
-}
-
-fn remove(names: &mut Vec<AccountName>, account: AccountName)
-    ensures { names.new.items ≡ filter (λ name. not (same_account name account)) names.old.items }
-{
-    names.retain(|name| *name != account);
+    Reader(ReaderAccounts),
 }
 
 impl Standing {
-    /// What the policy says that he is.
+    /// What the policy says that he is. Takes memory for a copy of it, and of a reader for as many accounts as a policy
+    /// may have.
     pub(crate) fn of(alloc: Global, role: &Role) -> Result<Standing, OutOfMemory>
         ensures { IfOk result (λ r. role_of_standing r ≡ role.now) }
     {
         match role {
             Role::Trader(account) => Ok(Standing::Trader(*account)),
             Role::Officer(powers, scope) => Ok(Standing::Officer(*powers, scope.copied(alloc)?)),
-            Role::Reader(names) => Ok(Standing::Reader(names.as_slice().to_vec(alloc)?)),
+            Role::Reader(names) => {
+                let accounts = ReaderAccounts::of(alloc, names.as_slice())?;
+                Ok(Standing::Reader(accounts))
+            }
         }
     }
 
@@ -65,25 +57,21 @@ impl Standing {
         ensures { result ≡ in_role (role_of_standing self.now) account }
     {
         match self {
-            Standing::Reader(accounts) => names_account(accounts.as_slice(), account),
+            Standing::Reader(accounts) => accounts.contains(account),
             _ => false,
         }
     }
 
-    /// Gives a reader the account.
-    pub(crate) fn grant(&mut self, account: AccountName) -> Result<(), OutOfMemory>
-        ensures granted { OnOk result (role_of_standing self.new
-            ≡ with_account account (role_of_standing self.old)) }
-        ensures again { IsTrue (in_role (role_of_standing self.old) account) → IsOk result }
-        ensures unchanged { OnErr result (role_of_standing self.new ≡ role_of_standing self.old) }
+    /// Gives a reader the account. Takes no memory.
+    pub(crate) fn grant(&mut self, account: AccountName)
+        requires room { IsTrue (role_has_room (role_of_standing self.old) account) }
+        ensures { role_of_standing self.new ≡ with_account account (role_of_standing self.old) }
     {
-        if self.sees(account) {
-            return Ok(());
-        }
         if let Standing::Reader(accounts) = self {
-            accounts.push(account)?;
+            if !accounts.contains(account) {
+                accounts.push(account);
+            }
         }
-        Ok(())
     }
 
     /// Takes the account from a reader.
@@ -91,7 +79,7 @@ impl Standing {
         ensures { role_of_standing self.new ≡ without_account account (role_of_standing self.old) }
     {
         if let Standing::Reader(accounts) = self {
-            remove(accounts, account);
+            accounts.remove(account);
         }
     }
 }

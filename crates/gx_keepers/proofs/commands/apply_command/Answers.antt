@@ -1,9 +1,9 @@
-use Rattle.gx_keepers.proofs.Commanded.{command_goes_on, command_places, has_setting, is_unseen}
+use Rattle.gx_keepers.proofs.Commanded.{command_goes_on, command_places, has_room_for, has_setting}
 use Rattle.gx_keepers.proofs.commands.apply_command.Goals as goal
 
 pub set-requires : goal.set-requires
 set-requires c = record {
-  unseen = is_unseen c.args.next.policy.now c.args.next.history.now.records c.args.next.asked.now c.args.next.left.now c.args.c.now c.args.keepers.now c.requires.takes c.requires.granted c.requires.commands c.rules.ensures.sound;
+  room = has_room_for c.args.next.policy.now c.args.next.history.now.records c.args.next.asked.now c.args.next.left.now c.args.c.now c.args.keepers.now c.requires.takes c.requires.granted c.requires.commands c.rules.ensures.sound;
   known = has_setting c.args.next.policy.now c.args.next.history.now.records c.args.next.asked.now c.args.next.left.now c.args.c.now c.args.keepers.now c.requires.takes c.requires.granted c.requires.commands;
 }
 

@@ -1,7 +1,7 @@
 use Rattle.std.proofs.Common.{◌≤◌, List, length, subst, sym}
 use Rattle.gx_history.specs.declared.policy.Account.{Account}
 use Rattle.gx_history_laws.proofs.Names.{accounts_few}
-use Rattle.gx_people.proofs.people.People.mask_without.Goals as goal
+use Rattle.gx_people.proofs.people.People.mask_after.Goals as goal
 
 pub mask_of-requires : goal.mask_of-requires
 mask_of-requires c = record { few = subst (λ (accounts : List Account). length accounts ≤ 64) (sym c.accounts.ensures) (accounts_few c.args.policy.now c.rules.ensures.sound) }
