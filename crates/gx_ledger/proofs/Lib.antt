@@ -9,3 +9,4 @@ pub mod Opening
 pub mod Counted
 pub mod Answering
 pub mod Following
+pub mod Listing

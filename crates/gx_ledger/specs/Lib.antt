@@ -1,5 +1,6 @@
 pub mod Running
 pub mod Tallies
+pub mod Counts
 pub mod Keeping
 pub mod Tables
 pub mod Told

@@ -4,12 +4,14 @@ ghost use Rattle.std.specs.Prelude.{◌≡◌, IfOk};
 ghost use Rattle.gx_positions.specs.Changing.{nothing};
 ghost use Rattle.gx_ledger.specs.Keeping.{account_place, kept_executed, kept_noted, part, price_of};
 ghost use Rattle.gx_ledger.specs.Keeping.{reference_for, with_price};
+ghost use Rattle.gx_ledger.specs.Running.{account_changed};
 ghost use Rattle.gx_ledger.specs.StandsFor.{Accepts, Closes, Cuts, Fills, GivesFigures, StandsFor};
 ghost use Rattle.gx_ledger.specs.Told.{figures_at};
 
 use crate::placed::{Change, OpenOrder, Part, Placed};
-use crate::tables::{first_prices, first_tallies, names_of, note_in_all, set_price};
+use crate::tables::{first_prices, first_tallies, names_of, note_in, note_in_all, set_price};
 use crate::tally::{Tally, Wanted};
+use crate::tally_places::{TallyPlaces, counting_by_account};
 use gx_history::facts::{NO_FIGURES, NamedOrder, RuleFigures, TellsFigures};
 use gx_history::policy::Policy;
 use gx_history::record::Request;
@@ -25,10 +27,13 @@ pub struct Ledger {
     accounts: IndexSet<AccountName>,
     prices: IndexMap<Symbol, u32>,
     tallies: Vec<Tally>,
+    /// For each account, by its place, the tallies that count its orders.
+    counting: Vec<TallyPlaces>,
 }
 
 impl Model for Ledger {
     ghost use Rattle.gx_ledger.specs.Keeping.{Kept};
+    ghost use Rattle.gx_ledger.specs.Counts.{AreCounted};
 
     ghost Value = { Kept };
 
@@ -37,6 +42,9 @@ impl Model for Ledger {
       prices = ledger.prices.entries;
       tallies = ledger.tallies.items;
     } };
+
+    ghost invariant = { λ ledger.
+        AreCounted ledger.accounts.keys ledger.tallies.items ledger.counting.items };
 }
 
 /// The figures of each rule for one request, told as they are asked.
@@ -77,10 +85,12 @@ impl Ledger {
         let tallies = first_tallies(alloc, policy.rules(), policy.accounts())?;
         let accounts = names_of(alloc, policy.accounts())?;
         let prices = first_prices(alloc, policy.stocks())?;
+        let counting = counting_by_account(alloc, tallies.as_slice(), policy.accounts())?;
         Ok(Ledger {
             accounts,
             prices,
             tallies,
+            counting,
         })
     }
 
@@ -149,15 +159,28 @@ impl Ledger {
         ensures { self.new ≡ kept_noted change.now self.old }
     {
         let place = self.place(change.account());
-        note_in_all(&mut self.tallies, change, place);
+        self.note_at(place, change);
+    }
+
+    /// Takes note of a change of an order of the account that has this place in the policy.
+    fn note_at(&mut self, place: Option<usize>, change: &Change)
+        requires { place ≡ account_place self.old.accounts (account_changed change.now) }
+        ensures { self.new ≡ kept_noted change.now self.old }
+    {
+        let Some(place) = place else {
+            return note_in_all(&mut self.tallies, change);
+        };
+        let counting = self.counting[place].as_slice();
+        note_in(&mut self.tallies, counting, change, place);
     }
 
     fn execute(&mut self, order: &OpenOrder, shares: u32, price: u32)
         ensures { self.new ≡ kept_executed order.now shares price self.old }
     {
+        let place = self.place(order.account);
         let left = part_of(order, shares);
-        self.note(&Change::Left(left));
-        self.note(&Change::Executed(Part { price, ..left }));
+        self.note_at(place, &Change::Left(left));
+        self.note_at(place, &Change::Executed(Part { price, ..left }));
     }
 
     fn set_price(&mut self, stock: Symbol, price: u32)

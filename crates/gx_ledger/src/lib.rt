@@ -11,3 +11,4 @@ pub mod placed;
 mod sums;
 mod tables;
 mod tally;
+mod tally_places;

@@ -1,9 +1,10 @@
 //! The tables of a ledger.
 
-ghost use Rattle.std.specs.Prelude.{◌≡◌, map, IfOk, IsTrue};
+ghost use Rattle.std.specs.Prelude.{◌≡◌, map, None, Some, IfOk, IsTrue};
+ghost use Rattle.gx_ledger.specs.Counts.{noted_in, tally_inside};
 ghost use Rattle.gx_ledger.specs.Keeping.{account_names, noted, priced, reference_prices};
 ghost use Rattle.gx_ledger.specs.Tables.{accounts_differ, names_differ};
-ghost use Rattle.gx_ledger.specs.Tallies.{new_tally};
+ghost use Rattle.gx_ledger.specs.Tallies.{changed_at, new_tally};
 
 use crate::placed::Change;
 use crate::tally::Tally;
@@ -21,13 +22,32 @@ pub fn set_price(prices: &mut IndexMap<Symbol, u32>, stock: Symbol, price: u32)
     }
 }
 
-/// Tells each rule's tally of a change of an order of the account that has this place in the
-/// policy.
-pub fn note_in_all(tallies: &mut [Tally], change: &Change, place: Option<usize>)
-    ensures { tallies.new ≡ noted change.now place tallies.old }
+/// Tells each rule's tally of a change of an order of an account that is not the policy's.
+pub fn note_in_all(tallies: &mut [Tally], change: &Change)
+    ensures { tallies.new ≡ noted change.now None tallies.old }
 {
     for tally in tallies.iter_mut() {
-        tally.note(change, place);
+        tally.note(change, None);
+    }
+}
+
+/// Tells the tally at this place, if there is one, of a change of an order of an account in its
+/// scope that has this place in the policy.
+fn note_one(tallies: &mut [Tally], index: usize, change: &Change, place: usize)
+    ensures { tallies.new ≡ changed_at index (tally_inside change.now (Some place)) tallies.old }
+{
+    if index < tallies.len() {
+        tallies[index].note_inside(change, Some(place));
+    }
+}
+
+/// Tells the tallies at these places of a change of an order of an account in their scopes that
+/// has this place in the policy.
+pub fn note_in(tallies: &mut [Tally], indexes: &[usize], change: &Change, place: usize)
+    ensures { tallies.new ≡ noted_in change.now (Some place) tallies.old indexes.now }
+{
+    for index in indexes {
+        note_one(tallies, *index, change, place);
     }
 }
 

@@ -3,6 +3,7 @@
 ghost use Rattle.std.specs.Prelude.{◌≡◌, [], ◌∷◌, map, option_copied, slice_get, IfOk};
 ghost use Rattle.std.specs.Option.{option_map_or};
 ghost use Rattle.gx_units.specs.Money.{value};
+ghost use Rattle.gx_ledger.specs.Counts.{counts, tally_inside};
 ghost use Rattle.gx_ledger.specs.Running.{changed_group, new_group};
 ghost use Rattle.gx_ledger.specs.Tallies.{asks_of, changed_at, count_of, figures_of_group};
 ghost use Rattle.gx_ledger.specs.Tallies.{group_in, new_groups, new_tally, place_in};
@@ -262,12 +263,26 @@ impl Tally {
     pub fn note(&mut self, change: &Change, place: Option<usize>)
         ensures { self.new ≡ tally_after change.now place self.old }
     {
-        if !self.scope.covers(change.account()) {
-            return;
+        if self.scope.covers(change.account()) {
+            self.note_inside(change, place);
         }
+    }
+
+    /// Takes note of a change of an order of an account in scope, which has this place in the
+    /// policy.
+    pub fn note_inside(&mut self, change: &Change, place: Option<usize>)
+        ensures { self.new ≡ tally_inside change.now place self.old }
+    {
         if let Some(place) = place_in(self.count, place) {
             self.groups.note(place, change);
         }
+    }
+
+    /// Whether the rule counts the orders of the account.
+    pub fn counts(&self, account: AccountName) -> bool
+        ensures { result ≡ counts self.now account }
+    {
+        self.count.is_some() && self.scope.covers(account)
     }
 
     fn group(&self, place: Option<usize>) -> Option<&Group>

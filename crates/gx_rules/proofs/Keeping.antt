@@ -14,11 +14,11 @@ use Rattle.gx_history.specs.Lists.{are_distinct}
 use Rattle.gx_rules.specs.declared.book_rule.BookRule.{BookRule}
 use Rattle.gx_rules.specs.Books.{names_differ, rule_named, rules_of}
 
-left_false : (a b : Bool) → (a || b) ≡ false → a ≡ false
+pub left_false : (a b : Bool) → (a || b) ≡ false → a ≡ false
 left_false true b h = h
 left_false false b h = refl
 
-right_false : (a b : Bool) → (a || b) ≡ false → b ≡ false
+pub right_false : (a b : Bool) → (a || b) ≡ false → b ≡ false
 right_false true b h = cc
 right_false false b h = h
 
@@ -36,7 +36,7 @@ none_at p (x ∷ xs) zero d none within = left_false (p x) (list_any p xs) none
 none_at p (x ∷ xs) (suc i) d none within = none_at p xs i d (right_false (p x) (list_any p xs) none) (omega (arith, within))
 
 -- one of a list of distinct ones is unlike those before it
-none_before : {X : Type 0} (same : X → X → Bool) (symm : (x y : X) → same x y ≡ same y x) (xs : List X) (i : ℕ) (d : X)
+pub none_before : {X : Type 0} (same : X → X → Bool) (symm : (x y : X) → same x y ≡ same y x) (xs : List X) (i : ℕ) (d : X)
     → are_distinct same xs ≡ true → i < length xs → list_any (same (get_or xs i d)) (take i xs) ≡ false
 none_before same symm [] i d distinct within = absurd (omega (arith, within))
 none_before same symm (x ∷ xs) zero d distinct within = refl

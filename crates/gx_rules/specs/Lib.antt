@@ -1,3 +1,4 @@
 pub mod Books
 pub mod Laws
+pub mod Places
 pub mod Settings

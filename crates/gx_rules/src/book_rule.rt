@@ -12,7 +12,7 @@ ghost use Rattle.gx_rules.specs.Books.{kind_of, lists_once, rule_named};
 
 use crate::file_rule::{is_for_scope, is_forbidden_by_kind};
 use crate::request::proposed;
-use gx_history::facts::{Facts, ProposedOrder, RuleFigures};
+use gx_history::facts::{Facts, NO_FIGURES, ProposedOrder, TellsFigures};
 use gx_history::policy::{FileRule, RuleKind, Scope, Symbols};
 use gx_history::record::Request;
 use gx_units::{OutOfMemory, RuleId, Symbol};
@@ -147,27 +147,40 @@ impl BookRule {
         self.stocks.shift_remove(&stock);
     }
 
-    fn forbids_order(&self, figures: &RuleFigures, w: &ProposedOrder) -> bool
-        ensures { result ≡ kind_forbids (kind_of self.now) figures.now w.now }
+    /// Whether the rule, which stands at this place in the file, forbids the order. Figures are
+    /// told where its kind asks for some.
+    pub fn forbids_order<F: TellsFigures>(
+        &self,
+        place: usize,
+        figures: &F,
+        w: &ProposedOrder,
+    ) -> bool
+        ensures { result ≡ kind_forbids (kind_of self.now) (F.told figures.now place) w.now }
     {
         match &self.kind {
             RuleKind::Halt(_) | RuleKind::Restricted(_) => self.stocks.contains(&w.stock),
-            kind => is_forbidden_by_kind(kind, figures, w),
+            RuleKind::NoShort
+            | RuleKind::NoIso
+            | RuleKind::OddLot
+            | RuleKind::OrderShares(_)
+            | RuleKind::OrderValue(_) => is_forbidden_by_kind(&self.kind, &NO_FIGURES, w),
+            kind => is_forbidden_by_kind(kind, &figures.of(place), w),
         }
     }
 
     /// Whether the rule forbids the request: only orders of the accounts in its scope.
-    pub fn forbids(
+    pub fn forbids<F: TellsFigures>(
         &self,
         name: RuleId,
-        figures: &RuleFigures,
+        place: usize,
+        figures: &F,
         facts: &Facts,
         request: &Request,
     ) -> bool
         ensures { result ≡ rule_forbids facts.now request.now
-            (rule_named name self.now) figures.now }
+            (rule_named name self.now) (F.told figures.now place) }
     {
         is_for_scope(&self.scope, facts)
-            && proposed(facts, request).is_some_and(|w| self.forbids_order(figures, &w))
+            && proposed(facts, request).is_some_and(|w| self.forbids_order(place, figures, &w))
     }
 }

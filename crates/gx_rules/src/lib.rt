@@ -11,6 +11,8 @@ mod laws;
 mod order;
 mod request;
 mod rule_book;
+mod rule_places;
+mod terms;
 
 pub use built_in::is_forbidden;
 pub use file_rule::is_forbidden_by_kind;

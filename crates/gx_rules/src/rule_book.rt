@@ -1,16 +1,21 @@
 //! The file's rules with their settings in force.
 
-ghost use Rattle.std.specs.Prelude.{◌≡◌, ◌≤◌, ◌+◌, length, IsTrue, IsFalse, is_some, IfOk, OnOk, OnErr, IfSome, IfNone};
+ghost use Rattle.std.specs.Prelude.{◌≡◌, ◌≤◌, ◌+◌, find, length, option_and_then, option_copied, IsTrue, IsFalse, is_some, IfOk, OnOk, OnErr, IfSome, IfNone};
 ghost use Rattle.std.specs.List.{list_all, list_any};
+ghost use Rattle.std.specs.Map.{lookup};
+ghost use Rattle.gx_units.specs.Names.{same_account};
 ghost use Rattle.gx_history.specs.Asking.{knows_stocks};
 ghost use Rattle.gx_history.specs.People.{rule_in};
 ghost use Rattle.gx_history.specs.Rules.{applies, figured, figured_from, first_forbidding, first_file_rule, written_order, IsFirstForbidding};
 ghost use Rattle.gx_rules.specs.Books.{lists_once, names_differ, rules_of};
+ghost use Rattle.gx_rules.specs.Places.{forbids_at, named_at, AreTied};
 ghost use Rattle.gx_rules.specs.Settings.{covers_in, limit_in, lists_in, restricted, unrestricted, with_limit_of};
 
 use crate::book_rule::BookRule;
 use crate::order::{first_before, first_behind};
-use gx_history::facts::{Facts, TellsFigures};
+use crate::request::proposed;
+use crate::rule_places::{RulePlaces, places_by_account};
+use gx_history::facts::{Facts, ProposedOrder, TellsFigures};
 use gx_history::policy::{FileRule, Policy};
 use gx_history::record::{Request, RuleName};
 use gx_units::{AccountName, OutOfMemory, RuleId, Symbol};
@@ -24,18 +29,21 @@ use std::marker::Model;
 #[derive(Drop)]
 pub struct RuleBook {
     rules: IndexMap<RuleId, BookRule>,
+    /// The places of the rules that each account of the policy is under.
+    by_account: IndexMap<AccountName, RulePlaces>,
 }
 
 impl Model for RuleBook {
-    ghost use Rattle.std.specs.Prelude.{List, length, ◌≤◌};
+    ghost use Rattle.std.specs.Prelude.{List};
     ghost use Rattle.gx_history.specs.declared.policy.FileRule.{FileRule};
     ghost use Rattle.gx_rules.specs.Books.{rules_of};
+    ghost use Rattle.gx_rules.specs.Places.{AreTied};
 
     ghost Value = { List FileRule };
 
     ghost view = { λ book. rules_of book.rules.entries };
 
-    ghost invariant = { λ book. length book.rules.entries ≤ 128 };
+    ghost invariant = { λ book. AreTied book.rules.entries book.by_account.entries };
 }
 
 /// The rules, each under its name.
@@ -51,8 +59,8 @@ fn kept_rules(alloc: Global, rules: &[FileRule]) -> Result<IndexMap<RuleId, Book
     Ok(kept)
 }
 
-/// The first rule of the file, from this place on, that forbids; the figures of each are told as it is asked.
-fn first_of_file<F: TellsFigures>(
+/// The first rule of the file, from this place on, that forbids.
+fn first_from<F: TellsFigures>(
     entries: Slice<'_, RuleId, BookRule>,
     place: usize,
     figures: &F,
@@ -66,25 +74,119 @@ fn first_of_file<F: TellsFigures>(
     let Some(((name, rule), entries_left)) = entries.split_first() else {
         return None;
     };
-    if rule.forbids(*name, &figures.of(place), facts, request) {
+    if rule.forbids(*name, place, figures, facts, request) {
         return Some(RuleName::File(*name));
     }
-    first_of_file(entries_left, place + 1, figures, facts, request)
+    first_from(entries_left, place + 1, figures, facts, request)
+}
+
+/// Whether the rule at this place in the file forbids the order.
+fn forbids_at<F: TellsFigures>(
+    rules: &IndexMap<RuleId, BookRule>,
+    place: usize,
+    figures: &F,
+    w: &ProposedOrder,
+) -> bool
+    ensures { result ≡ forbids_at (F.told figures.now) rules.now.entries w.now place }
+{
+    match rules.get_index(place) {
+        Some((_, rule)) => rule.forbids_order(place, figures, w),
+        None => false,
+    }
+}
+
+/// The name of the rule at this place in the file.
+fn named_at(rules: &IndexMap<RuleId, BookRule>, place: usize) -> Option<RuleName>
+    ensures { result ≡ named_at rules.now.entries place }
+{
+    match rules.get_index(place) {
+        Some((name, _)) => Some(RuleName::File(*name)),
+        None => None,
+    }
+}
+
+/// The first of these places where a rule stands that forbids the order; the figures of each are
+/// told as it is asked.
+fn first_place<F: TellsFigures>(
+    rules: &IndexMap<RuleId, BookRule>,
+    places: &[usize],
+    figures: &F,
+    w: &ProposedOrder,
+) -> Option<usize>
+    ensures { result ≡ find
+        (forbids_at (F.told figures.now) rules.now.entries w.now) places.now }
+{
+    places
+        .iter()
+        .copied()
+        .find(|place| forbids_at(rules, *place, figures, w))
+}
+
+/// The first of the rules at these places that forbids the order.
+fn first_at<F: TellsFigures>(
+    rules: &IndexMap<RuleId, BookRule>,
+    places: &[usize],
+    figures: &F,
+    w: &ProposedOrder,
+) -> Option<RuleName>
+    ensures { result ≡ option_and_then (named_at rules.now.entries)
+        (find (forbids_at (F.told figures.now) rules.now.entries w.now) places.now) }
+{
+    match first_place(rules, places, figures, w) {
+        Some(place) => named_at(rules, place),
+        None => None,
+    }
+}
+
+/// The places of the rules that the account is under; None where it is not the policy's.
+fn places_under(
+    by_account: &IndexMap<AccountName, RulePlaces>,
+    account: AccountName,
+) -> Option<&RulePlaces>
+    ensures { option_copied result ≡ lookup (same_account account) by_account.now.entries }
+{
+    by_account.get(&account)
+}
+
+/// The first rule of the file that forbids. An account of the policy is asked about the rules that
+/// it is under alone.
+fn first_of_file<F: TellsFigures>(
+    rules: &IndexMap<RuleId, BookRule>,
+    by_account: &IndexMap<AccountName, RulePlaces>,
+    figures: &F,
+    facts: &Facts,
+    request: &Request,
+) -> Option<RuleName>
+    requires tied { AreTied rules.now.entries by_account.now.entries }
+    ensures { result ≡ first_file_rule
+        (figured (F.told figures.now) (rules_of rules.now.entries)) facts.now request.now }
+{
+    let Some(account) = facts.account else {
+        return None;
+    };
+    let Some(w) = proposed(facts, request) else {
+        return None;
+    };
+    match places_under(by_account, account) {
+        Some(places) => first_at(rules, places.as_slice(), figures, &w),
+        None => first_from(rules.as_slice(), 0, figures, facts, request),
+    }
 }
 
 #[tactic(auto, using(crate::proofs::Parts::first_in_parts))]
 fn first_in_order<F: TellsFigures>(
     rules: &IndexMap<RuleId, BookRule>,
+    by_account: &IndexMap<AccountName, RulePlaces>,
     figures: &F,
     facts: &Facts,
     request: &Request,
 ) -> Option<RuleName>
-    requires few { length rules.now.entries ≤ 128 }
+    requires tied { AreTied rules.now.entries by_account.now.entries }
     ensures { result ≡ first_forbidding
         (figured (F.told figures.now) (rules_of rules.now.entries)) facts.now request.now }
 {
     match first_before(facts, request) {
-        None => first_of_file(rules.as_slice(), 0, figures, facts, request).or_else(|| first_behind(
+        None => first_of_file(rules, by_account, figures, facts, request).or_else(|| first_behind(
             facts, request,
         )),
         found => found,
@@ -101,7 +203,8 @@ impl RuleBook {
         ensures of_policy { IfOk result (λ b. b ≡ policy.now.rules) }
     {
         let rules = kept_rules(alloc, policy.rules())?;
-        Ok(RuleBook { rules })
+        let by_account = places_by_account(alloc, policy.rules(), policy.accounts())?;
+        Ok(RuleBook { rules, by_account })
     }
 
     /// Gives the rule another limit, as a granted Set Limit does.
@@ -197,6 +300,6 @@ impl RuleBook {
         ensures none { IfNone result (IsFalse (list_any (applies facts.now request.now)
             (written_order (figured (F.told figures.now) self.now)))) }
     {
-        first_in_order(&self.rules, figures, facts, request)
+        first_in_order(&self.rules, &self.by_account, figures, facts, request)
     }
 }

@@ -2,6 +2,7 @@ use Rattle.std.proofs.Common.{◌≡◌, ◌∙◌, ap, sym, subst, map}
 use Rattle.gx_history.specs.declared.policy.PolicyData.{PolicyData}
 use Rattle.gx_history_laws.proofs.Names.{accounts_differ as accounts_apart}
 use Rattle.gx_positions.specs.Changing.{nothing}
+use Rattle.gx_ledger.specs.Counts.{counting}
 use Rattle.gx_ledger.specs.Keeping.{Kept, account_names, reference_prices}
 use Rattle.gx_ledger.specs.StandsFor.{StandsFor}
 use Rattle.gx_ledger.specs.Tables.{accounts_differ, names_differ}
@@ -20,9 +21,15 @@ pub returns : goal.returns
 returns c =
     let policy : PolicyData = c.args.policy.now in
     let opened : Kept = record { accounts = account_names policy.accounts; prices = reference_prices policy.stocks; tallies = map (new_tally policy.accounts) policy.rules } in
-    let new_is : the_view (record { accounts = c.in_ok-accounts.accounts; prices = c.in_ok-prices.prices; tallies = c.in_ok-tallies.tallies }) ≡ opened = λ i. record {
+    let new_is : the_view (record { accounts = c.in_ok-accounts.accounts; prices = c.in_ok-prices.prices; tallies = c.in_ok-tallies.tallies; counting = c.in_ok-counting.counting }) ≡ opened = λ i. record {
       accounts = (c.in_ok-accounts.ensures ∙ ap account_names c.accounts-2.ensures) i;
       prices = (c.in_ok-prices.ensures ∙ ap reference_prices c.stocks.ensures) i;
       tallies = (c.in_ok-tallies.ensures ∙ (λ j. map (new_tally (c.accounts.ensures j)) (c.rules.ensures.same j))) i;
     } in
     record { stands = subst (λ k. StandsFor policy k nothing) (sym new_is) (opened_stands policy c.rules.ensures.sound) }
+
+pub invariant_of-result : goal.invariant_of-result
+invariant_of-result c =
+    c.in_ok-counting.ensures
+    ∙ (λ i. map (counting (c.as_slice.ensures.value i)) (account_names ((c.accounts-4.ensures ∙ sym c.accounts-2.ensures) i)))
+    ∙ ap (map (counting c.in_ok-tallies.tallies.items)) (sym c.in_ok-accounts.ensures)

@@ -1,6 +1,9 @@
-use Rattle.std.proofs.Common.{◌∙◌, ap}
+use Rattle.std.proofs.Common.{◌∙◌, ap, sym}
 use Rattle.std.specs.List.{list_all}
-use Rattle.gx_rules.specs.Books.{lists_once, names_differ}
+use Rattle.gx_history_laws.proofs.Names.{accounts_differ as accounts_apart}
+use Rattle.gx_rules.specs.Books.{lists_once, names_differ, rules_of}
+use Rattle.gx_rules.specs.Places.{accounts_differ}
+use Rattle.gx_rules.proofs.Covering.{table_made}
 use Rattle.gx_rules.proofs.Sound.{few_entries, sound_lists, sound_names}
 use Rattle.gx_rules.proofs.rule_book.RuleBook.new.Goals as goal
 
@@ -10,5 +13,14 @@ kept_rules-requires-clause-names_differ c = ap names_differ c.rules.ensures.same
 pub kept_rules-requires-clause-stocks_differ : goal.kept_rules-requires-clause-stocks_differ
 kept_rules-requires-clause-stocks_differ c = ap (list_all lists_once) c.rules.ensures.same ∙ sound_lists c.args.policy.now c.rules.ensures.sound
 
+pub places_by_account-requires : goal.places_by_account-requires
+places_by_account-requires c = ap accounts_differ c.accounts.ensures ∙ accounts_apart c.args.policy.now c.rules.ensures.sound
+
 pub invariant_of-result : goal.invariant_of-result
-invariant_of-result c = few_entries c.args.policy.now c.rules.result.now c.in_ok-rules.rules.entries c.rules.ensures.sound c.rules.ensures.same c.in_ok-rules.ensures
+invariant_of-result c =
+    record {
+      few = few_entries c.args.policy.now c.rules.result.now c.in_ok-rules.rules.entries c.rules.ensures.sound c.rules.ensures.same c.in_ok-rules.ensures;
+      places =
+          table_made c.rules-2.result.now (rules_of c.in_ok-rules.rules.entries) c.accounts.result.now c.in_ok-by_account.by_account.entries c.in_ok-by_account.ensures
+          (c.rules-2.ensures.same ∙ sym c.rules.ensures.same ∙ sym c.in_ok-rules.ensures);
+    }

@@ -2,6 +2,7 @@ use Rattle.std.proofs.Common.{◌≤◌, ◌∙◌, ap, sym, map, subst}
 use Rattle.std.proofs.lemmas.Result.{on_err_weaker, on_ok_weaker}
 use Rattle.gx_history.specs.InForce.{adding, change_rule, with_stocks}
 use Rattle.indexmap.proofs.CallerLemmas.{index_map_len-with_value_at}
+use Rattle.gx_rules.proofs.Covering.{table_kept}
 use Rattle.gx_rules.proofs.Places.{changed_at, changed_nowhere, same_at}
 use Rattle.gx_rules.proofs.rule_book.RuleBook.restrict.Goals as goal
 
@@ -25,4 +26,8 @@ returns-in-None-clause-restricted c =
     ∙ ap (map (change_rule c.args.rule (with_stocks (adding c.args.stock)))) c.self.view_is
 
 pub invariant_of-self : goal.invariant_of-self
-invariant_of-self c = subst (λ n. n ≤ 128) (sym (index_map_len-with_value_at c.self.inside.rules c.in-Some.index c.restrict.new.self)) c.self.invariant
+invariant_of-self c =
+    record {
+      few = subst (λ n. n ≤ 128) (sym (index_map_len-with_value_at c.self.inside.rules c.in-Some.index c.restrict.new.self)) c.self.invariant.few;
+      places = table_kept c.self.inside.by_account.entries c.self.inside.rules.entries c.in-Some.index c.index_mut.result.now c.restrict.new.self c.index_mut.ensures.value c.restrict.ensures.scope c.self.invariant.places;
+    }

@@ -1,6 +1,7 @@
 use Rattle.std.proofs.Common.{◌≤◌, ◌∙◌, ap, sym, map, subst}
 use Rattle.gx_history.specs.InForce.{change_rule, with_limit}
 use Rattle.indexmap.proofs.CallerLemmas.{index_map_len-with_value_at}
+use Rattle.gx_rules.proofs.Covering.{table_kept}
 use Rattle.gx_rules.proofs.Places.{changed_at, changed_nowhere}
 use Rattle.gx_rules.proofs.rule_book.RuleBook.set_limit.Goals as goal
 
@@ -15,4 +16,8 @@ returns-in_default c =
     record { limited = sym c.self.view_is ∙ nowhere ∙ ap (map (change_rule c.args.rule (with_limit c.args.value))) c.self.view_is }
 
 pub invariant_of-self : goal.invariant_of-self
-invariant_of-self c = subst (λ n. n ≤ 128) (sym (index_map_len-with_value_at c.self.inside.rules c.in-Some.index c.set_limit.new.self)) c.self.invariant
+invariant_of-self c =
+    record {
+      few = subst (λ n. n ≤ 128) (sym (index_map_len-with_value_at c.self.inside.rules c.in-Some.index c.set_limit.new.self)) c.self.invariant.few;
+      places = table_kept c.self.inside.by_account.entries c.self.inside.rules.entries c.in-Some.index c.index_mut.result.now c.set_limit.new.self c.index_mut.ensures.value c.set_limit.ensures.scope c.self.invariant.places;
+    }

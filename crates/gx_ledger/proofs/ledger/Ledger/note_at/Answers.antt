@@ -1,0 +1,42 @@
+use Rattle.std.proofs.Common.{◌∙◌, None, Some, ap, sym, rules}
+use Rattle.std.specs.Vec.{with_items}
+use Rattle.std.proofs.lemmas.List.{places, with_items_is}
+use Rattle.gx_ledger.specs.Keeping.{Kept, account_place, kept_noted, noted}
+use Rattle.gx_ledger.specs.Running.{account_changed}
+use Rattle.gx_ledger.specs.contracts.ledger.Ledger.{the_view}
+use Rattle.gx_ledger.proofs.Listing.{his_list, item_is, kept_told, still_counted, told_his}
+use Rattle.gx_ledger.proofs.ledger.Ledger.note_at.Goals as goal
+
+pub invariant_of-self : goal.invariant_of-self
+invariant_of-self c =
+    let kept = c.self.inside in
+    let written = with_items_is kept.tallies c.note_in_all.new.tallies (search (rules, places)) in
+    still_counted kept.accounts.keys kept.tallies.items (with_items kept.tallies c.note_in_all.new.tallies).items kept.counting.items c.args.change.now None c.self.invariant
+    (written ∙ c.note_in_all.ensures ∙ ap (noted c.args.change.now None) c.deref_mut.ensures.value)
+
+pub invariant_of-self-2 : goal.invariant_of-self-2
+invariant_of-self-2 c =
+    let kept = c.self.inside in
+    let x = account_changed c.args.change.now in
+    let place = c.in-Some.place in
+    let at = ap (λ (k : Kept). account_place k.accounts x) c.self.view_is ∙ sym c.requires ∙ c.in-Some.is in
+    let written = with_items_is kept.tallies c.note_in.new.tallies (search (rules, places)) in
+    let his = his_list kept.accounts.keys kept.tallies.items kept.counting.items x place c.self.invariant at in
+    still_counted kept.accounts.keys kept.tallies.items (with_items kept.tallies c.note_in.new.tallies).items kept.counting.items c.args.change.now (Some place) c.self.invariant
+    (written
+    ∙ told_his c.args.change.now place kept.tallies.items c.as_slice-counting.result.now _ c.note_in.new.tallies c.note_in.ensures c.deref_mut-2.ensures.value
+    (c.as_slice-counting.ensures ∙ c.index.ensures ∙ item_is kept.counting.items place _ c.index.result.now his))
+
+pub returns : goal.returns
+returns c =
+    let kept = c.self.inside in
+    let x = account_changed c.args.change.now in
+    let place = c.in-Some.place in
+    let at = ap (λ (k : Kept). account_place k.accounts x) c.self.view_is ∙ sym c.requires ∙ c.in-Some.is in
+    let written = with_items_is kept.tallies c.note_in.new.tallies (search (rules, places)) in
+    let his = his_list kept.accounts.keys kept.tallies.items kept.counting.items x place c.self.invariant at in
+    kept_told c.args.change.now (the_view kept) (Some place) (with_items kept.tallies c.note_in.new.tallies).items at
+    (written
+    ∙ told_his c.args.change.now place kept.tallies.items c.as_slice-counting.result.now _ c.note_in.new.tallies c.note_in.ensures c.deref_mut-2.ensures.value
+    (c.as_slice-counting.ensures ∙ c.index.ensures ∙ item_is kept.counting.items place _ c.index.result.now his))
+    ∙ ap (kept_noted c.args.change.now) c.self.view_is
