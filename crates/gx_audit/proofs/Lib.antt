@@ -1,0 +1,8 @@
+pub mod Fields
+pub mod Messages
+pub mod Requests
+pub mod Rules
+pub mod ReadBack
+pub mod Walking
+pub mod Only
+pub mod Whole

@@ -1,0 +1,9 @@
+use Rattle.std.proofs.Common.{◌≡◌, take}
+use Rattle.gx_audit.specs.Auditing.{all_bytes, AreShown}
+use Rattle.gx_audit.proofs.day.audit_bytes.Given as goal
+
+abbrev pub invariant-loop-given : goal.invariant-loop-given
+invariant-loop-given l = record {
+  bytes : l.bytes.items ≡ all_bytes (take l.given-index l.records);
+  shown : AreShown (take l.given-index l.records);
+}

@@ -1,0 +1,5 @@
+pub mod Contents
+pub mod Bodies
+pub mod Records
+pub mod Reading
+pub mod Auditing

@@ -1,0 +1,212 @@
+//! The check that bytes are the records of a legal day.
+
+ghost use Rattle.std.specs.Prelude.{◌≡◌, ◌≢◌, ◌+◌, ◌-◌, ◌<◌, ◌≤◌, ◌^◌, IsTrue, IsFalse, IfOk, IfErr, OnOk, [], length, take, drop, Some};
+ghost use Rattle.gx_history.specs.Verdicts.{next, IsGrantedKillOrLogout, IsKillOrLogout, IsLegal, day_limit};
+ghost use Rattle.gx_core.specs.declared.outcome.StepFault.TheVariants as stepping;
+ghost use Rattle.gx_audit.specs.Auditing.{with_left, IsAnswer, IsOneMore, IsOnlyAnswer, IsRecordFault};
+ghost use Rattle.gx_audit.specs.Reading.{record_of, IsAskableStep, IsShown};
+ghost use Rattle.gx_audit.specs.Records.{record_bytes};
+
+use crate::draft::{RECORD_SIZE, same_bytes, whole};
+use crate::fault::AuditFault;
+use crate::reading::{is_showable, read_record};
+use crate::writing::write_content;
+use gx_core::{Gate, Outcome, StepFault};
+use gx_desk::Action;
+use gx_history::policy::Policy;
+use gx_history::record::{RecordData, Request, Step, Verdict};
+use std::alloc::Global;
+
+/// The most records of a day, but for granted Kills and Logouts.
+const DAY_LIMIT: u64 = 16_777_216;
+
+/// Whether the bytes are the records of a legal day under the policy: how many there are, or the first fault.
+#[tactic(auto, using(crate::proofs::Walking::answer_under, crate::proofs::Only::is_only))]
+pub fn check_audit(alloc: Global, policy: &Policy, bytes: &[u8]) -> Result<u64, AuditFault>
+    ensures answer { IsAnswer policy.now bytes.now result }
+    // Where memory was not refused, and no record was past the day's limit, no other answer is right.
+    ensures only { IsOnlyAnswer policy.now bytes.now result }
+{
+    let Ok(mut gate) = Gate::open(alloc, policy) else {
+        return Err(AuditFault::OutOfMemory);
+    };
+    let answer = check_records(&mut gate, bytes);
+    gate.close();
+    answer
+}
+
+/// Makes the steps of the records on a new gate: how many records there are, or the first fault.
+fn check_records(gate: &mut Gate, bytes: &[u8]) -> Result<u64, AuditFault>
+    requires new { gate.old.records ≡ [] }
+    ensures { IsAnswer gate.old.policy bytes.now result }
+{
+    let mut at = 0;
+    while bytes.len() - at >= RECORD_SIZE {
+        match check_record(gate, &record_at(bytes, at)) {
+            Ok(()) => at += RECORD_SIZE,
+            Err(fault) => return Err(fault),
+        }
+    }
+    // that its records are those of a legal day
+    gate.is_legal();
+    if at < bytes.len() {
+        return Err(AuditFault::Truncated);
+    }
+    Ok(gate.length())
+}
+
+/// The bytes from this place on.
+#[tactic(auto, using(crate::proofs::Fields::take_the_rest, crate::proofs::Fields::rest_size))]
+fn behind(bytes: &[u8], at: usize) -> &[u8]
+    requires { at ≤ length bytes.now }
+    ensures rest { result.now ≡ drop at bytes.now }
+    ensures len { length result.now ≡ length bytes.now - at }
+{
+    &bytes[at..]
+}
+
+/// The bytes of the record that begins here.
+pub fn record_at(bytes: &[u8], at: usize) -> [u8; RECORD_SIZE]
+    requires { at + RECORD_SIZE ≤ length bytes.now }
+    ensures { result ≡ take RECORD_SIZE (drop at bytes.now) }
+{
+    let left = behind(bytes, at);
+    whole(&left[..RECORD_SIZE])
+}
+
+/// Checks that these bytes are the gate's next record, by making its step.
+///
+/// After `IllegalVerdict` the gate has the record that the step left, if it left one.
+pub fn check_record(gate: &mut Gate, bytes: &[u8; RECORD_SIZE]) -> Result<(), AuditFault>
+    requires few { length gate.old.records + 1 < 2 ^ 64 }
+    ensures policy { gate.new.policy ≡ gate.old.policy }
+    ensures legal { IsLegal gate.old.policy gate.old.records }
+    ensures ok { OnOk result (IsOneMore gate.old.records gate.new.records bytes.now) }
+    ensures len { OnOk result (length gate.new.records ≡ length gate.old.records + 1) }
+    ensures fault { IfErr result (λ e.
+        IsRecordFault gate.old.policy gate.old.records bytes.now e) }
+{
+    // that the records so far are those of a legal day
+    gate.is_legal();
+    let number = gate.length() + 1;
+    let Some(record) = read_record(bytes) else {
+        return Err(AuditFault::BadRecord(number));
+    };
+    let shown = record.content();
+    if shown.number != number {
+        return Err(AuditFault::BadRecord(number));
+    }
+    if number <= DAY_LIMIT {
+        return follow(gate, number, &shown, bytes);
+    }
+    if is_granted_kill_or_logout(&shown.step, &shown.verdict) {
+        return Err(AuditFault::NotJudged(number));
+    }
+    Err(AuditFault::IllegalVerdict(number))
+}
+
+/// Whether the record has a granted Kill or Logout.
+fn is_granted_kill_or_logout(step: &Step, verdict: &Verdict) -> bool
+    ensures granted { IsTrue result → IsGrantedKillOrLogout verdict.now step.now }
+    ensures other { IsFalse result → ¬ (IsGrantedKillOrLogout verdict.now step.now) }
+{
+    match (verdict, step) {
+        (Verdict::Granted, Step::Asked(asked)) => is_kill_or_logout(&asked.request),
+        _ => false,
+    }
+}
+
+fn is_kill_or_logout(request: &Request) -> bool
+    ensures granted { IsTrue result → IsKillOrLogout request.now }
+    ensures other { IsFalse result → ¬ (IsKillOrLogout request.now) }
+{
+    match request {
+        Request::Logout => true,
+        Request::Command(command) => matches!(command.action, Action::Kill(_)),
+        _ => false,
+    }
+}
+
+/// Makes the step of the record that these bytes show, and checks that it leaves this record.
+fn follow(
+    gate: &mut Gate,
+    number: u64,
+    shown: &RecordData,
+    bytes: &[u8; RECORD_SIZE],
+) -> Result<(), AuditFault>
+    requires number { number ≡ length gate.old.records + 1 }
+    requires within { number ≤ day_limit }
+    requires numbered { shown.now.number ≡ number }
+    requires shows { record_of bytes.now ≡ Some shown.now }
+    requires askable { IsAskableStep shown.now.step }
+    ensures policy { gate.new.policy ≡ gate.old.policy }
+    ensures ok { OnOk result (IsOneMore gate.old.records gate.new.records bytes.now) }
+    ensures len { OnOk result (length gate.new.records ≡ length gate.old.records + 1) }
+    ensures fault { IfErr result (λ e.
+        IsRecordFault gate.old.policy gate.old.records bytes.now e) }
+{
+    match made(gate, shown.step) {
+        Ok(Some(left)) => {
+            if has_bytes(&left, bytes) {
+                Ok(())
+            } else {
+                Err(AuditFault::IllegalVerdict(number))
+            }
+        }
+        Ok(None) => Err(AuditFault::IllegalVerdict(number)),
+        Err(StepFault::OutOfMemory) => Err(AuditFault::OutOfMemory),
+        Err(StepFault::DayFull) => unreachable!(),
+    }
+}
+
+/// Makes the step: the record that it leaves, if it leaves one.
+fn made(gate: &mut Gate, step: Step) -> Result<Option<RecordData>, StepFault>
+    requires askable { IsAskableStep step }
+    ensures policy { gate.new.policy ≡ gate.old.policy }
+    ensures next { IfOk result (λ left. next gate.old.policy gate.old.records step ≡ left) }
+    ensures records { IfOk result (λ left.
+        gate.new.records ≡ with_left gate.old.records left) }
+    ensures day_full { IfErr result (λ e. e ≡ stepping.DayFull
+        → day_limit ≤ length gate.old.records) }
+{
+    match step {
+        Step::Asked(asked) => {
+            let outcome = gate.step(asked)?;
+            Ok(Some(left_by(step, outcome)))
+        }
+        Step::Matching(handed) => match gate.match_one(handed)? {
+            Some(outcome) => Ok(Some(left_by(step, outcome))),
+            None => Ok(None),
+        },
+    }
+}
+
+/// The record that a step left.
+fn left_by(step: Step, outcome: Outcome) -> RecordData
+    ensures { result ≡ record {
+      number = outcome.number;
+      moment = outcome.moment;
+      step = step;
+      verdict = outcome.verdict;
+    } }
+{
+    RecordData {
+        number: outcome.number,
+        moment: outcome.moment,
+        step,
+        verdict: outcome.verdict,
+    }
+}
+
+/// Whether the record can be shown, and these are its bytes.
+#[tactic(auto, using(crate::proofs::ReadBack::shown_is_showable, crate::proofs::ReadBack::shown_has_bytes))]
+fn has_bytes(left: &RecordData, bytes: &[u8; RECORD_SIZE]) -> bool
+    ensures shown { IsTrue result → IsShown left.now }
+    ensures same { IsTrue result → record_bytes left.now ≡ bytes.now }
+    ensures other { IsFalse result → record_of bytes.now ≢ Some left.now }
+{
+    if !is_showable(left) {
+        return false;
+    }
+    same_bytes(&write_content(left), bytes)
+}
