@@ -3,13 +3,19 @@
 
 use clap::Error;
 use clap::error::ErrorKind;
-use gx_command_line::Asked;
+use gx_auditing::{
+    AuditAnswer, AuditingFault, Choice, more_of_audit, show_audit, told_of_audit, write_audit,
+};
+use gx_command_line::{Asked, AuditFiles, RunFiles, Wanted};
 use gx_core::Gate;
 use gx_devices::Counted;
+use gx_history::policy::Policy;
 use gx_scripting::{Explained, run_script_explained};
-use gx_server::{ProgramFault, open_gate, told_of_policy};
+use gx_server::{ProgramFault, open_gate, policy_for, told_of_policy};
 use gx_session::{PipeFault, run_pipe};
 use gx_units::OutOfMemory;
+use std::alloc::Global;
+use std::fs::File;
 use std::io::Write;
 use std::process::ExitCode;
 use std::{fs, io};
@@ -17,19 +23,16 @@ use std::{fs, io};
 /// The moment of a connection's first packet.
 const FIRST_MOMENT: u64 = 1;
 
-/// Why the program gave up, and which file can't be read, in the system's words.
+/// Why the program gave up, and which file can't be read or written, in the system's words.
 #[derive(Drop)]
 struct Ended<'a> {
     fault: ProgramFault,
-    unread: Option<(&'a str, io::Error)>,
+    file: Option<(&'a str, io::Error)>,
 }
 
 impl<'a> From<ProgramFault> for Ended<'a> {
     fn from(fault: ProgramFault) -> Ended<'a> {
-        Ended {
-            fault,
-            unread: None,
-        }
+        Ended { fault, file: None }
     }
 }
 
@@ -51,6 +54,17 @@ impl<'a> From<OutOfMemory> for Ended<'a> {
     }
 }
 
+impl<'a> From<AuditingFault> for Ended<'a> {
+    fn from(fault: AuditingFault) -> Ended<'a> {
+        let told = match fault {
+            AuditingFault::OutOfMemory => PipeFault::OutOfMemory,
+            AuditingFault::WriteFailed => PipeFault::WriteFailed,
+            AuditingFault::DayFull => PipeFault::DayFull,
+        };
+        told.into()
+    }
+}
+
 /// The words of the command line.
 fn words_of(rt: &HostRuntime) -> Result<Vec<String>, OutOfMemory> {
     match std::env::args(rt) {
@@ -65,7 +79,7 @@ fn bytes_of<'a>(rt: &HostRuntime, path: &'a str) -> Result<Vec<u8>, Ended<'a>> {
         Ok(bytes) => Ok(bytes),
         Err(error) => Err(Ended {
             fault: ProgramFault::unread(error.kind()),
-            unread: Some((path, error)),
+            file: Some((path, error)),
         }),
     }
 }
@@ -88,12 +102,38 @@ fn serve(rt: &HostRuntime, gate: &mut Gate) -> Result<(), PipeFault> {
     run_pipe(rt.alloc(), gate, FIRST_MOMENT, &mut reader, &mut writer)
 }
 
-/// Serves one connection.
-fn pipe<'a>(rt: &HostRuntime, file: Option<&'a str>) -> Result<(), Ended<'a>> {
-    let mut gate = gate_of(rt, file)?;
+/// Writes the gate's audit to a device.
+fn write_records<W: Write + Drop>(
+    alloc: Global,
+    gate: &Gate,
+    device: W,
+) -> Result<(), AuditingFault> {
+    let mut writer = Counted::new(device);
+    write_audit(alloc, gate, &mut writer)
+}
+
+/// Writes the gate's audit, where one is wanted.
+fn keep_audit<'a>(rt: &HostRuntime, gate: &Gate, path: Option<&'a str>) -> Result<(), Ended<'a>> {
+    let Some(path) = path else {
+        return Ok(());
+    };
+    match File::create(rt, path) {
+        Ok(file) => Ok(write_records(rt.alloc(), gate, file)?),
+        Err(error) => Err(Ended {
+            fault: PipeFault::WriteFailed.into(),
+            file: Some((path, error)),
+        }),
+    }
+}
+
+/// Serves one connection, and writes the audit.
+fn pipe<'a>(rt: &HostRuntime, files: RunFiles<'a>) -> Result<(), Ended<'a>> {
+    let mut gate = gate_of(rt, files.policy)?;
     let served = serve(rt, &mut gate);
+    let kept = keep_audit(rt, &gate, files.audit);
     gate.close();
-    Ok(served?)
+    served?;
+    kept
 }
 
 /// Runs a script on a gate.
@@ -103,12 +143,84 @@ fn follow(rt: &HostRuntime, gate: &mut Gate) -> Result<(), Explained> {
     run_script_explained(rt.alloc(), gate, &mut reader, &mut writer)
 }
 
-/// Runs a script.
-fn script<'a>(rt: &HostRuntime, file: Option<&'a str>) -> Result<(), Ended<'a>> {
-    let mut gate = gate_of(rt, file)?;
+/// Runs a script, and writes the audit.
+fn script<'a>(rt: &HostRuntime, files: RunFiles<'a>) -> Result<(), Ended<'a>> {
+    let mut gate = gate_of(rt, files.policy)?;
     let followed = follow(rt, &mut gate);
+    let kept = keep_audit(rt, &gate, files.audit);
     gate.close();
-    Ok(followed?)
+    followed?;
+    kept
+}
+
+/// The policy to check under: that of the file that was asked for, if one was.
+fn policy_of<'a>(rt: &HostRuntime, file: Option<&'a str>) -> Result<Policy, Ended<'a>> {
+    match file {
+        Some(path) => {
+            let bytes = bytes_of(rt, path)?;
+            Ok(policy_for(rt.alloc(), Some(bytes.as_slice()))?)
+        }
+        None => Ok(policy_for(rt.alloc(), None)?),
+    }
+}
+
+/// Puts behind an answer what more there is to tell of it; nothing where there is no memory for it. The first line on
+/// standard error is that of a fault of the program: it stays empty.
+fn tell_more_of(rt: &HostRuntime, policy: &Policy, audit: &[u8], told: &AuditAnswer) {
+    if let Ok(Some(line)) = more_of_audit(rt.alloc(), policy, audit, told.answer) {
+        let _ = eprintln!(rt; "");
+        let _ = rt.stderr().write_all(line.as_slice());
+    }
+}
+
+/// Tells what an audit is: the status that says so.
+fn tell_audit(rt: &HostRuntime, policy: &Policy, audit: &[u8]) -> Result<ExitCode, AuditingFault> {
+    let told = told_of_audit(rt.alloc(), policy, audit)?;
+    match io::writer(rt).write_all(told.line.as_slice()) {
+        Ok(()) => {
+            tell_more_of(rt, policy, audit, &told);
+            Ok(ExitCode::from(told.status()))
+        }
+        Err(_) => Err(AuditingFault::WriteFailed),
+    }
+}
+
+/// Checks an audit: the status that says what it is.
+fn check<'a>(rt: &HostRuntime, files: AuditFiles<'a>) -> Result<ExitCode, Ended<'a>> {
+    let policy = policy_of(rt, files.policy)?;
+    let audit = bytes_of(rt, files.audit)?;
+    Ok(tell_audit(rt, &policy, audit.as_slice())?)
+}
+
+/// Shows the records of an audit that were chosen: the status that says whether all were records.
+fn show_records(
+    rt: &HostRuntime,
+    policy: &Policy,
+    audit: &[u8],
+    choice: &Choice,
+) -> Result<ExitCode, AuditingFault> {
+    let mut writer = Counted::new(io::writer(rt));
+    match show_audit(rt.alloc(), policy, choice, audit, &mut writer)? {
+        Some(number) => {
+            let _ = eprintln!(rt; "bad record {number}");
+            Ok(ExitCode::from(4))
+        }
+        None => Ok(ExitCode::SUCCESS),
+    }
+}
+
+/// Shows the records of an audit that are wanted, none where a name can be nobody's.
+fn show<'a>(
+    rt: &HostRuntime,
+    files: AuditFiles<'a>,
+    wanted: Wanted,
+) -> Result<ExitCode, Ended<'a>> {
+    let policy = policy_of(rt, files.policy)?;
+    let audit = bytes_of(rt, files.audit)?;
+    match Choice::named(wanted.account, wanted.user) {
+        Some(choice) => Ok(show_records(rt, &policy, audit.as_slice(), &choice)?),
+        None => Ok(ExitCode::SUCCESS),
+    }
 }
 
 /// Tells how much a policy file holds.
@@ -121,13 +233,16 @@ fn policy<'a>(rt: &HostRuntime, path: &'a str) -> Result<(), Ended<'a>> {
     }
 }
 
-/// Does what was asked.
-fn run<'a>(rt: &HostRuntime, asked: Asked<'a>) -> Result<(), Ended<'a>> {
+/// Does what was asked: the status of what was found.
+fn run<'a>(rt: &HostRuntime, asked: Asked<'a>) -> Result<ExitCode, Ended<'a>> {
     match asked {
-        Asked::Pipe(file) => pipe(rt, file),
-        Asked::Script(file) => script(rt, file),
-        Asked::Policy(file) => policy(rt, file),
+        Asked::Pipe(files) => pipe(rt, files)?,
+        Asked::Script(files) => script(rt, files)?,
+        Asked::Policy(file) => policy(rt, file)?,
+        Asked::Check(files) => return check(rt, files),
+        Asked::Show(files, wanted) => return show(rt, files, wanted),
     }
+    Ok(ExitCode::SUCCESS)
 }
 
 /// Puts a line more on standard error, where there is more to tell of the fault.
@@ -142,12 +257,11 @@ fn tell_more(rt: &HostRuntime, ended: &Ended) {
                 let _ = eprintln!(rt; "{wrong}");
             }
         }
-        ProgramFault::Unread => {
-            if let Some((path, error)) = &ended.unread {
+        ProgramFault::Unread | ProgramFault::Pipe(_) => {
+            if let Some((path, error)) = &ended.file {
                 let _ = eprintln!(rt; "{path}: {error}");
             }
         }
-        ProgramFault::Pipe(_) => {}
     }
 }
 
@@ -162,7 +276,7 @@ fn tell(rt: &HostRuntime, ended: Ended) -> ExitCode {
 /// Does what was asked, or tells why not: the status of either.
 fn done(rt: &HostRuntime, asked: Asked) -> ExitCode {
     match run(rt, asked) {
-        Ok(()) => ExitCode::SUCCESS,
+        Ok(status) => status,
         Err(ended) => tell(rt, ended),
     }
 }

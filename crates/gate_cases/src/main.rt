@@ -11,6 +11,10 @@
 //! - `-- script`: a script; `-- script-in-hex`: its bytes in hex. What it prints is told.
 //! - `-- again`: the lines of a script, each a run of its own, and run again where its step was refused, as for want of
 //!   memory. The verdicts of their records are told: they are the same, whichever step was refused.
+//! - `-- audit`: the audit of the records so far is written; its bytes are told in hex, a line a record. `-- check`:
+//!   that audit is checked, once for each line behind, which changes it: `byte AT HEX` sets a byte, `without COUNT`
+//!   leaves the last ones out, anything else leaves it as it is. `-- show`, `-- show account NAME`, `-- show user NAME`:
+//!   its records as a person reads them.
 //! - `-- pipe-reads PIECE SIP`: the bytes of a connection, in hex, which is run again and again, each time on a gate of
 //!   its own: the reader fails at once, after one read, after two, until nothing fails. Reads give at most PIECE bytes,
 //!   writes take at most SIP. `-- pipe-writes PIECE SIP`: so too, with a writer that fails. `-- pipe-lengths PIECE SIP`:
@@ -30,6 +34,7 @@
 //! done.
 #![tactic(auto)]
 
+mod audits;
 mod devices;
 mod policies;
 mod runs;

@@ -1,5 +1,6 @@
 //! Runs on a gate: connections and scripts over devices, and what is printed of them.
 
+use crate::audits::{tell_audit, tell_checks, tell_shown};
 use crate::devices::{Drips, Limits, Sips};
 use crate::sessions::tell_session;
 use crate::texts::{bytes_of, put, put_bytes, text_of};
@@ -250,6 +251,9 @@ fn tell_part(
             tell_pipe(alloc, out, gate, limits, input.as_slice())
         }
         ("again", Some(limits)) => tell_again(alloc, out, gate, limits, text),
+        ("audit", Some(limits)) => tell_audit(alloc, out, gate, limits),
+        ("check", _) => tell_checks(alloc, out, gate, policy, text),
+        ("show", _) => tell_shown(alloc, out, gate, policy, usual, words),
         ("script", Some(limits)) => tell_script(alloc, out, gate, limits, text.as_bytes()),
         ("script-in-hex", Some(limits)) => {
             let input = bytes_of(alloc, text)?;

@@ -30,15 +30,53 @@ Each step prints `N granted`, `N denied RULE` or `refused DayFull`, N being the 
 a matching step `N filled TAKER MAKER SHARES PRICE`, `N rested ORDER`, `N expired ORDER` or `idle`;
 `stream` prints `USER K HEX` for each report. A bad line ends the script with status 4.";
 
+/// What `gate show --help` says of the lines.
+const SHOWN_LINES: &str =
+    "Each line is a line of a script, and behind the last ` # ` what became of it: the line and the moment,
+and then the number of the record and its verdict, as a script prints them. An audit holds no password:
+RIGHT and WRONG stand in its place. What no line of a script asks for is a comment. To run a day again:
+  gate show AUDIT | sed 's/\\(.*\\) # .*/\\1/' | sed 's/ login RIGHT / login PASSWORD /' | gate script";
+
+/// The files of a run.
+#[derive(Clone, Copy, Debug, PartialEq, Eq)]
+pub struct RunFiles<'a> {
+    /// The policy to run under; without it the sample policy holds.
+    pub policy: Option<&'a str>,
+    /// Where to write the audit, if it is wanted.
+    pub audit: Option<&'a str>,
+}
+
+/// An audit, and the policy of its day.
+#[derive(Clone, Copy, Debug, PartialEq, Eq)]
+pub struct AuditFiles<'a> {
+    /// The audit.
+    pub audit: &'a str,
+    /// The policy; without it the sample policy holds.
+    pub policy: Option<&'a str>,
+}
+
+/// Which records of an audit are wanted.
+#[derive(Clone, Copy, Debug, PartialEq, Eq)]
+pub struct Wanted<'a> {
+    /// Those that concern this account.
+    pub account: Option<&'a str>,
+    /// Those that this user asked for, and what became of his orders.
+    pub user: Option<&'a str>,
+}
+
 /// What a call asks for.
 #[derive(Clone, Copy, Debug, PartialEq, Eq)]
 pub enum Asked<'a> {
-    /// `gate pipe`: to serve one connection, under the policy of this file or else under the sample policy.
-    Pipe(Option<&'a str>),
-    /// `gate script`: to run a script, under the policy of this file or else under the sample policy.
-    Script(Option<&'a str>),
+    /// `gate pipe`: to serve one connection.
+    Pipe(RunFiles<'a>),
+    /// `gate script`: to run a script.
+    Script(RunFiles<'a>),
     /// `gate policy`: to tell of this policy file.
     Policy(&'a str),
+    /// `gate check`: to check an audit.
+    Check(AuditFiles<'a>),
+    /// `gate show`: to show records of an audit.
+    Show(AuditFiles<'a>, Wanted<'a>),
 }
 
 /// The option `--policy FILE` of a run.
@@ -49,12 +87,20 @@ fn policy_option<'a>(alloc: Global) -> Arg<'a> {
         .help("The policy file to run under; without it the sample policy holds")
 }
 
+/// The option `--audit FILE` of a run.
+fn audit_option<'a>(alloc: Global) -> Arg<'a> {
+    Arg::new(alloc, "audit")
+        .long("audit")
+        .value_name("FILE")
+        .help("Where to write the audit of the run: all its records, when it ends")
+}
+
 /// `gate pipe`.
 fn pipe_command<'a>(alloc: Global) -> Result<Command<'a>, AllocError> {
     let pipe = Command::new(alloc, "pipe").about(
         "Serves one SoupBinTCP connection: client packets on standard input, server packets on standard output",
     );
-    Ok(pipe.arg(policy_option(alloc))?)
+    Ok(pipe.arg(policy_option(alloc))?.arg(audit_option(alloc))?)
 }
 
 /// `gate script`.
@@ -62,7 +108,7 @@ fn script_command<'a>(alloc: Global) -> Result<Command<'a>, AllocError> {
     let script = Command::new(alloc, "script")
         .about("Runs a script of steps from standard input, and prints what becomes of each")
         .after_help(SCRIPT_LINES);
-    Ok(script.arg(policy_option(alloc))?)
+    Ok(script.arg(policy_option(alloc))?.arg(audit_option(alloc))?)
 }
 
 /// `gate policy`.
@@ -77,6 +123,41 @@ fn policy_command<'a>(alloc: Global) -> Result<Command<'a>, AllocError> {
     Ok(policy.arg(file)?)
 }
 
+/// The argument AUDIT.
+fn audit_argument<'a>(alloc: Global, help: &'static str) -> Arg<'a> {
+    Arg::new(alloc, "audit")
+        .value_name("AUDIT")
+        .required(true)
+        .help(help)
+}
+
+/// `gate check`.
+fn check_command<'a>(alloc: Global) -> Result<Command<'a>, AllocError> {
+    let check = Command::new(alloc, "check").about(
+        "Checks that an audit is that of a legal day under the policy",
+    );
+    let check = check.arg(audit_argument(alloc, "The audit to check"))?;
+    Ok(check.arg(policy_option(alloc))?)
+}
+
+/// `gate show`.
+fn show_command<'a>(alloc: Global) -> Result<Command<'a>, AllocError> {
+    let account = Arg::new(alloc, "account")
+        .long("account")
+        .value_name("ACCOUNT")
+        .help(
+            "Only what concerns the account: of its users, of commands that name it, of its orders",
+        );
+    let user = Arg::new(alloc, "user").long("user").value_name("USER").help(
+        "Only what the user asked for, and what became of his orders",
+    );
+    let show = Command::new(alloc, "show")
+        .about("Shows the records of an audit, each as a line of a script and what became of it")
+        .after_help(SHOWN_LINES);
+    let show = show.arg(audit_argument(alloc, "The audit to show"))?;
+    Ok(show.arg(account)?.arg(user)?.arg(policy_option(alloc))?)
+}
+
 /// The command line: what may be asked, with its help.
 fn command_line<'a>(alloc: Global) -> Result<Command<'a>, AllocError> {
     let gate = Command::new(alloc, "gate")
@@ -88,15 +169,43 @@ fn command_line<'a>(alloc: Global) -> Result<Command<'a>, AllocError> {
         .arg_required_else_help(true);
     let gate = gate.subcommand(pipe_command(alloc)?)?;
     let gate = gate.subcommand(script_command(alloc)?)?;
-    Ok(gate.subcommand(policy_command(alloc)?)?)
+    let gate = gate.subcommand(policy_command(alloc)?)?;
+    let gate = gate.subcommand(check_command(alloc)?)?;
+    Ok(gate.subcommand(show_command(alloc)?)?)
+}
+
+/// The files of a run.
+fn run_files<'a>(given: &ArgMatches<'a>) -> RunFiles<'a> {
+    RunFiles {
+        policy: given.get_str("policy"),
+        audit: given.get_str("audit"),
+    }
+}
+
+/// An audit, and the policy of its day.
+fn audit_files<'a>(given: &ArgMatches<'a>) -> Option<AuditFiles<'a>> {
+    Some(AuditFiles {
+        audit: given.get_str("audit")?,
+        policy: given.get_str("policy"),
+    })
+}
+
+/// Which records of an audit are wanted.
+fn wanted_records<'a>(given: &ArgMatches<'a>) -> Wanted<'a> {
+    Wanted {
+        account: given.get_str("account"),
+        user: given.get_str("user"),
+    }
 }
 
 /// What was asked for; `None` where no command was named, which the command line refuses beforehand.
 fn asked_for<'a>(given: &ArgMatches<'a>) -> Option<Asked<'a>> {
     match given.subcommand()? {
-        ("pipe", given) => Some(Asked::Pipe(given.get_str("policy"))),
-        ("script", given) => Some(Asked::Script(given.get_str("policy"))),
+        ("pipe", given) => Some(Asked::Pipe(run_files(given))),
+        ("script", given) => Some(Asked::Script(run_files(given))),
         ("policy", given) => Some(Asked::Policy(given.get_str("file")?)),
+        ("check", given) => Some(Asked::Check(audit_files(given)?)),
+        ("show", given) => Some(Asked::Show(audit_files(given)?, wanted_records(given))),
         _ => None,
     }
 }

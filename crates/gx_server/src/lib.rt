@@ -5,6 +5,6 @@ mod opening;
 mod policies;
 mod program_fault;
 
-pub use opening::{open_gate, told_of_policy};
+pub use opening::{open_gate, policy_for, told_of_policy};
 pub use policies::{policy_line, sample_policy};
 pub use program_fault::{FaultLine, ProgramFault};

@@ -21,7 +21,7 @@ fn policy_of(alloc: Global, file: &[u8]) -> Result<Policy, ProgramFault>
 }
 
 /// The policy to open on: that of the file, or else the sample policy.
-fn policy_for(alloc: Global, file: Option<&[u8]>) -> Result<Policy, ProgramFault>
+pub fn policy_for(alloc: Global, file: Option<&[u8]>) -> Result<Policy, ProgramFault>
     ensures policy { IfOk result (λ policy. policy_for (option_copied file.entry) ≡ Ok policy) }
     ensures fault { IfErr result (IsFaultOf (policy_for (option_copied file.entry))) }
 {

@@ -1,0 +1,123 @@
+//! Audits: how that of a gate's records is written, what is told of it, as it is and changed, and how it is shown.
+
+use crate::devices::{Limits, Sips};
+use crate::runs::put_hex;
+use crate::texts::{put, put_bytes};
+use gx_audit::{RECORD_SIZE, audit_of};
+use gx_auditing::{AuditingFault, Choice, more_of_audit, show_audit, told_of_audit, write_audit};
+use gx_core::Gate;
+use gx_devices::Counted;
+use gx_history::policy::Policy;
+use gx_units::OutOfMemory;
+use std::alloc::Global;
+use std::fmt::Write as _;
+
+/// Puts how the writing of an audit, or of its records' lines, ended.
+fn put_ended(out: &mut String, fault: Option<AuditingFault>) -> Result<(), OutOfMemory> {
+    match fault {
+        Some(fault) => writeln!(out, "audit: {fault}")?,
+        None => put(out, "audit: done\n")?,
+    }
+    Ok(())
+}
+
+/// Writes the gate's audit, and tells of it: the bytes of each record in hex, a line each.
+pub(crate) fn tell_audit(
+    alloc: Global,
+    out: &mut String,
+    gate: &Gate,
+    limits: Limits,
+) -> Result<(), OutOfMemory> {
+    let mut writer = Counted::new(Sips::new(alloc, limits));
+    let ended = write_audit(alloc, gate, &mut writer);
+    let written = writer.into_inner().taken;
+    for bytes in written.as_slice().chunks(RECORD_SIZE) {
+        put_hex(alloc, out, bytes)?;
+    }
+    put_ended(out, ended.err())
+}
+
+/// Sets a byte of the audit, as the words say: where, and to what, in hex.
+fn set(audit: &mut Vec<u8>, words: &str) {
+    let (at, digits) = words.split_once(' ').unwrap_or((words, ""));
+    let (Ok(at), Ok(byte)) = (at.parse(), u8::from_str_radix(digits, 16)) else {
+        return;
+    };
+    let at: usize = at;
+    if let Some(place) = audit.get_mut(at) {
+        *place = byte;
+    }
+}
+
+/// Changes the audit as a line says: `byte AT HEX` sets a byte, `without COUNT` leaves the last ones out.
+fn change(audit: &mut Vec<u8>, line: &str) {
+    let (kind, words) = line.split_once(' ').unwrap_or((line, ""));
+    match (kind, words.parse::<usize>()) {
+        ("without", Ok(count)) => audit.truncate(audit.len().saturating_sub(count)),
+        ("byte", _) => set(audit, words),
+        _ => {}
+    }
+}
+
+/// Checks an audit, and tells the answer, and what more there is to tell.
+fn tell_check(
+    alloc: Global,
+    out: &mut String,
+    policy: &Policy,
+    audit: &[u8],
+) -> Result<(), OutOfMemory> {
+    match told_of_audit(alloc, policy, audit) {
+        Ok(told) => {
+            put_bytes(out, told.line.as_slice())?;
+            if let Some(more) = more_of_audit(alloc, policy, audit, told.answer)? {
+                put_bytes(out, more.as_slice())?;
+            }
+            Ok(())
+        }
+        Err(fault) => put_ended(out, Some(fault)),
+    }
+}
+
+/// Checks the gate's audit as each line changes it.
+pub(crate) fn tell_checks(
+    alloc: Global,
+    out: &mut String,
+    gate: &Gate,
+    policy: &Policy,
+    text: &str,
+) -> Result<(), OutOfMemory> {
+    for line in text.lines() {
+        let mut audit = audit_of(alloc, gate)?;
+        change(&mut audit, line);
+        tell_check(alloc, out, policy, audit.as_slice())?;
+    }
+    Ok(())
+}
+
+/// Which records the words choose: those of an account or a user, else all.
+fn choice_of(words: &str) -> Option<Choice> {
+    match words.split_once(' ') {
+        Some(("account", name)) => Choice::named(Some(name), None),
+        Some(("user", name)) => Choice::named(None, Some(name)),
+        _ => Choice::named(None, None),
+    }
+}
+
+/// Shows the records of the gate's audit that the words choose.
+pub(crate) fn tell_shown(
+    alloc: Global,
+    out: &mut String,
+    gate: &Gate,
+    policy: &Policy,
+    limits: Limits,
+    words: &str,
+) -> Result<(), OutOfMemory> {
+    let audit = audit_of(alloc, gate)?;
+    let mut writer = Counted::new(Sips::new(alloc, limits));
+    let Some(choice) = choice_of(words) else {
+        return put(out, "no such name\n");
+    };
+    let ended = show_audit(alloc, policy, &choice, audit.as_slice(), &mut writer);
+    put_bytes(out, writer.into_inner().taken.as_slice())?;
+    put_ended(out, ended.err())
+}

@@ -1,0 +1,158 @@
+//! Lines of a script, written.
+
+use crate::line::{ScriptLine, ScriptStep};
+use crate::printing::{append, append_number};
+use gx_desk::{Action, Command};
+use gx_ouch::{CancelOrder, EnterOrder, ReplaceOrder};
+use gx_units::{OutOfMemory, unpadded};
+use std::alloc::Global;
+
+/// Puts a word more at the end of the line.
+fn add(line: &mut Vec<u8>, word: &[u8]) -> Result<(), OutOfMemory> {
+    append(line, b" ")?;
+    append(line, word)
+}
+
+/// Puts a name more at the end of the line, without the spaces that fill it up.
+fn add_name(line: &mut Vec<u8>, name: &[u8]) -> Result<(), OutOfMemory> {
+    add(line, unpadded(name))
+}
+
+/// Puts a number more at the end of the line.
+fn add_number(line: &mut Vec<u8>, number: u64) -> Result<(), OutOfMemory> {
+    append(line, b" ")?;
+    append_number(line, number)
+}
+
+fn add_enter(line: &mut Vec<u8>, order: &EnterOrder) -> Result<(), OutOfMemory> {
+    add(line, b"enter")?;
+    add_name(line, &order.token.bytes)?;
+    add(line, &[order.side])?;
+    add_number(line, u64::from(order.shares))?;
+    add_name(line, &order.stock.bytes)?;
+    add_number(line, u64::from(order.price))?;
+    add_number(line, u64::from(order.time_in_force))
+}
+
+fn add_replace(line: &mut Vec<u8>, order: &ReplaceOrder) -> Result<(), OutOfMemory> {
+    add(line, b"replace")?;
+    add_name(line, &order.existing_token.bytes)?;
+    add_name(line, &order.replacement_token.bytes)?;
+    add_number(line, u64::from(order.shares))?;
+    add_number(line, u64::from(order.price))?;
+    add_number(line, u64::from(order.time_in_force))
+}
+
+fn add_cancel(line: &mut Vec<u8>, order: &CancelOrder) -> Result<(), OutOfMemory> {
+    add(line, b"cancel")?;
+    add_name(line, &order.token.bytes)?;
+    add_number(line, u64::from(order.shares))
+}
+
+/// The word of a command.
+fn word_of(action: &Action) -> &'static [u8] {
+    match action {
+        Action::Kill(_) => b"kill",
+        Action::Lift(_) => b"lift",
+        Action::SetLimit(_, _) => b"limit",
+        Action::Restrict(_, _) => b"restrict",
+        Action::Unrestrict(_, _) => b"unrestrict",
+        Action::Grant(_, _) => b"grant",
+        Action::Revoke(_, _) => b"revoke",
+        Action::CloseDay => b"close",
+    }
+}
+
+/// What a command names behind its tag.
+fn add_named(line: &mut Vec<u8>, action: &Action) -> Result<(), OutOfMemory> {
+    match action {
+        Action::Kill(account) | Action::Lift(account) => add_name(line, &account.bytes),
+        Action::SetLimit(rule, limit) => {
+            add_name(line, &rule.bytes)?;
+            add_number(line, *limit)
+        }
+        Action::Restrict(rule, stock) | Action::Unrestrict(rule, stock) => {
+            add_name(line, &rule.bytes)?;
+            add_name(line, &stock.bytes)
+        }
+        Action::Grant(reader, account) | Action::Revoke(reader, account) => {
+            add_name(line, &reader.bytes)?;
+            add_name(line, &account.bytes)
+        }
+        Action::CloseDay => Ok(()),
+    }
+}
+
+fn add_command(line: &mut Vec<u8>, command: &Command) -> Result<(), OutOfMemory> {
+    add(line, word_of(&command.action))?;
+    add_name(line, &command.tag.bytes)?;
+    add_named(line, &command.action)
+}
+
+fn add_login(line: &mut Vec<u8>, password: &[u8], wanted: u64) -> Result<(), OutOfMemory> {
+    add(line, b"login")?;
+    add_name(line, password)?;
+    add_number(line, wanted)
+}
+
+fn add_raw(line: &mut Vec<u8>, payload: &[u8]) -> Result<(), OutOfMemory> {
+    let digits = hex::encode(*line.allocator(), payload)?;
+    add(line, b"raw")?;
+    add(line, digits.as_bytes())
+}
+
+/// What a user asks for: `payload` is what `raw` spells.
+fn add_step(line: &mut Vec<u8>, step: &ScriptStep, payload: &[u8]) -> Result<(), OutOfMemory> {
+    match step {
+        ScriptStep::Login(password, wanted) => add_login(line, &password.bytes, *wanted),
+        ScriptStep::Logout => add(line, b"logout"),
+        ScriptStep::Enter(order) => add_enter(line, order),
+        ScriptStep::Replace(order) => add_replace(line, order),
+        ScriptStep::Cancel(order) => add_cancel(line, order),
+        ScriptStep::Command(command) => add_command(line, command),
+        ScriptStep::Raw(_) => add_raw(line, payload),
+    }
+}
+
+fn add_line(text: &mut Vec<u8>, line: &ScriptLine, payload: &[u8]) -> Result<(), OutOfMemory> {
+    match line {
+        ScriptLine::Skipped => append(text, b"#"),
+        ScriptLine::Step(moment, user, step) => {
+            append_number(text, *moment)?;
+            add_name(text, &user.bytes)?;
+            add_step(text, step, payload)
+        }
+        ScriptLine::Match(moment) => {
+            append_number(text, *moment)?;
+            add(text, b"match")
+        }
+        ScriptLine::Settle(moment) => {
+            append_number(text, *moment)?;
+            add(text, b"settle")
+        }
+        ScriptLine::Stream(user) => {
+            append(text, b"stream")?;
+            add_name(text, &user.bytes)
+        }
+    }
+}
+
+/// Whether the text, read as a line, says this.
+fn says(text: &[u8], line: &ScriptLine) -> bool {
+    match ScriptLine::read(text) {
+        Ok(read) => read == *line,
+        Err(_) => false,
+    }
+}
+
+impl ScriptLine {
+    /// The words of the line, without an LF; None where no words say it. `payload` is what `raw` spells.
+    pub fn write(&self, alloc: Global, payload: &[u8]) -> Result<Option<Vec<u8>>, OutOfMemory> {
+        let mut text = Vec::new(alloc);
+        add_line(&mut text, self, payload)?;
+        if says(text.as_slice(), self) {
+            return Ok(Some(text));
+        }
+        Ok(None)
+    }
+}
