@@ -10,3 +10,5 @@ pub mod Counted
 pub mod Answering
 pub mod Following
 pub mod Listing
+pub mod Likeness
+pub mod Halves

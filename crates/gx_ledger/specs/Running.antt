@@ -1,8 +1,8 @@
 -- Running figures, and what each change makes of them.
 use Rattle.std.specs.Option.{option_map_or}
-use Rattle.std.specs.Prelude.{ℕ, ◌+◌, ◌-◌, ◌^◌, Bool, false, ◌&&◌, ◌==◌, min, nat_lt, List, [], ◌∷◌, ◌++◌, count_by, slice_get, if◌then◌else◌}
+use Rattle.std.specs.Prelude.{ℕ, ◌+◌, ◌-◌, ◌^◌, Bool, true, false, ◌&&◌, ◌==◌, min, nat_lt, nat_le, List, [], ◌∷◌, ◌++◌, count_by, slice_get, Option, Some, None, if◌then◌else◌}
 use Rattle.std.specs.List.{suffix_len}
-use Rattle.circular_buffer.specs.Buffer.{Buffer, buffer, keep_last}
+use Rattle.circular_buffer.specs.Buffer.{Buffer, buffer, keep_last, last_item}
 use Rattle.gx_units.specs.Money.{value}
 use Rattle.gx_units.specs.Names.{same_stock}
 use Rattle.gx_units.specs.declared.names.AccountName.{AccountName}
@@ -94,9 +94,26 @@ is_recent window moment m = nat_lt (moment - m) window
 abbrev pub is_recent_at : List ℕ → ℕ → ℕ → ℕ → Bool
 is_recent_at moments index window moment = option_map_or (is_recent window moment) (slice_get moments index) false
 
+-- the last of the moments is no later
+abbrev pub comes_last : List ℕ → ℕ → Bool
+comes_last moments moment = option_map_or (λ last. nat_le last moment) (last_item moments) true
+
 -- how many of the last moments, from the newest on, lie less than the window back
 abbrev pub recent_in : List ℕ → ℕ → ℕ → ℕ
 recent_in moments window moment = suffix_len (is_recent window moment) moments
+
+-- the Enters are alike
+abbrev pub are_alike : Entered → Entered → Bool
+are_alike asked e = e.side == asked.side && e.shares == asked.shares && same_stock e.stock asked.stock && e.price == asked.price
+
+-- the Enters have one price and one size
+abbrev pub are_sized_alike : Entered → Entered → Bool
+are_sized_alike asked e = e.price == asked.price && e.shares == asked.shares
+
+-- what an Enter would have in common with like ones
+abbrev pub asked_as : Request → Option Entered
+asked_as (requests.Enter m) = Some (record { side = m.side; shares = m.shares; stock = m.stock; price = m.price })
+asked_as other = None
 
 -- the request is such an Enter
 abbrev pub is_like : Request → Entered → Bool

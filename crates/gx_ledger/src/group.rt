@@ -1,9 +1,11 @@
 //! The running figures of a group of accounts.
 
-ghost use Rattle.std.specs.Prelude.{◌≡◌, IfOk};
-ghost use Rattle.gx_ledger.specs.Running.{alike_in, changed_group, entered_as, is_like};
-ghost use Rattle.gx_ledger.specs.Running.{is_recent_at, new_group, recent_in, with_placed};
+ghost use Rattle.std.specs.Prelude.{◌≡◌, count_by, IfOk};
+ghost use Rattle.gx_ledger.specs.Running.{alike_in, are_alike, asked_as, changed_group, entered_as};
+ghost use Rattle.gx_ledger.specs.Running.{new_group, with_placed};
 
+use crate::alike::alike_among;
+use crate::moments::Moments;
 use crate::placed::{Change, Placed};
 use crate::sums::Sums;
 use circular_buffer::HeapCircularBuffer;
@@ -27,7 +29,7 @@ pub struct Entered {
 pub struct Group {
     pub sums: Sums,
     /// The moments of the last granted Enters and Replaces, as many as the rule's limit.
-    pub moments: HeapCircularBuffer<u64>,
+    pub moments: Moments,
     /// The last granted Enters, as many as the rule's span.
     pub enters: HeapCircularBuffer<Entered>,
 }
@@ -43,20 +45,28 @@ fn entered_as(placed: &Placed) -> Entered
     }
 }
 
-/// Whether the request is such an Enter.
-fn is_like(request: &Request, entered: &Entered) -> bool
-    ensures { result ≡ is_like request.now entered.now }
+/// What an Enter would have in common with like ones.
+fn asked_as(request: &Request) -> Option<Entered>
+    ensures { result ≡ asked_as request.now }
 {
     match request {
-        Request::Enter(m) => {
-            // the price differs most often
-            entered.price == m.price
-                && entered.shares == m.shares
-                && entered.side == m.side
-                && entered.stock == m.stock
-        }
-        _ => false,
+        Request::Enter(m) => Some(Entered {
+            side: m.side,
+            shares: m.shares,
+            stock: m.stock,
+            price: m.price,
+        }),
+        _ => None,
     }
+}
+
+/// How many of the Enters are such as this one.
+fn alike_in_ring(enters: &HeapCircularBuffer<Entered>, asked: &Entered) -> u64
+    ensures { result ≡ count_by (are_alike asked.now) enters.now.items }
+{
+    let _len = enters.len();
+    let (older, newer) = enters.as_slices();
+    (alike_among(older, asked) + alike_among(newer, asked)) as u64
 }
 
 impl Group {
@@ -64,7 +74,7 @@ impl Group {
     pub fn new(alloc: Global, moments: usize, enters: usize) -> Result<Group, OutOfMemory>
         ensures { IfOk result (λ group. group ≡ new_group moments enters) }
     {
-        let moments = HeapCircularBuffer::with_capacity(alloc, moments)?;
+        let moments = Moments::with_room(alloc, moments)?;
         let enters = HeapCircularBuffer::with_capacity(alloc, enters)?;
         Ok(Group {
             sums: Sums::NONE,
@@ -77,7 +87,7 @@ impl Group {
         ensures { self.new ≡ with_placed placed.now self.old }
     {
         self.sums = self.sums.with_live(placed.open_shares(), placed.price);
-        self.moments.push_back(placed.moment);
+        self.moments.push(placed.moment);
         if !placed.replacement {
             self.enters.push_back(entered_as(placed));
         }
@@ -94,33 +104,13 @@ impl Group {
         }
     }
 
-    /// How many of the last moments lie less than the window back: from the newest on, up to the
-    /// first that does not.
-    pub fn recent(&self, window: u64, moment: u64) -> u64
-        ensures { result ≡ recent_in self.now.moments.items window moment }
-    {
-        let len = self.moments.len();
-        let mut left = len;
-        while left > 0 && self.is_recent(left - 1, window, moment) {
-            left -= 1;
-        }
-        (len - left) as u64
-    }
-
-    /// Whether the moment at this index lies less than the window back.
-    fn is_recent(&self, index: usize, window: u64, moment: u64) -> bool
-        ensures { result ≡ is_recent_at self.now.moments.items index window moment }
-    {
-        match self.moments.get(index) {
-            Some(m) => moment.saturating_sub(*m) < window,
-            None => false,
-        }
-    }
-
     /// How many of the Enters are such as the request is.
     pub fn alike(&self, request: &Request) -> u64
         ensures { result ≡ alike_in self.now.enters.items request.now }
     {
-        self.enters.iter().filter(|e| is_like(request, e)).count() as u64
+        match asked_as(request) {
+            Some(asked) => alike_in_ring(&self.enters, &asked),
+            None => 0,
+        }
     }
 }

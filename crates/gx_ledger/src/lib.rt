@@ -4,9 +4,11 @@
 //! memory is taken as it is opened.
 #![tactic(auto)]
 
+mod alike;
 mod group;
 pub mod laws;
 pub mod ledger;
+mod moments;
 pub mod placed;
 mod sums;
 mod tables;

@@ -217,7 +217,7 @@ fn figures_of_group(asks: Asks, group: &Group, wanted: &Wanted) -> RuleFigures
             ..NO_FIGURES
         },
         Asks::Recent(rate) => RuleFigures {
-            recent: group.recent(rate.window, wanted.moment),
+            recent: group.moments.recent(rate.window, wanted.moment),
             ..NO_FIGURES
         },
         Asks::Alike(_) => RuleFigures {

@@ -1,0 +1,47 @@
+-- Counting Enters that are alike.
+use Rattle.std.proofs.Common.{◌≡◌, ◌+◌, Bool, true, false, ◌&&◌, ◌||◌, cond, List, [], ◌∷◌, refl, ap, ◌∙◌, true≢false, arith}
+use Rattle.std.specs.Option.{option_map_or}
+use Rattle.std.specs.Prelude.{◌==◌, count_by}
+use Rattle.std.specs.List.{list_any}
+use Rattle.std.proofs.lemmas.List.Sums.{sum_by-cons}
+use Rattle.gx_units.specs.Names.{same_stock}
+use Rattle.gx_history.specs.declared.record.Request.{Request}
+use Rattle.gx_history.specs.declared.record.Request.TheVariants as requests
+use Rattle.gx_ledger.specs.declared.group.Entered.{Entered}
+use Rattle.gx_ledger.specs.Running.{alike_in, are_alike, are_sized_alike, asked_as}
+
+size_fails : (side shares stock price : Bool) → (price && shares) ≡ false → (side && shares && stock && price) ≡ false
+size_fails false shares stock price fails = refl
+size_fails true false stock price fails = refl
+size_fails true true false price fails = refl
+size_fails true true true false fails = refl
+size_fails true true true true fails = fails
+
+-- where none has the price and the size, none is alike
+pub none_alike : (asked : Entered) (es : List Entered) → list_any (are_sized_alike asked) es ≡ false → count_by (are_alike asked) es ≡ 0
+none_alike asked [] none = refl
+none_alike asked (e ∷ es) none = by (are_sized_alike asked e) refl none (none_alike asked es)
+  where
+    by : (b : Bool) → are_sized_alike asked e ≡ b → (b || list_any (are_sized_alike asked) es) ≡ false
+        → (list_any (are_sized_alike asked) es ≡ false → count_by (are_alike asked) es ≡ 0) → count_by (are_alike asked) (e ∷ es) ≡ 0
+    by true is some deeper = absurd (true≢false some)
+    by false is others deeper =
+        let not_it : are_alike asked e ≡ false = size_fails (e.side == asked.side) (e.shares == asked.shares) (same_stock e.stock asked.stock) (e.price == asked.price) is in
+        let more = sum_by-cons (λ (e : Entered). cond (are_alike asked e) 1 0) e es ∙ ap (λ b. cond b 1 0 + count_by (are_alike asked) es) not_it in
+        let rest = deeper others in
+        omega (arith, more, rest)
+
+-- what passes no Enter counts none
+none_passes : (es : List Entered) → count_by (λ (e : Entered). false) es ≡ 0
+none_passes [] = refl
+none_passes (e ∷ es) = let more = sum_by-cons (λ (e : Entered). 0) e es in let rest = none_passes es in omega (arith, more, rest)
+
+-- an Enter is like those with which it has all in common, and no other request is
+pub asked_alike : (es : List Entered) (q : Request) → alike_in es q ≡ option_map_or (λ asked. count_by (are_alike asked) es) (asked_as q) 0
+asked_alike es (requests.Enter m) = refl
+asked_alike es (requests.Replace m) = none_passes es
+asked_alike es (requests.Cancel m) = none_passes es
+asked_alike es (requests.Login m) = none_passes es
+asked_alike es requests.Logout = none_passes es
+asked_alike es (requests.Unreadable m) = none_passes es
+asked_alike es (requests.Command m) = none_passes es

@@ -1,0 +1,17 @@
+use Rattle.std.proofs.Common.{ℕ, Option, ap, sym, ◌∙◌}
+use Rattle.std.specs.Option.{option_map_or}
+use Rattle.std.specs.Prelude.{count_by}
+use Rattle.gx_ledger.specs.declared.group.Entered.{Entered}
+use Rattle.gx_ledger.specs.Running.{are_alike}
+use Rattle.gx_ledger.proofs.Likeness.{asked_alike}
+use Rattle.gx_ledger.proofs.group.Group.alike.Goals as goal
+
+pub returns-in-None : goal.returns-in-None
+returns-in-None c =
+    let counted : Option Entered → ℕ = λ asked. option_map_or (λ (e : Entered). count_by (are_alike e) c.args.self.now.enters.items) asked 0 in
+    sym (asked_alike c.args.self.now.enters.items c.args.request.now ∙ ap counted (sym c.asked_as.ensures ∙ c.in-None.is))
+
+pub returns-in-Some : goal.returns-in-Some
+returns-in-Some c =
+    let counted : Option Entered → ℕ = λ asked. option_map_or (λ (e : Entered). count_by (are_alike e) c.args.self.now.enters.items) asked 0 in
+    c.alike_in_ring.ensures ∙ sym (asked_alike c.args.self.now.enters.items c.args.request.now ∙ ap counted (sym c.asked_as.ensures ∙ c.in-Some.is))

@@ -1,0 +1,113 @@
+//! The moments of the last orders.
+
+ghost use Rattle.std.specs.Prelude.{◌≡◌, [], IfOk};
+ghost use Rattle.std.specs.List.Sorted.{IsNonDecreasing};
+ghost use Rattle.circular_buffer.specs.Buffer.{buffer};
+ghost use Rattle.gx_ledger.specs.Running.{comes_last, is_recent_at, pushed, recent_in};
+
+use circular_buffer::HeapCircularBuffer;
+use gx_units::OutOfMemory;
+use std::alloc::Global;
+use std::marker::Model;
+
+/// The moments of the last orders, as many as there is room for.
+#[derive(Drop)]
+pub struct Moments {
+    ring: HeapCircularBuffer<u64>,
+    /// No moment came that was earlier than the one before it, and a day has no other.
+    rises: bool,
+}
+
+impl Model for Moments {
+    ghost use Rattle.std.specs.Prelude.{ℕ, IsTrue};
+    ghost use Rattle.std.specs.List.Sorted.{IsNonDecreasing};
+    ghost use Rattle.circular_buffer.specs.Buffer.{Buffer};
+
+    ghost Value = { Buffer ℕ };
+
+    ghost view = { λ moments. moments.ring };
+
+    ghost invariant = { λ moments. IsTrue moments.rises → IsNonDecreasing moments.ring.items };
+}
+
+/// Whether none of the moments is later.
+fn comes_last(ring: &HeapCircularBuffer<u64>, moment: u64) -> bool
+    ensures { result ≡ comes_last ring.now.items moment }
+{
+    match ring.back() {
+        Some(last) => *last <= moment,
+        None => true,
+    }
+}
+
+/// Whether the moment at this index lies less than the window back.
+fn is_recent(ring: &HeapCircularBuffer<u64>, index: usize, window: u64, moment: u64) -> bool
+    ensures { result ≡ is_recent_at ring.now.items index window moment }
+{
+    match ring.get(index) {
+        Some(m) => moment.saturating_sub(*m) < window,
+        None => false,
+    }
+}
+
+/// How many of the last moments are recent, from the newest on.
+fn recent_in_turn(ring: &HeapCircularBuffer<u64>, window: u64, moment: u64) -> u64
+    ensures { result ≡ recent_in ring.now.items window moment }
+{
+    let len = ring.len();
+    let mut left = len;
+    while left > 0 && is_recent(ring, left - 1, window, moment) {
+        left -= 1;
+    }
+    (len - left) as u64
+}
+
+/// How many of the moments, of which none is earlier than the one before it, are recent: those from
+/// the first recent one on, which is looked for by halves.
+fn recent_by_halves(ring: &HeapCircularBuffer<u64>, window: u64, moment: u64) -> u64
+    requires { IsNonDecreasing ring.now.items }
+    ensures { result ≡ recent_in ring.now.items window moment }
+{
+    let len = ring.len();
+    let mut first = 0;
+    let mut left = len;
+    while first < left {
+        let middle = first + (left - first) / 2;
+        if is_recent(ring, middle, window, moment) {
+            left = middle;
+        } else {
+            first = middle + 1;
+        }
+    }
+    (len - left) as u64
+}
+
+impl Moments {
+    pub fn with_room(alloc: Global, room: usize) -> Result<Moments, OutOfMemory>
+        ensures { IfOk result (λ moments. moments ≡ buffer [] room) }
+    {
+        let ring = HeapCircularBuffer::with_capacity(alloc, room)?;
+        Ok(Moments { ring, rises: true })
+    }
+
+    /// Keeps the moment in place of the oldest where there is no room for more.
+    pub fn push(&mut self, moment: u64)
+        ensures { self.new ≡ pushed moment self.old }
+    {
+        let rises = self.rises && comes_last(&self.ring, moment);
+        self.rises = rises;
+        self.ring.push_back(moment);
+    }
+
+    /// How many of the last moments lie less than the window back: from the newest on, up to the
+    /// first that does not.
+    pub fn recent(&self, window: u64, moment: u64) -> u64
+        ensures { result ≡ recent_in self.now.items window moment }
+    {
+        if self.rises {
+            recent_by_halves(&self.ring, window, moment)
+        } else {
+            recent_in_turn(&self.ring, window, moment)
+        }
+    }
+}
