@@ -26,7 +26,7 @@ use Rattle.gx_effects.proofs.RuleChanges.{limit_takes_effect, restrict_takes_eff
 use Rattle.gx_effects.proofs.SightChanges.{grant_takes_effect, revoke_takes_effect}
 use Rattle.gx_effects.proofs.Taking.{takes_effect}
 use Rattle.gx_core.specs.Steps.{CommandEffect, GrantEffect, VerdictEffect}
-use Rattle.gx_keepers.proofs.Carrying.{unreadable_is_denied}
+use Rattle.gx_places.proofs.Kills.{unreadable_is_denied}
 
 by_command : (policy : PolicyData) (history : List RecordData) (a : Asked) (r : RecordData) (c : Command)
     → IsLegal policy history → next policy history (steps.Asked a) ≡ Some r → a.request ≡ requests.Command c → r.verdict ≡ verdicts.Granted

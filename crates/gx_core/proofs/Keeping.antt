@@ -1,31 +1,194 @@
 -- What is always so of a gate and of what it keeps, after one more record.
-use Rattle.std.proofs.Common.{◌≡◌, ◌≤◌, arith, List, [], ◌∷◌, ◌++◌, length-append, ◌∙◌, ap, inl, subst, sym}
+use Rattle.std.proofs.Common.{◌≡◌, ℕ, ◌+◌, ◌<◌, ◌≤◌, arith, true, false, Bool, List, [], ◌∷◌, ◌++◌, length, length-append, refl, ◌∙◌, ap, inl, inr, subst, sym}
 use Rattle.std.specs.Prelude.{Some}
+use Rattle.gx_desk.specs.declared.Action.{Action}
+use Rattle.gx_desk.specs.declared.Action.TheVariants as actions
+use Rattle.gx_history.specs.declared.policy.PolicyData.{PolicyData}
+use Rattle.gx_history.specs.declared.record.Asked.{Asked}
 use Rattle.gx_history.specs.declared.record.RecordData.{RecordData}
+use Rattle.gx_history.specs.declared.record.Request.{Request}
+use Rattle.gx_history.specs.declared.record.Request.TheVariants as requests
 use Rattle.gx_history.specs.declared.record.Step.{Step}
-use Rattle.gx_history.specs.Verdicts.{day_limit, next}
+use Rattle.gx_history.specs.declared.record.Step.TheVariants as steps
+use Rattle.gx_history.specs.declared.record.Verdict.{Verdict}
+use Rattle.gx_history.specs.declared.record.Verdict.TheVariants as verdicts
+use Rattle.gx_history.specs.Verdicts.{FitsDay, IsGrantedKillOrLogout, IsKillOrLogout, day_limit, next}
 use Rattle.gx_history_laws.proofs.NextReports.{legal_next, legal_none}
 use Rattle.gx_history_laws.proofs.Numbers.{number_left}
 use Rattle.gx_history_laws.proofs.Runs.{step_left}
-use Rattle.gx_core.specs.Kept.{IsKept}
-use Rattle.gx_history.specs.declared.policy.PolicyData.{PolicyData}
 use Rattle.gx_keepers.specs.declared.keepers.Keepers.{Keepers}
-use Rattle.gx_keepers.specs.Keepers.{AreInForce}
+use Rattle.gx_keepers.specs.Keepers.{AreInForce, KeepPlaces, Takes}
+use Rattle.gx_keepers.specs.Matching.{TakesMatch}
+use Rattle.gx_orders.specs.declared.live_order.LiveOrder.{LiveOrder}
+use Rattle.gx_orders.specs.LiveOrders.{first_waiting}
+use Rattle.gx_places.specs.Places.{has_kept_places, is_kill_or_logout, most_record_places, record_places}
+use Rattle.gx_places.proofs.Asked.{kept_records_take_places, so_many_record_places_are_enough}
+use Rattle.gx_core.specs.Kept.{ArePlaces, HavePlaces, IsKept, IsWhole}
 
--- with one more record
-pub keep_on : (policy : PolicyData) (history : List RecordData) (step : Step) (r : RecordData) (before after : Keepers) → IsKept policy history before
-    → next policy history step ≡ Some r → r.number ≤ day_limit → AreInForce policy (history ++ r ∷ []) after
-    → IsKept policy (history ++ r ∷ []) after
-keep_on policy history step r before after kept left fits in_force = record {
-  legal = legal_next policy history r kept.legal (record { is_next = ap (next policy history) (step_left policy history step r left) ∙ left; fits_day = record { fits = inl fits } });
-  within = omega (arith, fits, number_left policy history step r left, length-append history (r ∷ []));
-  in_force = in_force;
+-- the keepers hold what is in force after the record, and the places that are kept behind it
+pub record AreCarried (policy : PolicyData) (records : List RecordData) (k : Keepers) : Type 0 where
+  pub in_force : AreInForce policy records k
+  pub told : KeepPlaces policy records k.streams
+
+places_of : (policy : PolicyData) (records : List RecordData) (spare : ℕ) (k : Keepers) → IsWhole policy records spare k → ArePlaces policy records spare k
+unfolding HavePlaces
+places_of policy records spare k whole = whole.places
+
+whole_with : (policy : PolicyData) (records : List RecordData) (spare : ℕ) (k : Keepers) → IsKept policy records k → ArePlaces policy records spare k → IsWhole policy records spare k
+unfolding HavePlaces
+whole_with policy records spare k kept places = record { kept = kept; places = places }
+
+-- as they are
+pub as_before : (policy : PolicyData) (records : List RecordData) (spare : ℕ) (k : Keepers) → IsWhole policy records spare k → AreCarried policy records k
+as_before policy records spare k whole = record { in_force = whole.kept.in_force; told = (places_of policy records spare k whole).told }
+
+keep_on : (policy : PolicyData) (history : List RecordData) (step : Step) (r : RecordData) (was spare : ℕ) (before after : Keepers) → IsWhole policy history was before
+    → next policy history step ≡ Some r → FitsDay r → AreCarried policy (history ++ r ∷ []) after
+    → length history + 1 + record_places policy (history ++ r ∷ []) ≤ day_limit + most_record_places policy → record_places policy (history ++ r ∷ []) ≤ spare
+    → IsWhole policy (history ++ r ∷ []) spare after
+keep_on policy history step r was spare before after kept left fits carried within recorded =
+    whole_with policy (history ++ r ∷ []) spare after
+    (record {
+      legal = legal_next policy history r kept.kept.legal (record { is_next = ap (next policy history) (step_left policy history step r left) ∙ left; fits_day = fits });
+      in_force = carried.in_force;
+    })
+    (record {
+      within = omega (arith, within, length-append history (r ∷ []));
+      recorded = recorded;
+      told = carried.told;
+    })
+
+-- a record within the day's limit, for which the places were made
+pub keep_within : (policy : PolicyData) (history : List RecordData) (step : Step) (r : RecordData) (was made spare : ℕ) (before after : Keepers) → IsWhole policy history was before
+    → next policy history step ≡ Some r → length history < day_limit → most_record_places policy + 1 ≤ made → spare + 1 ≡ made → AreCarried policy (history ++ r ∷ []) after
+    → IsWhole policy (history ++ r ∷ []) spare after
+keep_within policy history step r was made spare before after kept left room enough taken carried =
+    let most = so_many_record_places_are_enough policy (history ++ r ∷ []) in
+    keep_on policy history step r was spare before after kept left (record { fits = inl (omega (arith, room, number_left policy history step r left)) }) carried
+    (omega (arith, room, most)) (omega (arith, most, enough, taken))
+
+by_kill : (action : Action) → elim action as (λ x. Bool) [ actions.Kill account ↦ true | _ ↦ false ] ≡ true → elim action as (λ x. Type 0) [ actions.Kill account ↦ Unit {0} | _ ↦ ⊥ ]
+by_kill (actions.Kill account) h = tt
+by_kill (actions.Lift account) h = let clash : false ≡ true = h in cc
+by_kill (actions.SetLimit rule limit) h = let clash : false ≡ true = h in cc
+by_kill (actions.Restrict rule stock) h = let clash : false ≡ true = h in cc
+by_kill (actions.Unrestrict rule stock) h = let clash : false ≡ true = h in cc
+by_kill (actions.Grant reader account) h = let clash : false ≡ true = h in cc
+by_kill (actions.Revoke reader account) h = let clash : false ≡ true = h in cc
+by_kill actions.CloseDay h = let clash : false ≡ true = h in cc
+
+is_either : (q : Request) → is_kill_or_logout q ≡ true → IsKillOrLogout q
+is_either requests.Logout h = tt
+is_either (requests.Command c) h = by_kill c.action h
+is_either (requests.Login m) h = cc
+is_either (requests.Unreadable m) h = cc
+is_either (requests.Enter m) h = cc
+is_either (requests.Replace m) h = cc
+is_either (requests.Cancel m) h = cc
+
+granted_either : (v : Verdict) (a : Asked) → has_kept_places a.request v ≡ true → IsGrantedKillOrLogout v (steps.Asked a)
+granted_either verdicts.Granted a h = is_either a.request h
+granted_either (verdicts.Denied rule) a h = cc
+granted_either (verdicts.Filled f) a h = cc
+granted_either (verdicts.Rested number) a h = cc
+granted_either (verdicts.Expired number) a h = cc
+
+-- a granted Kill or Logout fits the day
+pub kept_fits : (policy : PolicyData) (history : List RecordData) (a : Asked) (r : RecordData) → next policy history (steps.Asked a) ≡ Some r → has_kept_places a.request r.verdict ≡ true → FitsDay r
+kept_fits policy history a r left is = record {
+  fits = inr (subst (IsGrantedKillOrLogout r.verdict) (sym (step_left policy history (steps.Asked a) r left)) (granted_either r.verdict a is));
 }
 
+-- it takes one of the places that were kept
+pub keep_kept : (policy : PolicyData) (history : List RecordData) (a : Asked) (r : RecordData) (was made spare : ℕ) (before after : Keepers) → IsWhole policy history was before
+    → next policy history (steps.Asked a) ≡ Some r → has_kept_places a.request r.verdict ≡ true → was ≤ made → spare + 1 ≡ made → AreCarried policy (history ++ r ∷ []) after
+    → IsWhole policy (history ++ r ∷ []) spare after
+keep_kept policy history a r was made spare before after kept left is more taken carried =
+    let one = kept_records_take_places policy history a r kept.kept.legal left is in
+    let places = places_of policy history was before kept in
+    keep_on policy history (steps.Asked a) r was spare before after kept left (kept_fits policy history a r left is) carried (omega (arith, one, places.within)) (omega (arith, one, more, taken, places.recorded))
+
+-- the places that a request's record finds: kept ones, or its own within the day's limit
+pub record FindsPlace (policy : PolicyData) (history : List RecordData) (a : Asked) (given : Verdict) (was made : ℕ) : Type 0 where
+  pub more : was ≤ made
+  pub own : has_kept_places a.request given ≡ false → most_record_places policy + 1 ≤ made
+  pub room : has_kept_places a.request given ≡ false → length history < day_limit
+
+-- either way it fits the day
+pub asked_fits : (policy : PolicyData) (history : List RecordData) (a : Asked) (r : RecordData) (was made : ℕ) → next policy history (steps.Asked a) ≡ Some r → FindsPlace policy history a r.verdict was made → FitsDay r
+asked_fits policy history a r was made left finds = by (has_kept_places a.request r.verdict) refl
+  where
+    by : (b : Bool) → has_kept_places a.request r.verdict ≡ b → FitsDay r
+    by true is = kept_fits policy history a r left is
+    by false is = record { fits = inl (omega (arith, finds.room is, number_left policy history (steps.Asked a) r left)) }
+
+-- there is a place
+pub asked_has_place : (policy : PolicyData) (history : List RecordData) (a : Asked) (r : RecordData) (was made : ℕ) (k : Keepers) → IsWhole policy history was k → next policy history (steps.Asked a) ≡ Some r
+    → FindsPlace policy history a r.verdict was made → 0 < made
+asked_has_place policy history a r was made k kept left finds = by (has_kept_places a.request r.verdict) refl
+  where
+    by : (b : Bool) → has_kept_places a.request r.verdict ≡ b → 0 < made
+    by true is = omega (arith, kept_records_take_places policy history a r kept.kept.legal left is, (places_of policy history was k kept).recorded, finds.more)
+    by false is = omega (arith, finds.own is)
+
+-- what the keepers are carried on by, where the places were made
+pub takes_asked : (policy : PolicyData) (history records : List RecordData) (a : Asked) (r entry : RecordData) (was made : ℕ) (k : Keepers) → IsWhole policy history was k → records ≡ history → entry ≡ r
+    → next policy history (steps.Asked a) ≡ Some r → FindsPlace policy history a r.verdict was made → Takes policy records a entry k
+takes_asked policy history records a r entry was made k kept same is left finds =
+    subst (λ (rs : List RecordData). Takes policy rs a entry k) (sym same)
+    (subst (λ (e : RecordData). Takes policy history a e k) (sym is)
+    (record { legal = kept.kept.legal; fits = asked_fits policy history a r was made left finds; left = left; in_force = kept.kept.in_force }))
+
+pub takes_match : (policy : PolicyData) (history records : List RecordData) (handed : ℕ) (first : LiveOrder) (r entry : RecordData) (was : ℕ) (k : Keepers) → IsWhole policy history was k → records ≡ history → entry ≡ r
+    → next policy history (steps.Matching handed) ≡ Some r → length history < day_limit → first_waiting k.orders.live ≡ Some first → TakesMatch policy records first entry k
+takes_match policy history records handed first r entry was k kept same is left room waits =
+    subst (λ (rs : List RecordData). TakesMatch policy rs first entry k) (sym same)
+    (subst (λ (e : RecordData). TakesMatch policy history first e k) (sym is)
+    (record {
+      legal = kept.kept.legal;
+      fits = omega (arith, room, number_left policy history (steps.Matching handed) r left);
+      handed = handed;
+      left = left;
+      comes_first = waits;
+      in_force = kept.kept.in_force;
+    }))
+
+pub told_then : (policy : PolicyData) (history records : List RecordData) (was : ℕ) (k : Keepers) → IsWhole policy history was k → records ≡ history → KeepPlaces policy records k.streams
+told_then policy history records was k kept same = subst (λ (rs : List RecordData). KeepPlaces policy rs k.streams) (sym same) (places_of policy history was k kept).told
+
+-- and all is kept
+pub keep_asked : (policy : PolicyData) (history : List RecordData) (a : Asked) (r : RecordData) (was made spare : ℕ) (before after : Keepers) → IsWhole policy history was before
+    → next policy history (steps.Asked a) ≡ Some r → FindsPlace policy history a r.verdict was made → spare + 1 ≡ made → AreCarried policy (history ++ r ∷ []) after
+    → IsWhole policy (history ++ r ∷ []) spare after
+keep_asked policy history a r was made spare before after kept left finds taken carried = by (has_kept_places a.request r.verdict) refl
+  where
+    by : (b : Bool) → has_kept_places a.request r.verdict ≡ b → IsWhole policy (history ++ r ∷ []) spare after
+    by true is = keep_kept policy history a r was made spare before after kept left is finds.more taken carried
+    by false is = keep_within policy history (steps.Asked a) r was made spare before after kept left (finds.room is) (finds.own is) taken carried
+
+-- more places, and the same records
+pub keep_still : (policy : PolicyData) (history records : List RecordData) (was spare : ℕ) (before after : Keepers) → IsWhole policy history was before → records ≡ history → was ≤ spare
+    → AreCarried policy history after → IsWhole policy records spare after
+keep_still policy history records was spare before after kept same more carried =
+    let places = places_of policy history was before kept in
+    subst (λ (rs : List RecordData). IsWhole policy rs spare after) (sym same)
+    (whole_with policy history spare after
+    (record { legal = kept.kept.legal; in_force = carried.in_force })
+    (record {
+      within = places.within;
+      recorded = omega (arith, places.recorded, more);
+      told = carried.told;
+    }))
+
 -- at the beginning of a day
-pub keep_none : (policy : PolicyData) (records : List RecordData) (keepers : Keepers) → records ≡ [] → AreInForce policy [] keepers → IsKept policy records keepers
-keep_none policy records keepers none in_force = subst (λ (rs : List RecordData). IsKept policy rs keepers) (sym none) (record {
-  legal = legal_none policy;
-  within = omega arith;
-  in_force = in_force;
-})
+pub keep_none : (policy : PolicyData) (records : List RecordData) (spare : ℕ) (keepers : Keepers) → records ≡ [] → most_record_places policy ≤ spare → AreCarried policy [] keepers → IsWhole policy records spare keepers
+keep_none policy records spare keepers none enough carried =
+    let most = so_many_record_places_are_enough policy [] in
+    subst (λ (rs : List RecordData). IsWhole policy rs spare keepers) (sym none)
+    (whole_with policy [] spare keepers
+    (record { legal = legal_none policy; in_force = carried.in_force })
+    (record {
+      within = omega (arith, most);
+      recorded = omega (arith, most, enough);
+      told = carried.told;
+    }))

@@ -19,6 +19,7 @@ use Rattle.gx_history.specs.Effects.{ChangesLine, CutsOrder, DeniesRequest, IsGr
 use Rattle.gx_history.specs.InForce.{is_killed, adding, removing, with_limit, with_stocks}
 use Rattle.gx_history.specs.Rules.{first_forbidding, IsFirstForbidding}
 use Rattle.gx_history.specs.Verdicts.{day_limit, facts_now, next, rules_now, verdict}
+use Rattle.gx_places.specs.Places.{has_kept_places}
 use Rattle.gx_exposure.specs.Exposure.{HasNothing, NoneIsGranted}
 use Rattle.gx_core.specs.declared.outcome.Outcome.{Outcome}
 use Rattle.gx_core.specs.Gates.{GateData, left_by}
@@ -34,6 +35,10 @@ IsFull gate = day_limit ≤ length gate.records
 -- the verdict on the request
 abbrev pub verdict_of : GateData → Asked → Verdict
 verdict_of gate a = verdict gate.policy gate.records a
+
+-- a granted Kill or Logout: it is never refused, the day full or not
+abbrev pub has_its_places : GateData → Asked → Bool
+has_its_places gate a = has_kept_places a.request (verdict_of gate a)
 
 -- the record that the request leaves
 abbrev pub next_of : GateData → Asked → Option RecordData

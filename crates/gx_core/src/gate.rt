@@ -1,6 +1,6 @@
 //! The gate.
 
-ghost use Rattle.std.specs.Prelude.{◌≡◌, ◌+◌, ◌<◌, max, [], length, IsTrue, IfOk, IfErr, IfSome, OnErr, None, Some, is_some, option_map};
+ghost use Rattle.std.specs.Prelude.{◌≡◌, ◌+◌, ◌<◌, ◌^◌, max, [], length, IsFalse, IsOk, IsTrue, IfOk, IfErr, IfSome, OnErr, None, Some, is_some, option_map};
 ghost use Rattle.gx_exposure.specs.Exposure.{SharesStayWithin, ValuesStayWithin};
 ghost use Rattle.gx_history.specs.Effects.{HasNoOrders};
 ghost use Rattle.gx_history.specs.InForce.{line_of, is_closed, is_killed};
@@ -15,13 +15,14 @@ ghost use Rattle.gx_core.specs.Gates.{left_by, matched_by};
 ghost use Rattle.gx_core.specs.Logins.{login_answered};
 ghost use Rattle.gx_core.specs.Matches.{matches_left, matching_of, next_match, settled_gate, with_match, HasMatched};
 ghost use Rattle.gx_core.specs.Told.{copies_of, ends_before, login_of, reads, stream_of};
-ghost use Rattle.gx_core.specs.Steps.{next_of, verdict_of, with_record, EndsKills, HasEffect};
+ghost use Rattle.gx_core.specs.Steps.{has_its_places, next_of, verdict_of, with_record, EndsKills, HasEffect};
 ghost use Rattle.gx_core.specs.Steps.{IsFull, IsJudged, NoneHeldWhereNoneAsked};
 
 use crate::copies::copied;
 use crate::login::{login_answered, login_asked};
 use crate::matching::record_of_match;
 use crate::outcome::{LoginAnswer, Outcome, StepFault};
+use crate::places::{keep_first, keep_for, keep_one};
 use crate::pulling::{Pulled, pull};
 use gx_history::history::History;
 use gx_history::policy::Policy;
@@ -34,9 +35,6 @@ use gx_keepers::next_record::{NextMatch, NextRecord};
 use gx_units::{AccountName, Moment, OutOfMemory, Password, SessionName, UserName};
 use std::alloc::Global;
 use std::marker::Model;
-
-/// The most records of a day.
-const DAY_LIMIT: usize = 16_777_216;
 
 fn record_of(a: &Asked, outcome: Outcome) -> RecordData
     ensures { result ≡ left_by a.now outcome }
@@ -60,13 +58,13 @@ pub struct Gate {
 
 impl Model for Gate {
     ghost use Rattle.gx_core.specs.Gates.{GateData};
-    ghost use Rattle.gx_core.specs.Kept.{IsKept};
+    ghost use Rattle.gx_core.specs.Kept.{IsWhole};
 
     ghost Value = { GateData };
 
     ghost view = { λ g. record { policy = g.policy; records = g.history.records } };
 
-    ghost invariant = { λ g. IsKept g.policy g.history.records g.keepers };
+    ghost invariant = { λ g. IsWhole g.policy g.history.records g.history.spare g.keepers };
 }
 
 impl Gate {
@@ -77,11 +75,13 @@ impl Gate {
     {
         let policy = copied(alloc, policy)?;
         let keepers = Keepers::new(alloc, &policy)?;
+        let mut history = History::new(alloc);
+        keep_first(&mut history, &policy)?;
         Ok(Gate {
             alloc,
             policy,
             keepers,
-            history: History::new(alloc),
+            history,
         })
     }
 
@@ -92,7 +92,8 @@ impl Gate {
     /// Judges the request on all earlier records, and puts its record last.
     ///
     /// The request's line is above 0, and its user in upper case.
-    /// `DayFull` comes before `OutOfMemory`, and only where the day has as many records as it may have.
+    /// `DayFull` comes before `OutOfMemory`, and only where the day has as many records as it may have. A granted Kill or
+    /// Logout takes no memory, and is never refused.
     pub fn step(&mut self, a: Asked) -> Result<Outcome, StepFault>
         requires askable { IsTrue (is_askable a) }
         ensures policy { self.new.policy ≡ self.old.policy }
@@ -103,16 +104,15 @@ impl Gate {
         ensures effect { IfOk result (λ o. HasEffect self.old self.new a o) }
         ensures lifted_by { IfOk result (λ o. EndsKills self.old self.new (left_by a o)) }
         ensures unchanged { OnErr result (self.new ≡ self.old) }
-        ensures full { IsFull self.old → result ≡ Err faults.DayFull }
+        ensures never_refused { IsTrue (has_its_places self.old a) → IsOk result }
+        ensures full { IsFull self.old → IsFalse (has_its_places self.old a)
+            → result ≡ Err faults.DayFull }
         ensures day_full { IfErr result (λ e. e ≡ faults.DayFull → IsFull self.old) }
     {
-        if self.history.len() >= DAY_LIMIT {
-            return Err(StepFault::DayFull);
-        }
         let outcome = self.outcome_of(&a);
         let entry = record_of(&a, outcome);
         let record = Record::new(entry);
-        self.history.reserve(1)?;
+        keep_for(&mut self.history, &self.policy, &a, outcome.verdict)?;
         carry_on(
             &mut self.keepers,
             NextRecord {
@@ -152,13 +152,10 @@ impl Gate {
         let Some(first) = self.first_waiting() else {
             return Ok(None);
         };
-        if self.history.len() >= DAY_LIMIT {
-            return Err(StepFault::DayFull);
-        }
         let outcome = self.match_outcome(&first, handed);
         let entry = record_of_match(handed, outcome);
         let record = Record::new(entry);
-        self.history.reserve(1)?;
+        keep_one(&mut self.history, &self.policy)?;
         carry_match(
             &mut self.keepers,
             NextMatch {
@@ -174,9 +171,10 @@ impl Gate {
 
     /// How many records there are.
     pub fn length(&self) -> u64
-        ensures { result ≡ length self.now.records }
+        ensures count { result ≡ length self.now.records }
+        ensures few { result < 2 ^ 63 }
     {
-        self.history.len() as u64
+        self.history.as_slice().len() as u64
     }
 
     /// The records are those of a legal day under the policy: each is what its step leaves after those before it. No

@@ -5,7 +5,7 @@ ghost use Rattle.gx_history.specs.declared.record.Step.TheVariants as steps;
 ghost use Rattle.gx_history.specs.Asking.{changes, facts, fits_role, has_power, is_on_line, knows_user};
 ghost use Rattle.gx_history.specs.People.{account_named, account_of, role_in};
 ghost use Rattle.gx_history.specs.Showing.{answers, is_askable, is_showable};
-ghost use Rattle.gx_history.specs.Verdicts.{day_limit, moment_of, next, verdict};
+ghost use Rattle.gx_history.specs.Verdicts.{moment_of, next, verdict};
 ghost use Rattle.gx_orders.specs.InForce.{cuts_nothing, named};
 ghost use Rattle.gx_people.specs.Entitled.{holds_in_role};
 ghost use Rattle.gx_core.specs.Gates.{left_by};
@@ -183,11 +183,9 @@ impl Gate {
     #[tactic(auto, using(gx_history_laws::proofs::Granting::next_in_parts))]
     pub(crate) fn outcome_of(&self, a: &Asked) -> Outcome
         requires askable { IsTrue (is_askable a.now) }
-        requires room { length self.now.records < day_limit }
         ensures next { next_of self.now a.now ≡ Some (left_by a.now result) }
         ensures verdict { result.verdict ≡ verdict_of self.now a.now }
         ensures shown { IsTrue (is_showable (left_by a.now result)) }
-        ensures fits { result.number ≤ day_limit }
     {
         let moment = a.handed.max(self.last_moment());
         Outcome {

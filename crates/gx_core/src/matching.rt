@@ -2,7 +2,6 @@
 
 ghost use Rattle.std.specs.Prelude.{◌≡◌, ◌≤◌, ◌<◌, length, IsTrue, Some};
 ghost use Rattle.gx_history.specs.Showing.{is_showable};
-ghost use Rattle.gx_history.specs.Verdicts.{day_limit};
 ghost use Rattle.gx_core.specs.Gates.{matched_by};
 ghost use Rattle.gx_core.specs.Matches.{first_of, matching_of, next_match};
 
@@ -38,11 +37,9 @@ impl Gate {
     #[tactic(auto, using(crate::proofs::Matched::match_in_parts))]
     pub(crate) fn match_outcome(&self, first: &LiveOrder, handed: Moment) -> Outcome
         requires waits { first_of self.now ≡ Some first.now }
-        requires room { length self.now.records < day_limit }
         ensures next { next_match self.now handed ≡ Some (matched_by handed result) }
         ensures verdict { matching_of self.now ≡ Some result.verdict }
         ensures shown { IsTrue (is_showable (matched_by handed result)) }
-        ensures fits { result.number ≤ day_limit }
     {
         Outcome {
             number: self.length() + 1,

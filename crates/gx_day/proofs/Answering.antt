@@ -88,7 +88,7 @@ command_is_known policy history a r c e granted asks =
     ∙ not-false (facts_now policy history a).names_are_known (sym (ap (forbids Q1 (facts_now policy history a)) asks) ∙ names_are_no_bar policy history a r e granted)
 
 -- a user who is not known is on no line
-abbrev OnNoLine : PolicyData → List RecordData → Type 0
+abbrev pub OnNoLine : PolicyData → List RecordData → Type 0
 OnNoLine policy history = (user : UserName) → is_some (user_in policy.users user) ≡ false → line_of history user ≡ None
 
 off_line_next : (policy : PolicyData) (history : List RecordData) (r : RecordData) → OnNoLine policy history → Follows policy (history, r) → OnNoLine policy (history ++ r ∷ [])
@@ -124,7 +124,7 @@ off_line_next policy history r before follows user unknown = line_of_next histor
         ap (λ (x : Option Asked). unwrap_or (option_and_then (λ (y : Asked). line_by user y y.request) x) (line_of history user)) g
         ∙ by_request a (sym (ap (next policy history) was.0) ∙ follows.is_next) was.1 a.request refl
 
-unknown_on_no_line : (policy : PolicyData) (history : List RecordData) → IsLegal policy history → OnNoLine policy history
+pub unknown_on_no_line : (policy : PolicyData) (history : List RecordData) → IsLegal policy history → OnNoLine policy history
 unknown_on_no_line policy history legal = legal_keeps policy (OnNoLine policy) (λ user unknown. line_of_none user) (off_line_next policy) history legal
 
 -- an account that is not known is not killed

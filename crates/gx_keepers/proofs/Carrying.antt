@@ -62,6 +62,7 @@ use Rattle.gx_market.proofs.Requested as booked
 use Rattle.gx_people.specs.Entitled.{given, people_in_force}
 use Rattle.gx_people.proofs.Keeping.{accounts_stay, next_users}
 use Rattle.gx_streams.specs.Kept.{places_in}
+use Rattle.gx_places.proofs.Kills.{unreadable_is_denied}
 use Rattle.gx_streams.specs.Laws.{TellsNobody, TellsOne}
 use Rattle.gx_streams.specs.Streams.{AllStreams, ReaderMask, mask_in}
 use Rattle.gx_streams.specs.Telling.{shown, told_after}
@@ -73,15 +74,6 @@ use Rattle.gx_keepers.specs.Keepers.{AreInForce, AreInForceBut, AreSentTo, HaveP
 use Rattle.gx_keepers.specs.Ledgers.{StandsForDay, placed}
 use Rattle.gx_keepers.specs.Messages.{accepted_message}
 use Rattle.gx_keepers.proofs.Figuring.{denial_figured, enter_figured, quiet_figured}
-
--- what is unreadable is denied
-pub unreadable_is_denied : (policy : PolicyData) (history : List RecordData) (a : Asked) (r : RecordData)
-    → next policy history (steps.Asked a) ≡ Some r → r.verdict ≡ verdicts.Granted → is_unreadable a.request ≡ false
-unfolding rules_before
-unreadable_is_denied policy history a r left granted =
-    none_among (λ (name : RuleName). forbids name (facts_now policy history a) a.request)
-    (L1 ∷ L2 ∷ L3 ∷ G1 ∷ G2 ∷ []) G3 (drop 6 rules_before)
-    (granted_passes_before policy history a r left granted)
 
 granted_is : (r : RecordData) (a : Asked) → r.verdict ≡ verdicts.Granted → r.step ≡ steps.Asked a → granted r ≡ Some a
 granted_is r a grants step = ap (λ (v : Verdict). cond (is_granted v) (asked r.step) None) grants ∙ ap asked step

@@ -30,7 +30,7 @@ use Rattle.gx_history.specs.Figures.{Positions}
 use Rattle.gx_history.specs.Matched.{ExpiresOrder}
 use Rattle.gx_history.specs.Orders.{ends_account, total}
 use Rattle.gx_history.specs.People.{account_of}
-use Rattle.gx_history.specs.Verdicts.{IsLegal, day_limit, next}
+use Rattle.gx_history.specs.Verdicts.{FitsDay, IsLegal, next}
 use Rattle.gx_history_laws.proofs.NextReports.{legal_next}
 use Rattle.gx_history_laws.proofs.Numbers.{all_weaker}
 use Rattle.gx_history_laws.proofs.Order.{some_same}
@@ -70,14 +70,14 @@ use Rattle.gx_keepers.specs.Matching.{TakesMatch}
 
 -- the day is legal with the record too
 pub legal_after : (policy : PolicyData) (history : List RecordData) (step : Step) (r : RecordData)
-    → IsLegal policy history → r.number ≤ day_limit → next policy history step ≡ Some r → IsLegal policy (history ++ r ∷ [])
+    → IsLegal policy history → FitsDay r → next policy history step ≡ Some r → IsLegal policy (history ++ r ∷ [])
 legal_after policy history step r legal fits left =
-    legal_next policy history r legal (record { is_next = ap (next policy history) (step_left policy history step r left) ∙ left; fits_day = record { fits = inl fits } })
+    legal_next policy history r legal (record { is_next = ap (next policy history) (step_left policy history step r left) ∙ left; fits_day = fits })
 
 -- the record comes next in a legal day, and the ledger stands for the day before it
 pub record ComesNext (policy : PolicyData) (history : List RecordData) (step : Step) (r : RecordData) (old : Kept) : Type 0 where
   pub legal : IsLegal policy history
-  pub fits : r.number ≤ day_limit
+  pub fits : FitsDay r
   pub left : next policy history step ≡ Some r
   pub stands : StandsForDay policy old history
 
@@ -86,7 +86,7 @@ asked_next policy history a r k t = record { legal = t.legal; fits = t.fits; lef
 
 pub match_next : (policy : PolicyData) (history : List RecordData) (first : LiveOrder) (r : RecordData) (k : Keepers) (t : TakesMatch policy history first r k)
     → ComesNext policy history (steps.Matching t.handed) r k.ledger
-match_next policy history first r k t = record { legal = t.legal; fits = t.fits; left = t.left; stands = t.in_force.ledger }
+match_next policy history first r k t = record { legal = t.legal; fits = record { fits = inl t.fits }; left = t.left; stands = t.in_force.ledger }
 
 -- what the figures are taken from goes on by the change that the record makes
 goes_on : (policy : PolicyData) (history : List RecordData) (step : Step) (r : RecordData) (old : Kept) (change : ones.Change) → ComesNext policy history step r old → change_of policy history r ≡ change

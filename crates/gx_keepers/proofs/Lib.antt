@@ -7,3 +7,5 @@ pub mod Keepings
 pub mod Matches
 pub mod Replacing
 pub mod Sending
+pub mod Rooms
+pub mod Sure

@@ -1,9 +1,10 @@
 -- What a matching step makes of the keepers.
-use Rattle.std.proofs.Common.{◌≡◌, ℕ, ◌-◌, ◌<◌, ◌≤◌, arith, Bool, true, false, not, zero, suc, ◌+◌, cond, get_or, if◌then◌else◌, List, [], ◌∷◌, ◌++◌, refl, ◌∙◌, ap, sym, map}
+use Rattle.std.proofs.Common.{inl, ◌≡◌, ℕ, ◌-◌, ◌<◌, ◌≤◌, arith, Bool, true, false, not, zero, suc, ◌+◌, cond, get_or, if◌then◌else◌, List, [], ◌∷◌, ◌++◌, refl, ◌∙◌, ap, sym, map}
 use Rattle.std.proofs.Math.Path.{subst}
 use Rattle.std.proofs.lemmas.List.{append_cancel_left}
-use Rattle.std.specs.Prelude.{Option, Some, None, IsSomeAnd, is_some, length, find, position, unwrap_or, option_and_then, option_map}
+use Rattle.std.specs.Prelude.{Option, Some, None, IsSomeAnd, is_some, length, find, position, unwrap_or, option_and_then, option_map, ◌&&◌}
 use Rattle.std.specs.List.{AllByRecursion, position_from, slice_get}
+use Rattle.std.specs.Option.{option_map_or}
 use Rattle.std.proofs.lemmas.List.Quantifiers.{position-Some}
 use Rattle.std.proofs.lemmas.Iterator.Adapters.{position_from-zero}
 use Rattle.gx_units.specs.Names.{same_account}
@@ -82,17 +83,28 @@ use Rattle.gx_people.proofs.Entitling as entitling
 use Rattle.gx_ledger.specs.declared.placed.OpenOrder.{OpenOrder}
 use Rattle.gx_ledger.specs.StandsFor.{Closes, Fills}
 use Rattle.gx_keepers.specs.declared.keepers.Keepers.{Keepers}
-use Rattle.gx_keepers.specs.Keepers.{AreInForce, AreInForceBut, HavePlaces, with_told}
+use Rattle.gx_keepers.specs.Keepers.{AreInForce, AreInForceBut, HasEnough, HaveAllPlaces, HavePlaces, KnowTheSame, with_told}
 use Rattle.gx_keepers.specs.Ledgers.{StandsForDay, open_order}
 use Rattle.gx_keepers.specs.Matching.{TakesMatch, place_of, told_side}
 use Rattle.gx_keepers.specs.Messages.{canceled_message}
 use Rattle.gx_keepers.proofs.Carrying.{by_no_grant, has_place}
 use Rattle.gx_keepers.proofs.Figuring.{end_figured, fill_figured, legal_after, rest_figured, waits_first}
-use Rattle.gx_keepers.proofs.Keepings.{known_told, one_fits, trader_told}
+use Rattle.gx_keepers.proofs.Keepings.{Makes, all_are_placed, known_told, match_fits, one_finds}
+
+his_role : (account : AccountName) (role : Role) → account_of_role role ≡ Some account → role ≡ roles.Trader account
+his_role account (roles.Trader named) e = ap (λ (found : Option AccountName). option_map_or roles.Trader found (roles.Trader named)) e
+his_role account (roles.Officer powers scope) e = cc
+his_role account (roles.Reader names) e = cc
+
+-- a trader is told report by report
+trader_told : (account : AccountName) (found : Option User) → option_and_then account_of_role (option_map (λ (u : User). u.role) found) ≡ Some account
+    → (is_some found && not (is_reader (option_map (λ (u : User). u.role) found))) ≡ true
+trader_told account None e = let none : false ≡ true = ap is_some e in none
+trader_told account (Some u) e = ap (λ (role : Role). not (is_reader (Some role))) (his_role account u.role e)
 
 pub match_is_legal : (policy : PolicyData) (history : List RecordData) (first : LiveOrder) (r : RecordData) (k : Keepers)
     → TakesMatch policy history first r k → IsLegal policy (history ++ r ∷ [])
-match_is_legal policy history first r k t = legal_after policy history (steps.Matching t.handed) r t.legal t.fits t.left
+match_is_legal policy history first r k t = legal_after policy history (steps.Matching t.handed) r t.legal (record { fits = inl t.fits }) t.left
 
 -- a matching step: people, rules, lines and kills as they were
 by_match : (policy : PolicyData) (history : List RecordData) (first : LiveOrder) (r : RecordData) (before k : Keepers) → TakesMatch policy history first r before
@@ -373,7 +385,14 @@ end_goes_on policy history first r before k number ended message t ends ended_is
 
 -- its user has his place
 pub end_fits : (policy : PolicyData) (history : List RecordData) (first : LiveOrder) (r : RecordData) (k : Keepers) (number : ℕ) (streams : AllStreams)
-    → TakesMatch policy history first r k → r.verdict ≡ verdicts.Expired number → (is_told k.streams first.user ≡ true → 1 ≤ places_in streams.told first.user)
-    → HavePlaces policy history r streams
-end_fits policy history first r k number streams t ends place =
-    one_fits policy history r k streams first.user (end_message first ∷ []) t.in_force (match_is_legal policy history first r k t) (ap is_fill ends) (end_tells policy history first r k number t ends) (omega arith) place
+    → TakesMatch policy history first r k → r.verdict ≡ verdicts.Expired number → Makes policy history k streams → HasEnough k.orders.live k.people policy streams first.user
+    → HaveAllPlaces policy history r streams
+end_fits policy history first r k number streams t ends m has =
+    match_fits policy history t.handed r k streams t.legal t.left m
+    (one_finds policy history r k streams first.user (end_message first) (end_tells policy history first r k number t ends) has)
+
+-- whoever has all places has one for each report
+pub end_is_placed : (policy : PolicyData) (history : List RecordData) (first : LiveOrder) (r : RecordData) (k : Keepers) (number : ℕ) (streams : AllStreams)
+    → TakesMatch policy history first r k → r.verdict ≡ verdicts.Expired number → KnowTheSame k.streams streams → HaveAllPlaces policy history r streams → HavePlaces policy history r streams
+end_is_placed policy history first r k number streams t ends same have =
+    all_are_placed policy history r streams (λ user. same user ∙ known_told policy history k t.in_force user) (match_is_legal policy history first r k t) (ap is_fill ends) have

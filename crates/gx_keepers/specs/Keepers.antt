@@ -1,6 +1,6 @@
 -- What the keepers hold after these records.
 use Rattle.std.specs.Prelude.{◌≡◌, ℕ, ◌+◌, ◌≤◌, IsTrue, IsFalse, IfSome, List, [], ◌∷◌, ◌++◌, length, Option, Some, None, is_some, option_and_then, ◌&&◌, not, if◌then◌else◌}
-use Rattle.std.specs.List.{filter}
+use Rattle.std.specs.List.{filter, AllByRecursion}
 use Rattle.gx_units.specs.Names.{same_account}
 use Rattle.gx_units.specs.declared.names.AccountName.{AccountName}
 use Rattle.gx_units.specs.declared.names.UserName.{UserName}
@@ -16,13 +16,12 @@ use Rattle.gx_history.specs.declared.record.RuleName.{RuleName}
 use Rattle.gx_history.specs.declared.record.Verdict.{Verdict}
 use Rattle.gx_history.specs.declared.report.Message.{Message}
 use Rattle.gx_history.specs.Masks.{mask_by}
-use Rattle.gx_history.specs.People.{account_of, is_reader, role_in, user_in}
-use Rattle.gx_history.specs.Requests.{action_of, is_granted}
+use Rattle.gx_history.specs.People.{is_officer, is_reader, role_in, user_in}
 use Rattle.gx_history.specs.declared.policy.PolicyData.{PolicyData}
 use Rattle.gx_history.specs.declared.record.RecordData.{RecordData}
 use Rattle.gx_history.specs.InForce.{rules_in_force}
 use Rattle.gx_history.specs.Streams.{reports_of}
-use Rattle.gx_history.specs.Verdicts.{IsLegal, day_limit, next}
+use Rattle.gx_history.specs.Verdicts.{FitsDay, IsLegal, next}
 use Rattle.gx_day.specs.DayData.{at_moment}
 use Rattle.gx_day.specs.InForce.{day_in_force}
 use Rattle.gx_orders.specs.InForce.{orders_in_force}
@@ -31,10 +30,11 @@ use Rattle.gx_market.specs.BookInForce.{book_in_force}
 use Rattle.gx_streams.specs.Telling.{shown, told_after}
 use Rattle.gx_orders.specs.declared.live_order.LiveOrder.{LiveOrder}
 use Rattle.gx_orders.specs.declared.live_order.UserToken.{UserToken}
-use Rattle.gx_orders.specs.Changes.{denied_token, is_lasting, marking}
+use Rattle.gx_orders.specs.Changes.{denied_token, marking}
 use Rattle.gx_orders.specs.LiveOrders.{OrdersData, is_of_user, is_used}
 use Rattle.gx_streams.specs.Kept.{places_in, with_kept_last}
-use Rattle.gx_streams.specs.Streams.{AllStreams, ReaderMask, is_told, mask_in, on_told}
+use Rattle.gx_streams.specs.Streams.{AllStreams, ReaderMask, is_told, mask_in, on_told, reports_in}
+use Rattle.gx_places.specs.Places.{has_kept_places, report_places}
 use Rattle.gx_keepers.specs.declared.keepers.Keepers.{Keepers}
 use Rattle.gx_keepers.specs.declared.next_record.NextRecord.{NextRecord}
 use Rattle.gx_keepers.specs.Ledgers.{StandsForDay}
@@ -73,14 +73,6 @@ pub record AreInForceBut (policy : PolicyData) (history : List RecordData) (r : 
   pub streams : shown k.streams ≡ told_after policy (history ++ r ∷ [])
   pub sent : AreSentTo policy k.people k.streams.readers
 
--- the command, if it ends orders
-abbrev pub ending_command : Action → Option Action
-ending_command action = if is_lasting action then None else Some action
-
--- the command that ends orders, if a request of this verdict is one
-abbrev pub ending : Request → Verdict → Option Action
-ending q given = if is_granted given then option_and_then ending_command (action_of q) else None
-
 -- the users who are told report by report are the policy's, but for its readers
 abbrev pub KnowsUsers : PolicyData → AllStreams → Type 0
 KnowsUsers policy streams = (user : UserName) → is_told streams user ≡ (is_some (user_in policy.users user) && not (is_reader (role_in policy.users user)))
@@ -97,33 +89,41 @@ HaveNoFewer before after = (user : UserName) → places_in before.told user ≤ 
 abbrev pub HasPlaces : UserName → ℕ → AllStreams → Type 0
 HasPlaces user places streams = IsTrue (is_told streams user) → places ≤ places_in streams.told user
 
--- so many places does a command that ends orders want for a trader of the account with so many live ones: one for each of them that ends, and one for the end of the day
-abbrev pub end_places : Action → AccountName → ℕ → ℕ
-end_places (actions.Kill killed) account orders = if same_account killed account then orders else 0
-end_places actions.CloseDay account orders = orders + 1
-end_places other account orders = 0
-
--- and for a user of this role
-abbrev pub role_places : Action → Role → ℕ → ℕ
-role_places action (roles.Trader account) orders = end_places action account orders
-role_places action other orders = 0
-
 -- how many of the live orders are the user's
 abbrev pub count_of : List LiveOrder → UserName → ℕ
 count_of live user = length (filter (is_of_user user) live)
 
--- and for this user
-abbrev pub user_places : Action → List LiveOrder → User → ℕ
-user_places action live u = role_places action u.role (count_of live u.name)
+-- the most accounts that there can be for the user to kill
+abbrev pub kills_of : List User → PolicyData → UserName → ℕ
+kills_of people policy user = if is_officer (role_in people user) then length policy.accounts else 0
 
--- the user, if he is told, has the places that the command wants for him
-abbrev pub HasEndPlaces : Action → List LiveOrder → AllStreams → User → Type 0
-HasEndPlaces action live streams u = HasPlaces u.name (user_places action live u) streams
+-- so many places are enough for the user, whatever one record tells him and leaves to be kept for him
+abbrev pub enough_of : List LiveOrder → List User → PolicyData → UserName → ℕ
+enough_of live people policy user = count_of live user + kills_of people policy user + 2
 
--- each trader has the places that the command wants for him
-abbrev pub HaveEndPlaces : PolicyData → Action → List LiveOrder → AllStreams → Type 0
-HaveEndPlaces policy action live streams = (user : UserName) (account : AccountName)
-    → account_of policy user ≡ Some account → end_places action account (count_of live user) ≤ places_in streams.told user
+-- the user, if he is known, has them
+abbrev pub HasEnough : List LiveOrder → List User → PolicyData → AllStreams → UserName → Type 0
+HasEnough live people policy streams user = HasPlaces user (enough_of live people policy user) streams
+
+-- each of these has them
+abbrev pub HaveEnough : List LiveOrder → List User → PolicyData → AllStreams → List User → Type 0
+HaveEnough live people policy streams users = AllByRecursion (λ (u : User). HasEnough live people policy streams u.name) users
+
+-- what the user was told, and the places for more
+abbrev pub room_in : AllStreams → UserName → ℕ
+room_in streams user = length (reports_in streams user) + places_in streams.told user
+
+-- nobody has less room than before
+pub record KeepRoom (before after : AllStreams) : Type 0 where
+  pub room : (user : UserName) → room_in before user ≤ room_in after user
+
+-- each user who is known has the places that are kept for him
+pub record KeepPlaces (policy : PolicyData) (history : List RecordData) (streams : AllStreams) : Type 0 where
+  pub kept : (user : UserName) → HasPlaces user (report_places policy history user) streams
+
+-- beside a place for each report that the record owes him, he has those that are kept behind it
+pub record HaveAllPlaces (policy : PolicyData) (history : List RecordData) (r : RecordData) (streams : AllStreams) : Type 0 where
+  pub all : (user : UserName) → HasPlaces user (length (reports_of policy user (history, r)) + report_places policy (history ++ r ∷ []) user) streams
 
 -- the token that the denial uses, if it uses one, was not used before
 abbrev pub IsUnused : List UserToken → Asked → RuleName → Type 0
@@ -145,7 +145,7 @@ HavePlaces policy history r streams = (user : UserName) → length (reports_of p
 -- after a legal day, with what is in force, the request leaves the record
 pub record Takes (policy : PolicyData) (history : List RecordData) (a : Asked) (r : RecordData) (k : Keepers) : Type 0 where
   pub legal : IsLegal policy history
-  pub fits : r.number ≤ day_limit
+  pub fits : FitsDay r
   pub left : next policy history (steps.Asked a) ≡ Some r
   pub in_force : AreInForce policy history k
 
@@ -168,3 +168,19 @@ AreAfter n k = AreCarriedOn n.policy.now n.history.now.records n.left.now k
 -- and after it, once the day has its moment
 abbrev pub AreAfterBut : NextRecord → Keepers → Type 0
 AreAfterBut n k = AreInForceBut n.policy.now n.history.now.records n.left.now k
+
+-- it has those that are kept behind it too
+abbrev pub IsPlacedWhole : NextRecord → Keepers → Type 0
+IsPlacedWhole n k = HaveAllPlaces n.policy.now n.history.now.records n.left.now k.streams
+
+-- the places that are kept before the record
+abbrev pub KeepPlacesBefore : NextRecord → Keepers → Type 0
+KeepPlacesBefore n k = KeepPlaces n.policy.now n.history.now.records k.streams
+
+-- and after it
+abbrev pub KeepPlacesAfter : NextRecord → Keepers → Type 0
+KeepPlacesAfter n k = KeepPlaces n.policy.now (n.history.now.records ++ n.left.now ∷ []) k.streams
+
+-- the record is a granted Kill or Logout
+abbrev pub IsSure : NextRecord → Type 0
+IsSure n = IsTrue (has_kept_places n.asked.now.request n.left.now.verdict)

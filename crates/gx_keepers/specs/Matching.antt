@@ -1,5 +1,5 @@
 -- What a matching step's record makes of the keepers.
-use Rattle.std.specs.Prelude.{◌≡◌, ℕ, ◌≤◌, List, length, Some, position, unwrap_or}
+use Rattle.std.specs.Prelude.{◌≡◌, ℕ, ◌≤◌, List, [], ◌∷◌, ◌++◌, length, Some, position, unwrap_or}
 use Rattle.gx_units.specs.Names.{same_account}
 use Rattle.gx_units.specs.declared.names.AccountName.{AccountName}
 use Rattle.gx_history.specs.declared.policy.Account.{Account}
@@ -13,7 +13,7 @@ use Rattle.gx_orders.specs.LiveOrders.{first_waiting}
 use Rattle.gx_streams.specs.declared.fill.FillSide.{FillSide}
 use Rattle.gx_keepers.specs.declared.keepers.Keepers.{Keepers}
 use Rattle.gx_keepers.specs.declared.next_record.NextMatch.{NextMatch}
-use Rattle.gx_keepers.specs.Keepers.{AreCarriedOn, AreInForce, AreInForceBut, HavePlaces}
+use Rattle.gx_keepers.specs.Keepers.{AreCarriedOn, AreInForce, AreInForceBut, HaveAllPlaces, HavePlaces, KeepPlaces}
 
 -- after a legal day with what is in force, the first that waits is matched, and that leaves the record
 pub record TakesMatch (policy : PolicyData) (history : List RecordData) (first : LiveOrder) (r : RecordData) (k : Keepers) : Type 0 where
@@ -32,6 +32,18 @@ IsNextMatch n k = TakesMatch n.policy.now n.history.now.records n.first.now n.le
 -- where an order expires, its user has a place for the report
 abbrev pub IsMatchPlaced : NextMatch → Keepers → Type 0
 IsMatchPlaced n k = (number : ℕ) → n.left.now.verdict ≡ verdicts.Expired number → HavePlaces n.policy.now n.history.now.records n.left.now k.streams
+
+-- and those that are kept behind it too
+abbrev pub IsMatchPlacedWhole : NextMatch → Keepers → Type 0
+IsMatchPlacedWhole n k = (number : ℕ) → n.left.now.verdict ≡ verdicts.Expired number → HaveAllPlaces n.policy.now n.history.now.records n.left.now k.streams
+
+-- the places that are kept before the step
+abbrev pub KeepPlacesBeforeMatch : NextMatch → Keepers → Type 0
+KeepPlacesBeforeMatch n k = KeepPlaces n.policy.now n.history.now.records k.streams
+
+-- and after it
+abbrev pub KeepPlacesAfterMatch : NextMatch → Keepers → Type 0
+KeepPlacesAfterMatch n k = KeepPlaces n.policy.now (n.history.now.records ++ n.left.now ∷ []) k.streams
 
 -- the keepers hold what is in force before the step
 abbrev pub AreBeforeMatch : NextMatch → Keepers → Type 0

@@ -1,5 +1,5 @@
--- What a setting asks of the rules.
-use Rattle.std.specs.Prelude.{IsTrue, List, Option, true, is_some}
+-- What a setting asks of the rules, whose fills a reader gets behind it, and which of them take memory.
+use Rattle.std.specs.Prelude.{Bool, true, false, IsTrue, List, Option, is_some}
 use Rattle.std.specs.Option.{option_map_or}
 use Rattle.gx_desk.specs.declared.Action.{Action}
 use Rattle.gx_desk.specs.declared.Action.TheVariants as actions
@@ -44,3 +44,10 @@ abbrev pub sent_on : PolicyData → List User → List User → AllStreams → A
 sent_on policy before now streams (actions.Grant written account) = sent_to policy now streams (reader_in before written)
 sent_on policy before now streams (actions.Revoke written account) = sent_to policy now streams (reader_in before written)
 sent_on policy before now streams other = streams
+
+-- one more stock in a list, or one more span of a reader's fills
+abbrev pub grows : Action → Bool
+grows (actions.Restrict rule stock) = true
+grows (actions.Grant reader account) = true
+grows (actions.Revoke reader account) = true
+grows other = false

@@ -3,13 +3,14 @@
 //! Each function begins with the one call that can be refused, if it makes one; nothing has changed
 //! then. What follows takes no memory: the places for reports were kept before.
 
-ghost use Rattle.std.specs.Prelude.{◌≡◌, OnOk, OnErr};
+ghost use Rattle.std.specs.Prelude.{◌≡◌, IsOk, OnOk, OnErr};
 ghost use Rattle.gx_history.specs.declared.record.Request.TheVariants as requests;
 ghost use Rattle.gx_history.specs.declared.record.Verdict.TheVariants as verdicts;
 ghost use Rattle.gx_market.specs.Changes.{cut_from};
 ghost use Rattle.gx_orders.specs.Changes.{replacement_order, waiting_order};
 ghost use Rattle.gx_keepers.specs.Keepers.{marked_by, AreAfter, AreAfterBut, AreBefore, IsNext};
-ghost use Rattle.gx_keepers.specs.Keepers.{IsPlaced, IsUnused};
+ghost use Rattle.gx_keepers.specs.Keepers.{IsPlaced, IsSure, IsUnused, KeepPlacesAfter};
+ghost use Rattle.gx_keepers.specs.Keepers.{KeepPlacesBefore, KeepRoom};
 
 use crate::commands::apply_command;
 use crate::figures::{open_order, placed};
@@ -51,6 +52,7 @@ fn apply_denial(
     requires denied { next.left.now.verdict ≡ verdicts.Denied rule }
     ensures ok { OnOk result (AreAfterBut next.entry keepers.new) }
     ensures err { OnErr result (AreBefore next.entry keepers.new) }
+    ensures room { KeepRoom keepers.old.streams keepers.new.streams }
 {
     mark_denied(&mut keepers.orders, next.asked, rule)?;
     let message = reports_of_denial(next.policy, next.left, rule, &next.asked.request);
@@ -110,6 +112,7 @@ fn apply_enter(
     requires enters { next.asked.now.request ≡ requests.Enter m.now }
     ensures ok { OnOk result (AreAfterBut next.entry keepers.new) }
     ensures err { OnErr result (AreBefore next.entry keepers.new) }
+    ensures room { KeepRoom keepers.old.streams keepers.new.streams }
 {
     let Some(account) = keepers.people.account_of(next.asked.user) else {
         unreachable!();
@@ -143,7 +146,8 @@ fn apply_cancel(keepers: &mut Keepers, next: NextRecord<'_>, m: &CancelOrder)
     requires places { IsPlaced next keepers.old }
     requires granted { next.left.now.verdict ≡ verdicts.Granted }
     requires cancels { next.asked.now.request ≡ requests.Cancel m.now }
-    ensures { AreAfterBut next.entry keepers.new }
+    ensures after { AreAfterBut next.entry keepers.new }
+    ensures room { KeepRoom keepers.old.streams keepers.new.streams }
 {
     let user = next.asked.user;
     let Some(order) = keepers.orders.under(user, m.token) else {
@@ -194,6 +198,7 @@ fn apply_replace(
     requires replaces { next.asked.now.request ≡ requests.Replace m.now }
     ensures ok { OnOk result (AreAfterBut next.entry keepers.new) }
     ensures err { OnErr result (AreBefore next.entry keepers.new) }
+    ensures room { KeepRoom keepers.old.streams keepers.new.streams }
 {
     let user = next.asked.user;
     let Some(old) = keepers.orders.under(user, m.existing_token) else {
@@ -219,6 +224,8 @@ fn apply_grant(keepers: &mut Keepers, next: NextRecord<'_>) -> Result<(), OutOfM
     requires granted { next.left.now.verdict ≡ verdicts.Granted }
     ensures ok { OnOk result (AreAfterBut next.entry keepers.new) }
     ensures err { OnErr result (AreBefore next.entry keepers.new) }
+    ensures room { KeepRoom keepers.old.streams keepers.new.streams }
+    ensures sure { IsSure next.entry → IsOk result }
 {
     let a = next.asked;
     match &a.request {
@@ -247,6 +254,8 @@ fn apply_verdict(keepers: &mut Keepers, next: NextRecord<'_>) -> Result<(), OutO
     requires places { IsPlaced next keepers.old }
     ensures ok { OnOk result (AreAfterBut next.entry keepers.new) }
     ensures err { OnErr result (AreBefore next.entry keepers.new) }
+    ensures room { KeepRoom keepers.old.streams keepers.new.streams }
+    ensures sure { IsSure next.entry → IsOk result }
 {
     match next.left.verdict {
         Verdict::Granted => apply_grant(keepers, next),
@@ -261,13 +270,16 @@ fn apply(keepers: &mut Keepers, next: NextRecord<'_>) -> Result<(), OutOfMemory>
     requires places { IsPlaced next keepers.old }
     ensures ok { OnOk result (AreAfter next.entry keepers.new) }
     ensures err { OnErr result (AreBefore next.entry keepers.new) }
+    ensures room { KeepRoom keepers.old.streams keepers.new.streams }
+    ensures sure { IsSure next.entry → IsOk result }
 {
     apply_verdict(keepers, next)?;
     keepers.day.set_moment(next.left.moment);
     Ok(())
 }
 
-/// Keeps a place for each report that the record owes, and carries the keepers on by the record.
+/// Keeps a place for each report that the record owes, carries the keepers on by the record, and
+/// leaves the places that are kept behind it. A granted Kill or Logout is never refused.
 ///
 /// # Errors
 ///
@@ -275,8 +287,12 @@ fn apply(keepers: &mut Keepers, next: NextRecord<'_>) -> Result<(), OutOfMemory>
 /// they are as they were, but for places that were kept.
 pub fn carry_on(keepers: &mut Keepers, next: NextRecord<'_>) -> Result<(), OutOfMemory>
     requires takes { IsNext next keepers.old }
+    requires kept { KeepPlacesBefore next keepers.old }
     ensures ok { OnOk result (AreAfter next.entry keepers.new) }
+    ensures kept_after { OnOk result (KeepPlacesAfter next.entry keepers.new) }
     ensures err { OnErr result (AreBefore next.entry keepers.new) }
+    ensures kept_before { OnErr result (KeepPlacesBefore next.entry keepers.new) }
+    ensures sure { IsSure next.entry → IsOk result }
 {
     keep_places(keepers, next)?;
     apply(keepers, next)

@@ -1,6 +1,6 @@
 //! What a granted command does to the keepers.
 
-ghost use Rattle.std.specs.Prelude.{◌≡◌, OnOk, OnErr};
+ghost use Rattle.std.specs.Prelude.{◌≡◌, IsOk, OnOk, OnErr};
 ghost use Rattle.gx_day.specs.InForce.{day_commanded};
 ghost use Rattle.gx_history.specs.declared.record.Request.TheVariants as requests;
 ghost use Rattle.gx_history.specs.declared.record.Verdict.TheVariants as verdicts;
@@ -8,6 +8,7 @@ ghost use Rattle.gx_keepers.specs.Ends.{owed_by_close, owed_by_day_ends, owed_by
 ghost use Rattle.gx_keepers.specs.Ends.{told_by_next, told_of_close, told_of_day_end, trades};
 ghost use Rattle.gx_keepers.specs.Ends.{HaveOwedPlaces};
 ghost use Rattle.gx_keepers.specs.Keepers.{AreAfterBut, AreBefore, IsNext, IsPlaced};
+ghost use Rattle.gx_keepers.specs.Keepers.{IsSure, KeepRoom};
 
 use crate::ends::{end_orders, tell_of_ends};
 use crate::keepers::Keepers;
@@ -104,6 +105,8 @@ pub fn apply_command(
     requires commands { next.asked.now.request ≡ requests.Command c.now }
     ensures ok { OnOk result (AreAfterBut next.entry keepers.new) }
     ensures err { OnErr result (AreBefore next.entry keepers.new) }
+    ensures room { KeepRoom keepers.old.streams keepers.new.streams }
+    ensures sure { IsSure next.entry → IsOk result }
 {
     // What this ensures: no two users have one name.
     let _ = next.policy.rules();

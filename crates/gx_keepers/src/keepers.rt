@@ -7,8 +7,9 @@ ghost use Rattle.gx_streams.specs.Streams.{empty_streams};
 ghost use Rattle.gx_streams.specs.Telling.{shown};
 ghost use Rattle.gx_ledger.specs.StandsFor.{StandsFor};
 ghost use Rattle.gx_day.specs.InForce.{fresh_day};
-ghost use Rattle.gx_keepers.specs.Keepers.{AreInForce, AreSentTo};
+ghost use Rattle.gx_keepers.specs.Keepers.{AreInForce, AreSentTo, HaveEnough, KeepPlaces};
 
+use crate::places::keep_enough_for_all;
 use gx_book::book::Book;
 use gx_day::day::Day;
 use gx_history::policy::Policy;
@@ -75,14 +76,34 @@ struct Trading {
     ledger: Ledger,
 }
 
+/// Each reader gets the fills of his accounts, and the places are kept that a day begins with.
+fn make_ready(
+    alloc: Global,
+    streams: &mut Streams,
+    policy: &Policy,
+    people: &People,
+) -> Result<(), OutOfMemory>
+    requires of_people { people.now ≡ policy.now.users }
+    requires of_streams { streams.old ≡ empty_streams policy.now }
+    ensures shown { shown streams.new ≡ shown streams.old }
+    ensures sent { OnOk result (AreSentTo policy.now people.now streams.new.readers) }
+    ensures enough { OnOk result
+        (HaveEnough [] people.now policy.now streams.new policy.now.users) }
+{
+    send_to_readers(streams, policy, people)?;
+    keep_enough_for_all(streams, &Orders::new(alloc), people, policy)
+}
+
 fn first_telling(alloc: Global, policy: &Policy) -> Result<Telling, OutOfMemory>
     ensures people { IfOk result (λ t. t.people ≡ policy.now.users) }
     ensures shown { IfOk result (λ t. shown t.streams ≡ shown (empty_streams policy.now)) }
     ensures sent { IfOk result (λ t. AreSentTo policy.now t.people t.streams.readers) }
+    ensures enough { IfOk result
+        (λ t. HaveEnough [] t.people policy.now t.streams policy.now.users) }
 {
     let people = People::new(alloc, policy)?;
     let mut streams = Streams::new(alloc, policy)?;
-    send_to_readers(&mut streams, policy, &people)?;
+    make_ready(alloc, &mut streams, policy, &people)?;
     Ok(Telling { people, streams })
 }
 
@@ -105,9 +126,10 @@ fn first_trading(alloc: Global, policy: &Policy) -> Result<Trading, OutOfMemory>
 }
 
 impl Keepers {
-    /// As they are at the beginning of a day under the policy.
+    /// As they are at the beginning of a day under the policy, with the places that are kept then.
     pub fn new(alloc: Global, policy: &Policy) -> Result<Keepers, OutOfMemory>
-        ensures { IfOk result (λ keepers. AreInForce policy.now [] keepers) }
+        ensures in_force { IfOk result (λ keepers. AreInForce policy.now [] keepers) }
+        ensures kept { IfOk result (λ keepers. KeepPlaces policy.now [] keepers.streams) }
     {
         let telling = first_telling(alloc, policy)?;
         let settings = first_settings(alloc, policy)?;

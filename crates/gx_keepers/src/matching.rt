@@ -6,7 +6,8 @@
 ghost use Rattle.std.specs.Prelude.{◌≡◌, OnOk, OnErr};
 ghost use Rattle.gx_history.specs.declared.record.Verdict.TheVariants as verdicts;
 ghost use Rattle.gx_keepers.specs.Matching.{AreAfterMatch, AreAfterMatchBut, AreBeforeMatch};
-ghost use Rattle.gx_keepers.specs.Matching.{told_side, IsMatchPlaced, IsNextMatch};
+ghost use Rattle.gx_keepers.specs.Matching.{told_side, IsMatchPlaced, IsMatchPlacedWhole, IsNextMatch};
+ghost use Rattle.gx_keepers.specs.Matching.{KeepPlacesAfterMatch, KeepPlacesBeforeMatch};
 
 use crate::figures::open_order;
 use crate::keepers::Keepers;
@@ -40,8 +41,11 @@ fn side_of(policy: &Policy, order: &LiveOrder) -> FillSide
 fn apply_fill(keepers: &mut Keepers, next: NextMatch<'_>, f: Fill) -> Result<(), OutOfMemory>
     requires takes { IsNextMatch next keepers.old }
     requires fills { next.left.now.verdict ≡ verdicts.Filled f }
+    requires kept { KeepPlacesBeforeMatch next keepers.old }
     ensures ok { OnOk result (AreAfterMatchBut next.entry keepers.new) }
+    ensures kept_after { OnOk result (KeepPlacesAfterMatch next.entry keepers.new) }
     ensures err { OnErr result (AreBeforeMatch next.entry keepers.new) }
+    ensures kept_before { OnErr result (KeepPlacesBeforeMatch next.entry keepers.new) }
 {
     // What this ensures: each account that someone trades for is in the policy, at most 64 of them.
     let _ = next.policy.rules();
@@ -73,8 +77,11 @@ fn apply_fill(keepers: &mut Keepers, next: NextMatch<'_>, f: Fill) -> Result<(),
 fn apply_rest(keepers: &mut Keepers, next: NextMatch<'_>, number: u64) -> Result<(), OutOfMemory>
     requires takes { IsNextMatch next keepers.old }
     requires rests { next.left.now.verdict ≡ verdicts.Rested number }
+    requires kept { KeepPlacesBeforeMatch next keepers.old }
     ensures ok { OnOk result (AreAfterMatchBut next.entry keepers.new) }
+    ensures kept_after { OnOk result (KeepPlacesAfterMatch next.entry keepers.new) }
     ensures err { OnErr result (AreBeforeMatch next.entry keepers.new) }
+    ensures kept_before { OnErr result (KeepPlacesBeforeMatch next.entry keepers.new) }
 {
     keepers.book.rest(resting_of(next.first))?;
     keepers.orders.rest(number);
@@ -87,7 +94,9 @@ fn apply_expiry(keepers: &mut Keepers, next: NextMatch<'_>, number: u64)
     requires takes { IsNextMatch next keepers.old }
     requires places { IsMatchPlaced next keepers.old }
     requires expires { next.left.now.verdict ≡ verdicts.Expired number }
-    ensures { AreAfterMatchBut next.entry keepers.new }
+    requires whole { IsMatchPlacedWhole next keepers.old }
+    ensures after { AreAfterMatchBut next.entry keepers.new }
+    ensures kept_after { KeepPlacesAfterMatch next.entry keepers.new }
 {
     keepers.orders.end(number);
     let order = next.first;
@@ -106,8 +115,12 @@ fn apply_expiry(keepers: &mut Keepers, next: NextMatch<'_>, number: u64)
 fn apply_outcome(keepers: &mut Keepers, next: NextMatch<'_>) -> Result<(), OutOfMemory>
     requires takes { IsNextMatch next keepers.old }
     requires places { IsMatchPlaced next keepers.old }
+    requires whole { IsMatchPlacedWhole next keepers.old }
+    requires kept { KeepPlacesBeforeMatch next keepers.old }
     ensures ok { OnOk result (AreAfterMatchBut next.entry keepers.new) }
+    ensures kept_after { OnOk result (KeepPlacesAfterMatch next.entry keepers.new) }
     ensures err { OnErr result (AreBeforeMatch next.entry keepers.new) }
+    ensures kept_before { OnErr result (KeepPlacesBeforeMatch next.entry keepers.new) }
 {
     match next.left.verdict {
         Verdict::Filled(f) => apply_fill(keepers, next, f),
@@ -124,15 +137,20 @@ fn apply_outcome(keepers: &mut Keepers, next: NextMatch<'_>) -> Result<(), OutOf
 fn apply_match(keepers: &mut Keepers, next: NextMatch<'_>) -> Result<(), OutOfMemory>
     requires takes { IsNextMatch next keepers.old }
     requires places { IsMatchPlaced next keepers.old }
+    requires whole { IsMatchPlacedWhole next keepers.old }
+    requires kept { KeepPlacesBeforeMatch next keepers.old }
     ensures ok { OnOk result (AreAfterMatch next.entry keepers.new) }
+    ensures kept_after { OnOk result (KeepPlacesAfterMatch next.entry keepers.new) }
     ensures err { OnErr result (AreBeforeMatch next.entry keepers.new) }
+    ensures kept_before { OnErr result (KeepPlacesBeforeMatch next.entry keepers.new) }
 {
     apply_outcome(keepers, next)?;
     keepers.day.set_moment(next.left.moment);
     Ok(())
 }
 
-/// Keeps a place for the report of an expiry, and carries the keepers on by the step's record.
+/// Keeps a place for the report of an expiry, carries the keepers on by the step's record, and
+/// leaves the places that are kept behind it.
 ///
 /// # Errors
 ///
@@ -140,8 +158,11 @@ fn apply_match(keepers: &mut Keepers, next: NextMatch<'_>) -> Result<(), OutOfMe
 /// were, but for a place that was kept.
 pub fn carry_match(keepers: &mut Keepers, next: NextMatch<'_>) -> Result<(), OutOfMemory>
     requires takes { IsNextMatch next keepers.old }
+    requires kept { KeepPlacesBeforeMatch next keepers.old }
     ensures ok { OnOk result (AreAfterMatch next.entry keepers.new) }
+    ensures kept_after { OnOk result (KeepPlacesAfterMatch next.entry keepers.new) }
     ensures err { OnErr result (AreBeforeMatch next.entry keepers.new) }
+    ensures kept_before { OnErr result (KeepPlacesBeforeMatch next.entry keepers.new) }
 {
     keep_match_places(keepers, next)?;
     apply_match(keepers, next)

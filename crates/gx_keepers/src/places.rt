@@ -1,38 +1,26 @@
 //! Every place that a record can want, made before anything changes.
+//!
+//! For each user places are kept beforehand: one for the end of each of his live orders, and one for
+//! the answer to each Kill that he may ask for. So a granted Kill, and a granted Logout, make none.
 
-ghost use Rattle.std.specs.Prelude.{◌≡◌, ◌≤◌, length, OnOk};
+ghost use Rattle.std.specs.Prelude.{◌≡◌, ◌<◌, ◌≤◌, ◌^◌, length, IsOk, OnOk};
 ghost use Rattle.gx_history.specs.Verdicts.{day_limit};
 ghost use Rattle.gx_streams.specs.Telling.{shown};
-ghost use Rattle.gx_keepers.specs.Keepers.{count_of, end_places, ending, user_places, AreBefore};
-ghost use Rattle.gx_keepers.specs.Keepers.{HasPlaces, HaveEndPlaces, HaveNoFewer, IsNext};
-ghost use Rattle.gx_keepers.specs.Keepers.{IsPlaced, KnowTheSame, KnowsUsers};
-ghost use Rattle.gx_keepers.specs.Matching.{AreBeforeMatch, IsMatchPlaced, IsNextMatch};
+ghost use Rattle.gx_keepers.specs.Keepers.{enough_of, kills_of, AreBefore, HasEnough};
+ghost use Rattle.gx_keepers.specs.Keepers.{HasPlaces, HaveEnough, HaveNoFewer, IsNext, IsPlaced, IsPlacedWhole};
+ghost use Rattle.gx_keepers.specs.Keepers.{IsSure, KeepPlacesBefore, KnowTheSame};
+ghost use Rattle.gx_keepers.specs.Matching.{AreBeforeMatch, IsMatchPlaced, IsMatchPlacedWhole};
+ghost use Rattle.gx_keepers.specs.Matching.{IsNextMatch, KeepPlacesBeforeMatch};
 
-use crate::ends::is_lasting;
 use crate::keepers::Keepers;
 use crate::next_record::{NextMatch, NextRecord};
-use gx_desk::Action;
-use gx_history::policy::{Policy, Role, User};
-use gx_history::record::{Request, Verdict};
+use crate::request::{concerns_many, has_kept_places};
+use gx_history::policy::Policy;
+use gx_history::record::Verdict;
 use gx_orders::orders::Orders;
+use gx_people::people::People;
 use gx_streams::streams::Streams;
-use gx_units::{AccountName, OutOfMemory, UserName};
-
-/// The command that ends orders, if a request of this verdict is one.
-fn ending(request: &Request, given: Verdict) -> Option<Action>
-    ensures { result ≡ ending request.now given }
-{
-    match (given, request) {
-        (Verdict::Granted, Request::Command(c)) => {
-            if is_lasting(&c.action) {
-                None
-            } else {
-                Some(c.action)
-            }
-        }
-        _ => None,
-    }
-}
+use gx_units::{OutOfMemory, UserName};
 
 /// Keeps at least so many places for the user, if he is known and no reader.
 fn keep(streams: &mut Streams, user: UserName, places: usize) -> Result<(), OutOfMemory>
@@ -49,87 +37,127 @@ fn keep(streams: &mut Streams, user: UserName, places: usize) -> Result<(), OutO
     Ok(())
 }
 
-/// How many places a command that ends orders wants for a trader of the account: one for each live
-/// order of his that it ends, and one for the end of the day, if it closes the day.
-fn end_places(orders: &Orders, user: UserName, account: AccountName, action: &Action) -> usize
-    requires few { length orders.now.live ≤ day_limit }
-    ensures { result ≡ end_places action.now account (count_of orders.now.live user) }
+/// The most accounts that there can be for the user to kill: none, unless he is an officer.
+fn most_kills(people: &People, policy: &Policy, user: UserName) -> usize
+    ensures most { result ≡ kills_of people.now policy.now user }
+    ensures few { result < 2 ^ 63 }
 {
-    match *action {
-        Action::Kill(killed) => {
-            if killed == account {
-                orders.count_of(user)
-            } else {
-                0
-            }
-        }
-        Action::CloseDay => orders.count_of(user) + 1,
-        _ => 0,
+    if people.is_officer(user) {
+        policy.accounts().len()
+    } else {
+        0
     }
 }
 
-/// How many it wants for the user.
-fn user_places(orders: &Orders, user: &User, action: &Action) -> usize
+/// How many places are enough for the user, whatever one record tells him and leaves to be kept for
+/// him: two more than one for each of his live orders and, if he is an officer, for each account.
+fn enough_places(orders: &Orders, people: &People, policy: &Policy, user: UserName) -> usize
     requires few { length orders.now.live ≤ day_limit }
-    ensures { result ≡ user_places action.now orders.now.live user.now }
+    ensures { result ≡ enough_of orders.now.live people.now policy.now user }
 {
-    match user.role {
-        Role::Trader(account) => end_places(orders, user.name, account, action),
-        _ => 0,
-    }
+    orders.count_of(user) + most_kills(people, policy, user) + 2
 }
 
-/// Keeps the places that a command which ends orders wants for the traders.
-fn keep_for_ends(
+/// Keeps as many places for the user, if he is known and no reader.
+fn keep_enough(
     streams: &mut Streams,
     orders: &Orders,
+    people: &People,
     policy: &Policy,
-    action: &Action,
+    user: UserName,
 ) -> Result<(), OutOfMemory>
-    requires known { KnowsUsers policy.now streams.old }
     requires few { length orders.now.live ≤ day_limit }
     ensures shown { shown streams.new ≡ shown streams.old }
     ensures readers { streams.new.readers ≡ streams.old.readers }
+    ensures known { KnowTheSame streams.old streams.new }
     ensures more { HaveNoFewer streams.old streams.new }
-    ensures places { OnOk result (HaveEndPlaces policy.now action.now orders.now.live streams.new) }
+    ensures places { OnOk result
+        (HasEnough orders.now.live people.now policy.now streams.new user) }
+{
+    keep(streams, user, enough_places(orders, people, policy, user))
+}
+
+/// Keeps as many places for each user of the policy.
+pub fn keep_enough_for_all(
+    streams: &mut Streams,
+    orders: &Orders,
+    people: &People,
+    policy: &Policy,
+) -> Result<(), OutOfMemory>
+    requires few { length orders.now.live ≤ day_limit }
+    ensures shown { shown streams.new ≡ shown streams.old }
+    ensures readers { streams.new.readers ≡ streams.old.readers }
+    ensures known { KnowTheSame streams.old streams.new }
+    ensures more { HaveNoFewer streams.old streams.new }
+    ensures places { OnOk result
+        (HaveEnough orders.now.live people.now policy.now streams.new policy.now.users) }
 {
     for user in policy.users() {
-        keep(streams, user.name, user_places(orders, user, action))?;
+        keep_enough(streams, orders, people, policy, user.name)?;
     }
     Ok(())
 }
 
-/// Keeps a place for each report that the record owes: one for who asked, and those for what ends.
+/// Keeps a place for each report that the record owes, and those that are to be kept behind it. A
+/// granted Kill or Logout finds its own.
 ///
 /// # Errors
 ///
 /// `OutOfMemory`: some stream could not grow, and nobody was told anything.
 pub fn keep_places(keepers: &mut Keepers, next: NextRecord<'_>) -> Result<(), OutOfMemory>
     requires takes { IsNext next keepers.old }
-    ensures kept { AreBefore next.entry keepers.new }
+    requires kept { KeepPlacesBefore next keepers.old }
+    ensures before { AreBefore next.entry keepers.new }
+    ensures kept { KeepPlacesBefore next.entry keepers.new }
     ensures places { OnOk result (IsPlaced next.entry keepers.new) }
+    ensures whole { OnOk result (IsPlacedWhole next.entry keepers.new) }
+    ensures sure { IsSure next.entry → IsOk result }
 {
-    keep(&mut keepers.streams, next.asked.user, 1)?;
-    match ending(&next.asked.request, next.left.verdict) {
-        Some(action) => {
-            keep_for_ends(&mut keepers.streams, &keepers.orders, next.policy, &action)
-        }
-        None => Ok(()),
+    let request = &next.asked.request;
+    let given = next.left.verdict;
+    let policy = next.policy;
+    if has_kept_places(request, given) {
+        return Ok(());
     }
+    if concerns_many(request, given) {
+        return keep_enough_for_all(
+            &mut keepers.streams,
+            &keepers.orders,
+            &keepers.people,
+            policy,
+        );
+    }
+    keep_enough(
+        &mut keepers.streams,
+        &keepers.orders,
+        &keepers.people,
+        policy,
+        next.asked.user,
+    )
 }
 
-/// Keeps a place for the report of an order that expires. A fill makes its own places.
+/// Keeps a place for the report of an order that expires, and those that are to be kept behind it. A
+/// fill makes its own places.
 ///
 /// # Errors
 ///
 /// `OutOfMemory`: some stream could not grow, and nobody was told anything.
 pub fn keep_match_places(keepers: &mut Keepers, next: NextMatch<'_>) -> Result<(), OutOfMemory>
     requires takes { IsNextMatch next keepers.old }
-    ensures kept { AreBeforeMatch next.entry keepers.new }
+    requires kept { KeepPlacesBeforeMatch next keepers.old }
+    ensures before { AreBeforeMatch next.entry keepers.new }
+    ensures kept { KeepPlacesBeforeMatch next.entry keepers.new }
     ensures places { OnOk result (IsMatchPlaced next.entry keepers.new) }
+    ensures whole { OnOk result (IsMatchPlacedWhole next.entry keepers.new) }
 {
     match next.left.verdict {
-        Verdict::Expired(_) => keep(&mut keepers.streams, next.first.user, 1),
+        Verdict::Expired(_) => keep_enough(
+            &mut keepers.streams,
+            &keepers.orders,
+            &keepers.people,
+            next.policy,
+            next.first.user,
+        ),
         _ => Ok(()),
     }
 }

@@ -1,11 +1,15 @@
-//! The tokens of a request, and the rules whose denial is answered.
+//! The tokens of a request, the rules whose denial is answered, and which requests find their
+//! places kept.
 
 ghost use Rattle.std.specs.Prelude.{◌≡◌};
 ghost use Rattle.gx_history.specs.Requests.{named_token, new_token};
 ghost use Rattle.gx_history.specs.RuleNames.{is_answered_rule};
 ghost use Rattle.gx_orders.specs.Changes.{denied_token};
+ghost use Rattle.gx_places.specs.Places.{concerns_many, has_kept_places, is_kill_or_logout};
+ghost use Rattle.gx_places.specs.Places.{is_lift_or_close};
 
-use gx_history::record::{Request, RuleName};
+use gx_desk::Action;
+use gx_history::record::{Request, RuleName, Verdict};
 use gx_units::Token;
 
 /// The token that an Enter, or a Replace, asks for an order under.
@@ -61,5 +65,52 @@ pub fn denied_token(rule: RuleName, request: &Request) -> Option<Token>
         new_token(request)
     } else {
         None
+    }
+}
+
+fn is_kill_or_logout(request: &Request) -> bool
+    ensures { result ≡ is_kill_or_logout request.now }
+{
+    match request {
+        Request::Logout => true,
+        Request::Command(c) => match c.action {
+            Action::Kill(_) => true,
+            _ => false,
+        },
+        _ => false,
+    }
+}
+
+/// Whether a request of this verdict is a granted Kill or Logout: its record, and what it tells,
+/// have places that were kept beforehand.
+pub fn has_kept_places(request: &Request, given: Verdict) -> bool
+    ensures { result ≡ has_kept_places request.now given }
+{
+    match given {
+        Verdict::Granted => is_kill_or_logout(request),
+        _ => false,
+    }
+}
+
+fn is_lift_or_close(request: &Request) -> bool
+    ensures { result ≡ is_lift_or_close request.now }
+{
+    match request {
+        Request::Command(c) => match c.action {
+            Action::Lift(_) | Action::CloseDay => true,
+            _ => false,
+        },
+        _ => false,
+    }
+}
+
+/// Whether a request of this verdict is a granted Lift or Close Day, after which many a user may
+/// want more places, or is told.
+pub fn concerns_many(request: &Request, given: Verdict) -> bool
+    ensures { result ≡ concerns_many request.now given }
+{
+    match given {
+        Verdict::Granted => is_lift_or_close(request),
+        _ => false,
     }
 }

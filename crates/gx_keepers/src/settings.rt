@@ -1,10 +1,10 @@
 //! Limits, lists of stocks and entitlements, as officers change them.
 
-ghost use Rattle.std.specs.Prelude.{◌≡◌, OnOk, OnErr};
+ghost use Rattle.std.specs.Prelude.{◌≡◌, IsFalse, IsOk, OnOk, OnErr};
 ghost use Rattle.gx_desk.specs.declared.Action.TheVariants as actions;
 ghost use Rattle.gx_history.specs.InForce.{changed};
 ghost use Rattle.gx_people.specs.Entitled.{given};
-ghost use Rattle.gx_keepers.specs.Settings.{sent_on, HasRoom, HasSetting};
+ghost use Rattle.gx_keepers.specs.Settings.{grows, sent_on, HasRoom, HasSetting};
 
 use gx_desk::{Action, WrittenName};
 use gx_history::policy::Policy;
@@ -81,6 +81,7 @@ pub fn set(
     ensures people_kept { OnErr result (people.new ≡ people.old) }
     ensures streams_kept { OnErr result (streams.new ≡ streams.old) }
     ensures rules_kept { OnErr result (rules.new ≡ rules.old) }
+    ensures sure { IsFalse (grows action.now) → IsOk result }
 {
     match *action {
         Action::SetLimit(rule, limit) => rules.set_limit(rule, limit),

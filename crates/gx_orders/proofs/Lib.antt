@@ -2,6 +2,7 @@ pub mod Places
 pub mod Kept
 pub mod Answering
 pub mod Tying
+pub mod Counted
 pub mod Calls
 pub mod Keeping
 pub mod Staying

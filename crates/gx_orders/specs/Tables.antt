@@ -1,12 +1,15 @@
 -- How the tables of the live orders hang together.
-use Rattle.std.specs.Prelude.{◌≡◌, ℕ, List, map, Option, Some}
-use Rattle.std.specs.List.{AllByRecursion}
+use Rattle.std.specs.Prelude.{◌≡◌, ℕ, ◌+◌, ◌-◌, ◌&&◌, List, length, map, Option, Some, unwrap_or, if◌then◌else◌}
+use Rattle.std.specs.List.{filter, AllByRecursion}
 use Rattle.std.specs.Map.{keys_of, values_of, lookup, set_value}
 use Rattle.std.specs.BTreeMap.{is_at}
 use Rattle.std.specs.Ordering.{nat_cmp}
+use Rattle.gx_units.specs.Names.{same_account, same_user}
+use Rattle.gx_units.specs.declared.names.AccountName.{AccountName}
+use Rattle.gx_units.specs.declared.names.UserName.{UserName}
 use Rattle.gx_orders.specs.declared.live_order.LiveOrder.{LiveOrder}
 use Rattle.gx_orders.specs.declared.live_order.UserToken.{UserToken}
-use Rattle.gx_orders.specs.LiveOrders.{OrdersData, NumbersRise, IsOpen, waiting, same_user_token, token_of}
+use Rattle.gx_orders.specs.LiveOrders.{OrdersData, NumbersRise, IsOpen, is_of_user, waiting, same_user_token, token_of}
 
 -- the order under its number
 abbrev pub numbered : LiveOrder → ℕ × LiveOrder
@@ -39,3 +42,36 @@ pub record AreFound (live : List LiveOrder) (listed : List ℕ) (tokens : List (
 pub record AreTied (by_number : List (ℕ × LiveOrder)) (listed : List ℕ) (tokens : List (UserToken × Option ℕ)) : Type 0 where
   pub by_numbers : by_number ≡ map numbered (values_of by_number)
   pub found : AreFound (values_of by_number) listed tokens
+
+-- how many orders are counted of the user
+abbrev pub counted_of : List (UserName × ℕ) → UserName → ℕ
+counted_of counts user = unwrap_or (lookup (same_user user) counts) 0
+
+-- how many of the orders are the user's
+abbrev pub orders_of : UserName → List LiveOrder → ℕ
+orders_of user live = length (filter (is_of_user user) live)
+
+-- and how many of these are for the account
+abbrev pub account_orders_of : UserName → AccountName → List LiveOrder → ℕ
+account_orders_of user account live = length (filter (λ (o : LiveOrder). is_of_user user o && same_account account o.account) live)
+
+-- each user's orders are counted
+abbrev pub AreCounted : List (UserName × ℕ) → List LiveOrder → Type 0
+AreCounted counts live = (user : UserName) → counted_of counts user ≡ orders_of user live
+
+-- one order more of the user is counted
+abbrev pub CountsOneMore : UserName → (before after : List (UserName × ℕ)) → Type 0
+CountsOneMore user before after = (other : UserName) → counted_of after other ≡ counted_of before other + (if same_user user other then 1 else 0)
+
+-- one order less of the user is counted
+abbrev pub CountsOneLess : UserName → (before after : List (UserName × ℕ)) → Type 0
+CountsOneLess user before after = (other : UserName) → counted_of after other ≡ counted_of before other - (if same_user user other then 1 else 0)
+
+-- of these orders those for the account are counted no more
+abbrev pub CountsNoMore : AccountName → List LiveOrder → (before after : List (UserName × ℕ)) → Type 0
+CountsNoMore account live before after = (user : UserName) → counted_of after user ≡ counted_of before user - account_orders_of user account live
+
+-- the tables hang together, and each user's orders are counted
+pub record AreHeld (by_number : List (ℕ × LiveOrder)) (listed : List ℕ) (tokens : List (UserToken × Option ℕ)) (counts : List (UserName × ℕ)) : Type 0 where
+  pub tied : AreTied by_number listed tokens
+  pub counted : AreCounted counts (values_of by_number)

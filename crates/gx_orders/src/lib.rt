@@ -1,6 +1,7 @@
 //! The live orders while a day runs: found by number, by token, and the first that waits to be matched.
 #![tactic(auto)]
 
+mod counts;
 pub mod laws;
 pub mod live_order;
 pub mod orders;

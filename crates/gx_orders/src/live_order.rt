@@ -2,6 +2,7 @@
 
 ghost use Rattle.std.specs.Prelude.{◌≡◌, ◌-◌};
 ghost use Rattle.gx_orders.specs.LiveOrders.{is_under, token_of};
+ghost use Rattle.gx_units.specs.Names.{same_account};
 
 use gx_ouch::OrderTerms;
 use gx_units::{AccountName, Token, UserName};
@@ -44,6 +45,13 @@ impl LiveOrder {
         ensures { result ≡ is_under user token self.now }
     {
         self.user == user && self.token == token
+    }
+
+    /// It is one of the account.
+    pub fn is_of_account(&self, account: AccountName) -> bool
+        ensures { result ≡ same_account account self.now.account }
+    {
+        account == self.account
     }
 
     /// The user and the token that it was asked for under.

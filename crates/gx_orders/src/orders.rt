@@ -5,6 +5,7 @@ ghost use Rattle.std.specs.List.{filter};
 ghost use Rattle.gx_orders.specs.Tables.{written};
 ghost use Rattle.gx_orders.specs.LiveOrders.{AreBelow, AreSound, HasOpen, at_rest, changed, cut_at, filled_at, first_waiting, is_of_user, is_used, key, of_others, order_numbered, order_under, resized_at, token_of, without};
 
+use crate::counts::{count_in, count_no_more, count_one_less, count_one_more};
 use crate::live_order::{LiveOrder, UserToken};
 use gx_units::{AccountName, OutOfMemory, Token, UserName};
 use indexmap::IndexMap;
@@ -22,17 +23,20 @@ pub struct Orders {
     waiting: BTreeSet<u64>,
     /// Each used token, with the number of the order that was entered under it, if one was.
     tokens: IndexMap<UserToken, Option<u64>>,
+    /// How many live orders each user has; one who never had any has no entry.
+    counts: IndexMap<UserName, usize>,
 }
 
 impl Model for Orders {
     ghost use Rattle.gx_orders.specs.LiveOrders.{OrdersData};
-    ghost use Rattle.gx_orders.specs.Tables.{AreTied, shown};
+    ghost use Rattle.gx_orders.specs.Tables.{AreHeld, shown};
 
     ghost Value = { OrdersData };
 
     ghost view = { λ o. shown o.by_number.entries o.tokens.entries };
 
-    ghost invariant = { λ o. AreTied o.by_number.entries o.waiting.keys o.tokens.entries };
+    ghost invariant = { λ o. AreHeld o.by_number.entries o.waiting.keys o.tokens.entries
+        o.counts.entries };
 }
 
 /// Puts the order in the place of the one of its number, if there is one.
@@ -55,6 +59,7 @@ impl Orders {
             by_number: BTreeMap::new(alloc),
             waiting: BTreeSet::new(alloc),
             tokens: IndexMap::new(alloc),
+            counts: IndexMap::new(alloc),
         }
     }
 
@@ -107,14 +112,11 @@ impl Orders {
         self.by_number.get(number).copied()
     }
 
-    /// How many live orders the user has. It looks at each live order in turn.
+    /// How many live orders the user has. It looks at no order.
     pub fn count_of(&self, user: UserName) -> usize
         ensures { result ≡ length (filter (is_of_user user) self.now.live) }
     {
-        self.by_number
-            .values()
-            .filter(|order| order.user == user)
-            .count()
+        count_in(&self.counts, user)
     }
 
     /// Takes in an order, which waits to be matched behind all others and uses its token. It takes memory for one more.
@@ -131,13 +133,17 @@ impl Orders {
         ensures used { OnOk result (self.new.used ≡ self.old.used ++ token_of order ∷ []) }
         ensures unchanged { OnErr result (self.new ≡ self.old) }
     {
+        // Fewer orders than 2^63: their count can grow by one.
+        let _ = self.by_number.len();
         self.tokens.reserve(1)?;
+        self.counts.reserve(1)?;
         self.waiting.insert(order.number)?;
         if let Err(refused) = self.by_number.insert(order.number, order) {
             self.waiting.remove(&order.number);
             return Err(OutOfMemory::from(refused));
         }
         self.tokens.insert(order.user_token(), Some(order.number))?;
+        count_one_more(&mut self.counts, order.user)?;
         Ok(())
     }
 
@@ -219,8 +225,11 @@ impl Orders {
         ensures live { self.new.live ≡ without number self.old.live }
         ensures used { self.new.used ≡ self.old.used }
     {
-        self.by_number.remove(&number);
         self.waiting.remove(&number);
+        let Some(order) = self.by_number.remove(&number) else {
+            return;
+        };
+        count_one_less(&mut self.counts, order.user);
     }
 
     /// All orders of the account have ended. It looks at each live order in turn, and takes no memory.
@@ -228,6 +237,7 @@ impl Orders {
         ensures live { self.new.live ≡ of_others account self.old.live }
         ensures used { self.new.used ≡ self.old.used }
     {
+        count_no_more(&mut self.counts, &self.by_number, account);
         self.by_number.retain(|_, order| account != order.account);
         let by_number = &self.by_number;
         self.waiting.retain(|number| by_number.contains_key(number));
@@ -240,5 +250,6 @@ impl Orders {
     {
         self.by_number.clear();
         self.waiting.clear();
+        self.counts.clear();
     }
 }

@@ -1,6 +1,7 @@
 -- What a line of a script does.
-use Rattle.std.proofs.Common.{◌≡◌, ℕ, ◌+◌, ◌<◌, ◌≤◌, ◌⊎◌, inl, inr, false, leb, cond, List, [], ◌∷◌, ◌++◌, length, take, Option, Some, None, Result, Ok, Err, IfOk, refl, sym, ap, ◌∙◌, subst, append-nil}
+use Rattle.std.proofs.Common.{◌≡◌, ℕ, ◌+◌, ◌<◌, ◌≤◌, ◌⊎◌, inl, inr, Bool, true, false, not, leb, le-leb, cond, List, [], ◌∷◌, ◌++◌, length, take, Option, Some, None, Result, Ok, Err, IfOk, refl, sym, ap, ◌∙◌, subst, append-nil}
 use Rattle.std.proofs.lemmas.Bool.{lt-leb, cases_lt}
+use Rattle.std.specs.Prelude.{is_ok, ◌&&◌}
 use Rattle.gx_history.specs.declared.record.Asked.{Asked}
 use Rattle.gx_history.specs.declared.record.RecordData.{RecordData}
 use Rattle.gx_history.specs.declared.record.Step.TheVariants as steps
@@ -8,6 +9,7 @@ use Rattle.gx_history.specs.declared.record.Verdict.{Verdict}
 use Rattle.gx_history.specs.declared.report.Report.{Report}
 use Rattle.gx_history.specs.Verdicts.{next, step_verdict, verdict, day_limit}
 use Rattle.gx_core.specs.Gates.{GateData, left_by}
+use Rattle.gx_core.specs.Steps.{has_its_places}
 use Rattle.gx_core.specs.declared.outcome.Outcome.{Outcome}
 use Rattle.gx_core.specs.declared.outcome.StepFault.{StepFault}
 use Rattle.gx_core.specs.Asking.{stepped}
@@ -27,6 +29,23 @@ below limit n r o e full ok (inr h) = let clash : Err e ≡ Ok o = sym (full h) 
 pub not_full : {T : Type 0} (limit n : ℕ) (r : Result T StepFault) (o : T) (e : StepFault) → (limit ≤ n → r ≡ Err e) → r ≡ Ok o → leb limit n ≡ false
 not_full limit n r o e full ok = lt-leb limit n (below limit n r o e full ok (cases_lt n limit))
 
+-- nor was it refused, be it one that a full day refuses or not
+not_refused : {T : Type 0} (limit n : ℕ) (kept : Bool) (r : Result T StepFault) (o : T) (e : StepFault) → (limit ≤ n → kept ≡ false → r ≡ Err e) → r ≡ Ok o → (leb limit n && not kept) ≡ false
+not_refused limit n true r o e full ok = elim (leb limit n) as (λ b. (b && false) ≡ false) [ true ↦ refl | false ↦ refl ]
+not_refused limit n false r o e full ok = ap (λ b. b && true) (not_full limit n r o e (λ l. full l refl) ok)
+
+-- a step that was refused is none that finds its places
+pub refused : {T : Type 0} (gate : GateData) (a : Asked) (r : Result T StepFault) (e : StepFault) → (has_its_places gate a ≡ true → is_ok r ≡ true) → r ≡ Err e → day_limit ≤ length gate.records
+    → step_of gate a ≡ record { gate = gate; text = refused_line }
+unfolding step_of
+refused gate a r e sure err full =
+    ap (λ b. cond b (record { gate = gate; text = refused_line }) (record { gate = stepped gate a; text = outcome_line (length gate.records + 1) (verdict gate.policy gate.records a) }))
+    (ap (λ b. b && not (has_its_places gate a)) (le-leb day_limit (length gate.records) full) ∙ by (has_its_places gate a) refl)
+  where
+    by : (b : Bool) → has_its_places gate a ≡ b → (true && not (has_its_places gate a)) ≡ true
+    by false is = ap not is
+    by true is = let clash : false ≡ true = sym (ap is_ok err) ∙ sure is in cc
+
 number_in : Option RecordData → ℕ
 number_in None = 0
 number_in (Some r) = r.number
@@ -37,7 +56,7 @@ number_is gate a o n = sym (ap number_in n)
 
 -- a step that was made
 pub made : {T : Type 0} (gate after : GateData) (a : Asked) (o : Outcome) (r : Result T StepFault) (x : T) (e : StepFault) (text : List ℕ)
-    → (day_limit ≤ length gate.records → r ≡ Err e) → r ≡ Ok x → after.policy ≡ gate.policy
+    → (day_limit ≤ length gate.records → has_its_places gate a ≡ false → r ≡ Err e) → r ≡ Ok x → after.policy ≡ gate.policy
     → next gate.policy gate.records (steps.Asked a) ≡ Some (left_by a o) → after.records ≡ gate.records ++ left_by a o ∷ []
     → o.verdict ≡ verdict gate.policy gate.records a → text ≡ outcome_line o.number o.verdict
     → step_of gate a ≡ record { gate = after; text = text }
@@ -45,7 +64,7 @@ unfolding step_of
 made gate after a o r x e text full ok p n s v t =
     let made_of : ℕ → Verdict → Printed = λ number verdict_told. record { gate = stepped gate a; text = outcome_line number verdict_told } in
     ap (λ b. cond b (record { gate = gate; text = refused_line }) (made_of (length gate.records + 1) (verdict gate.policy gate.records a)))
-    (not_full day_limit (length gate.records) r x e full ok)
+    (not_refused day_limit (length gate.records) (has_its_places gate a) r x e full ok)
     ∙ (ap (λ k. made_of k (verdict gate.policy gate.records a)) (sym (number_is gate a o n))
     ∙ (ap (made_of o.number) (sym v)
     ∙ (ap (λ g. record { gate = g; text = outcome_line o.number o.verdict }) (sym (stepped_is gate after a o p n s))

@@ -1,5 +1,5 @@
 -- What a script makes of a gate, and what it prints.
-use Rattle.std.specs.Prelude.{ℕ, ◌+◌, max, take, drop, Bool, ◌==◌, nat_le, is_some, is_none, ◌||◌, if◌then◌else◌, Option, Some, None, List, [], ◌∷◌, ◌++◌, length, fold}
+use Rattle.std.specs.Prelude.{ℕ, ◌+◌, max, take, drop, Bool, not, ◌==◌, nat_le, is_some, is_none, ◌&&◌, ◌||◌, if◌then◌else◌, Option, Some, None, List, [], ◌∷◌, ◌++◌, length, fold}
 use Rattle.std.specs.List.{flat_map}
 use Rattle.gx_units.specs.declared.names.UserName.{UserName}
 use Rattle.gx_history.specs.declared.record.Asked.{Asked}
@@ -13,6 +13,7 @@ use Rattle.gx_history.specs.Verdicts.{verdict, day_limit}
 use Rattle.gx_core.specs.Gates.{GateData}
 use Rattle.gx_core.specs.Told.{login_of}
 use Rattle.gx_core.specs.Matches.{next_match, settled_gate}
+use Rattle.gx_core.specs.Steps.{has_its_places}
 use Rattle.gx_script.specs.declared.line.ScriptStep.{ScriptStep}
 use Rattle.gx_script.specs.declared.line.ScriptStep.TheVariants.{Login, Logout, Enter, Replace, Cancel, Command, Raw}
 use Rattle.gx_script.specs.declared.line.ScriptLine.{ScriptLine}
@@ -42,10 +43,14 @@ pub record Printed : Type 0 where
 abbrev pub is_full : GateData → Bool
 is_full gate = nat_le day_limit (length gate.records)
 
--- a step's record, and its line; a full day refuses the step
+-- the step is refused: the day is full, and this is no granted Kill or Logout
+abbrev pub refuses : GateData → Asked → Bool
+refuses gate asked = is_full gate && not (has_its_places gate asked)
+
+-- a step's record, and its line; a full day refuses the step, unless it is a granted Kill or Logout
 unfoldable pub step_of : GateData → Asked → Printed
 step_of gate asked =
-    if is_full gate then record { gate = gate; text = refused_line }
+    if refuses gate asked then record { gate = gate; text = refused_line }
     else record { gate = stepped gate asked; text = outcome_line (length gate.records + 1) (verdict gate.policy gate.records asked) }
 
 -- the records' lines

@@ -24,7 +24,7 @@ use Rattle.gx_devices.specs.Devices.{IsFront}
 use Rattle.gx_session.specs.Events.{asks_step, is_over}
 use Rattle.gx_session.specs.Happenings.{Happening}
 use Rattle.gx_session.specs.Happenings as happens
-use Rattle.gx_session.specs.Piping.{who, IsTaken, IsUndone, IsGivenUp, IsPullGivenUp, IsOfSending, IsOfStep, IsOfMatching, IfFullIsClosed, IsMatchedInPart, IsAt, matched_of, IsMade, IsWithin, IsLeaving, StopsAt, IsCutShort, Follows, Broken, IsFault, LoggedOut, IsAfterFault}
+use Rattle.gx_session.specs.Piping.{after_logout, is_never_refused, logout_of, step_of, IsTaken, IsUndone, IsGivenUp, IsPullGivenUp, IsOfSending, IsOfStep, IsOfMatching, IfFullIsClosed, IsMatchedInPart, IsAt, matched_of, IsMade, IsWithin, IsLeaving, StopsAt, IsCutShort, Follows, Broken, IsFault, LoggedOut, IsAfterFault}
 use Rattle.gx_core.specs.Asking.{asked_by, stepped}
 use Rattle.gx_session.specs.Table.{SessionData, row_in, turn}
 use Rattle.gx_session.specs.Transcript.{Run, with_text, silent, and_then, acted, is_on, on_event, ticked, answered, matched, pulled, handled, on_packet, opened, run_of, finished}
@@ -189,9 +189,9 @@ module _ (gate : GateData) (c : Connection) (packet : ClientPacket) (going : is_
   undone fault now state output left others u =
       record { packets = []; more = packet ∷ others; split = refl; text = []; written = u.written; stop = stops fault u.cause }
     where
-      stops : (e : PipeFault) → IsOfStep e → StopsAt e (silent gate c) (packet ∷ others) [] (IsAt now state)
-      stops OutOfMemory k = inl (refl, (u.gate_is, u.user))
-      stops DayFull k = inl (refl, (u.gate_is, u.user))
+      stops : (e : PipeFault) → IsOfStep e gate → StopsAt e (silent gate c) (packet ∷ others) [] (IsAt now state)
+      stops OutOfMemory k = inl (refl, (u.gate_is, u.logout))
+      stops DayFull k = inl (refl, (u.gate_is, u.logout))
       stops WriteFailed k = absurd k
       stops ReadFailed k = absurd k
       stops Endless k = absurd k
@@ -218,7 +218,7 @@ module _ (gate : GateData) (c : Connection) (packet : ClientPacket) (going : is_
   answer_cut fault now state output left (inr u) others =
       within fault now state output left others (of_sending fault u.cause)
       (subst (IsFront output left) (whole_text _ refl) (front_longer row.text reports.text output left u.text))
-      (inl (u.cause, (u.gate, u.user)))
+      (inl (u.cause, (u.gate, u.logout)))
 
   -- the packet was answered, and a matching step refused
   pub match_cut : (fault : PipeFault) (then now : GateData) (on : Connection) (output left : Option (List ℕ)) → IsTaken row then on output left → IsMatchedInPart then on c.coming fault now → (others : List ClientPacket) → IsCutShort (silent gate c) (packet ∷ others) output left fault (IsAt now on)
@@ -226,7 +226,7 @@ module _ (gate : GateData) (c : Connection) (packet : ClientPacket) (going : is_
       let here : IsMatchedInPart row.gate row.connection c.coming fault now = subst (λ k. IsMatchedInPart row.gate k c.coming fault now) t.connection (subst (λ g. IsMatchedInPart g on c.coming fault now) t.gate part) in
       within fault now on output left others (of_matching now fault part.cause)
       (record { front = row.text; rest = reports.text; written = t.text; whole = sym (whole_text _ refl) })
-      (inr (inl (record { now = now; in_part = here; is_at = (refl, ap who t.connection); answer = refl })))
+      (inr (inl (record { now = now; in_part = here; is_at = (refl, ap logout_of t.connection); answer = refl })))
 
   -- the packet was answered, and its matching steps made
   module _ (met then : GateData) (on : Connection) (output mid : Option (List ℕ)) (t : IsTaken row met on output mid) (settled : then ≡ (matched met on c.coming).gate) where
@@ -252,13 +252,13 @@ module _ (gate : GateData) (c : Connection) (packet : ClientPacket) (going : is_
         within fault now state output left others (of_pulling then fault u.cause) (front_is left u.text)
         (inr (inr (inl (
           subst (IfFullIsClosed fault) (gate_is ∙ sym (ap (λ (r : Run). r.gate) matched_is)) u.cause,
-          (u.gate_is ∙ (gate_is ∙ sym (ap (λ (r : Run). r.gate) matched_is)), u.user ∙ (ap who t.connection ∙ sym (ap (λ (r : Run). who r.connection) matched_is))),
+          (u.gate_is ∙ (gate_is ∙ sym (ap (λ (r : Run). r.gate) matched_is)), u.logout ∙ (ap logout_of t.connection ∙ sym (ap (λ (r : Run). logout_of r.connection) matched_is))),
         ))))
     pull_cut fault now state left (inr u) others =
         within fault now state output left others (of_sending fault u.cause) (front_is left u.text)
         (inr (inr (inr (
           u.cause,
-          (u.gate ∙ sym (ap (λ (r : Run). r.gate) pulled_is), u.user ∙ sym (ap (λ (r : Run). who r.connection) pulled_is)),
+          (u.gate ∙ sym (ap (λ (r : Run). r.gate) pulled_is), u.logout ∙ sym (ap (λ (r : Run). logout_of r.connection) pulled_is)),
         ))))
 
 -- the packet at this place was cut short
@@ -282,7 +282,7 @@ broken_by gate connection feeder feeder' piece given told output left fault now 
 
 pub fault_stands : (input left left' output written : Option (List ℕ)) (before : GateData) (first : ℕ) (gate : GateData) (connection : Connection) (feeder : Held) (fault : PipeFault) (now : GateData) (state : Connection) → Stands input left output written before first gate connection feeder → Keeps left left' → now ≡ gate → state ≡ connection → IsFault input left' output written before first fault (IsAt now state)
 fault_stands input left left' output written before first gate connection feeder fault now state s kept h e =
-    whole_fault (IsAt now state) input left left' output written before first gate connection feeder fault s kept (h, ap who e)
+    whole_fault (IsAt now state) input left left' output written before first gate connection feeder fault s kept (h, ap logout_of e)
 
 pub fault_broken : (input left left' output written written' : Option (List ℕ)) (before : GateData) (first : ℕ) (gate : GateData) (connection : Connection) (feeder : Held) (piece : List ℕ) (fault : PipeFault) (now : GateData) (state : Connection) → (s : Stands input left output written before first gate connection feeder) → Consumes left left' piece → length piece ≤ 4096 → Broken gate connection s.bytes piece written written' fault (IsAt now state) → IsFault input left' output written' before first fault (IsAt now state)
 fault_broken input left left' output written written' before first gate connection feeder piece fault now state s took small b =
@@ -311,15 +311,16 @@ unfolding finished on_event turn
 leaves_as_at_the_end gate c e next moment k m n =
     ap (acted gate c.user moment) (n ∙ row_leaves c.session.phase e _ _ k) ∙ ap (λ h. (on_event gate c happens.End h).gate) m
 
+-- a user who is on is logged out, and nobody else
 abbrev AsksAtTheEnd : Phase → Next → Type 0
-AsksAtTheEnd p next = ((next ≡ nexts.Logout) × (is_on p ≡ true)) ⊎ (asks_step next ≡ false)
+AsksAtTheEnd p next = ((next ≡ nexts.Logout) × (is_on p ≡ true)) ⊎ ((asks_step next ≡ false) × (is_on p ≡ false))
 
 row_asks : (p : Phase) (silent quiet : Bool) → AsksAtTheEnd p (row_in p happens.End silent quiet).reply.next
-row_asks Fresh silent quiet = inr refl
-row_asks Waiting silent quiet = inr refl
+row_asks Fresh silent quiet = inr (refl, refl)
+row_asks Waiting silent quiet = inr (refl, refl)
 row_asks On silent quiet = inl (refl, refl)
-row_asks Abandoned silent quiet = inr refl
-row_asks Done silent quiet = inr refl
+row_asks Abandoned silent quiet = inr (refl, refl)
+row_asks Done silent quiet = inr (refl, refl)
 
 end_asks : (session : SessionData) (moment : ℕ) → AsksAtTheEnd session.phase (turn session happens.End moment).reply.next
 unfolding turn
@@ -332,24 +333,49 @@ acted_still gate user moment (nexts.Act request) h = cc
 acted_still gate user moment nexts.Logout h = cc
 acted_still gate user moment nexts.Close h = refl
 
-logged : (now after : GateData) (state : Connection) (next : Next) → after ≡ acted now state.user state.session.heard next → AsksAtTheEnd state.session.phase next → (gate : GateData) (connection : Connection) → IsAt now state gate connection → LoggedOut after gate connection
-logged now after state next e (inl asks) gate connection at =
-    inr (
-      state.user,
-      state.session.heard,
-      sym at.1 ∙ ap (λ b. cond b (Some state.user) None) asks.1,
-      e ∙ (ap (acted now state.user state.session.heard) asks.0 ∙ ap (λ g. stepped g (asked_by state.user requests.Logout state.session.heard)) at.0),
-    )
-logged now after state next e (inr asks) gate connection at =
-    inl (e ∙ (acted_still now state.user state.session.heard next asks ∙ at.0))
+logout_when_on : (c : Connection) → is_on c.session.phase ≡ true → logout_of c ≡ Some (asked_by c.user requests.Logout c.session.heard)
+logout_when_on c on = ap (λ b. cond b (Some (asked_by c.user requests.Logout c.session.heard)) None) on
+
+no_logout : (c : Connection) → is_on c.session.phase ≡ false → logout_of c ≡ None
+no_logout c off = ap (λ b. cond b (Some (asked_by c.user requests.Logout c.session.heard)) None) off
+
+-- what the session asks for at the end is that logout
+acted_at_the_end : (now : GateData) (c : Connection) (next : Next) → AsksAtTheEnd c.session.phase next → acted now c.user c.session.heard next ≡ after_logout now (logout_of c)
+acted_at_the_end now c next (inl asks) = ap (acted now c.user c.session.heard) asks.0 ∙ ap (after_logout now) (sym (logout_when_on c asks.1))
+acted_at_the_end now c next (inr asks) = acted_still now c.user c.session.heard next asks.0 ∙ ap (after_logout now) (sym (no_logout c asks.1))
+
+refused_at_the_end : (gate : GateData) (c : Connection) (next : Next) → AsksAtTheEnd c.session.phase next → is_never_refused gate (step_of c.user c.session.heard next) ≡ false
+    → is_never_refused gate (logout_of c) ≡ false
+refused_at_the_end gate c next (inl asks) not =
+    ap (is_never_refused gate) (logout_when_on c asks.1) ∙ ap (λ n. is_never_refused gate (step_of c.user c.session.heard n)) (sym asks.0) ∙ not
+refused_at_the_end gate c next (inr asks) not = ap (is_never_refused gate) (no_logout c asks.1)
+
+-- of a logout that was refused
+pub refused_as_at_the_end : (gate : GateData) (c : Connection) (e : Happening) (next : Next) (moment : ℕ) → IsLeaving e → moment ≡ c.session.heard → next ≡ (turn c.session e moment).reply.next
+    → is_never_refused gate (step_of c.user moment next) ≡ false → is_never_refused gate (logout_of c) ≡ false
+unfolding turn
+refused_as_at_the_end gate c e next moment k m n not =
+    refused_at_the_end gate c (turn c.session happens.End moment).reply.next (end_asks c.session moment)
+    (ap (λ h. is_never_refused gate (step_of c.user h (turn c.session happens.End moment).reply.next)) (sym m)
+    ∙ ap (λ x. is_never_refused gate (step_of c.user moment x)) (sym (n ∙ row_leaves c.session.phase e _ _ k))
+    ∙ not)
 
 finished_at : (now after : GateData) (state : Connection) → after ≡ (finished (silent now state)).gate → (gate : GateData) (connection : Connection) → IsAt now state gate connection → LoggedOut after gate connection
 unfolding finished on_event
 finished_at now after state e gate connection at =
-    logged now after state _ e (end_asks state.session state.session.heard) gate connection at
+    inl (
+    e
+    ∙ acted_at_the_end now state (turn state.session happens.End state.session.heard).reply.next (end_asks state.session state.session.heard)
+    ∙ ap (after_logout now) at.1
+    ∙ ap (λ g. after_logout g (logout_of connection)) at.0
+    )
 
-pub after_either : {T E : Type 0} (input left output written : Option (List ℕ)) (before : GateData) (first : ℕ) (now after : GateData) (state state' : Connection) (fault : PipeFault) (r : Result T E) → IsFault input left output written before first fault (IsAt now state) → OnOk r (after ≡ (finished (silent now state)).gate) → OnErr r ((after ≡ now) × (state' ≡ state)) → IsAfterFault input left output written before first after fault
-after_either input left output written before first now after state state' fault (Ok x) f ok err =
+refused_at : (now after : GateData) (state : Connection) → after ≡ now → is_never_refused now (logout_of state) ≡ false → (gate : GateData) (connection : Connection) → IsAt now state gate connection → LoggedOut after gate connection
+refused_at now after state e not gate connection at =
+    inr (e ∙ at.0, ap (λ g. is_never_refused g (logout_of connection)) (sym at.0) ∙ ap (is_never_refused now) (sym at.1) ∙ not)
+
+pub after_either : {T E : Type 0} (input left output written : Option (List ℕ)) (before : GateData) (first : ℕ) (now after : GateData) (state state' : Connection) (fault : PipeFault) (r : Result T E) → IsFault input left output written before first fault (IsAt now state) → OnOk r (after ≡ (finished (silent now state)).gate) → OnErr r ((after ≡ now) × (state' ≡ state)) → OnErr r (is_never_refused now (logout_of state) ≡ false) → IsAfterFault input left output written before first after fault
+after_either input left output written before first now after state state' fault (Ok x) f ok err not =
     fault_leads (IsAt now state) (LoggedOut after) (finished_at now after state ok) input left output written before first fault f
-after_either input left output written before first now after state state' fault (Err x) f ok err =
-    fault_leads (IsAt now state) (LoggedOut after) (λ gate connection at. inl (err.0 ∙ at.0)) input left output written before first fault f
+after_either input left output written before first now after state state' fault (Err x) f ok err not =
+    fault_leads (IsAt now state) (LoggedOut after) (refused_at now after state err.0 not) input left output written before first fault f

@@ -1,5 +1,13 @@
 -- What a step, matching steps and a pull make of a gate.
-use Rattle.std.proofs.Common.{◌≡◌, ℕ, ◌<◌, false, is_some, List, [], ◌∷◌, ◌++◌, length, take, Option, None, Some, option_map, refl, sym, ap, ◌∙◌, arith, length-take}
+use Rattle.std.specs.Prelude.{is_ok}
+use Rattle.std.proofs.lemmas.Bool.{cases_lt}
+use Rattle.gx_history.specs.Verdicts.{day_limit}
+use Rattle.gx_core.specs.Steps.{IsFull}
+use Rattle.gx_core.specs.declared.outcome.StepFault.{StepFault}
+use Rattle.gx_core.specs.declared.outcome.StepFault.TheVariants as refusals
+use Rattle.gx_session.specs.Faults.{fault_of_step, HasRoom, IsToldFull}
+use Rattle.gx_session.specs.Piping.{IsOfMatching, IsOfStep}
+use Rattle.std.proofs.Common.{◌≡◌, ℕ, ◌<◌, ◌≤◌, ◌⊎◌, inl, inr, subst, Bool, true, false, Result, Ok, Err, is_some, List, [], ◌∷◌, ◌++◌, length, take, Option, None, Some, option_map, refl, sym, ap, ◌∙◌, arith, length-take}
 use Rattle.std.specs.Option.{option_map_or}
 use Rattle.std.proofs.lemmas.List.{take_all}
 use Rattle.gx_units.specs.Spelling.{folded_user}
@@ -42,3 +50,44 @@ pub settled_here : (before now after : GateData) (moment : ℕ) (found : Option 
 settled_here before now after moment None none s left e =
     e ∙ (sym (ap (λ (rs : List RecordData). record { policy = now.policy; records = rs }) (settled_idle now.policy now.records moment left)) ∙ s.goes_on)
 settled_here before now after moment (Some o) none s left e = cc
+
+-- a step that is never refused was not
+pub was_refusable : {T E : Type 0} (sure : Bool) (r : Result T E) (e : E) → (sure ≡ true → is_ok r ≡ true) → r ≡ Err e → sure ≡ false
+was_refusable true r e never refused = let clash : false ≡ true = sym (ap is_ok refused) ∙ never refl in cc
+was_refusable false r e never refused = refl
+
+-- want of memory is told only where the day has room, and a full day only where it has none
+pub told_full : {T : Type 0} (gate after : GateData) (sure : Bool) (r : Result T StepFault) (e : StepFault) → after ≡ gate → (sure ≡ true → is_ok r ≡ true)
+    → (day_limit ≤ length gate.records → sure ≡ false → r ≡ Err refusals.DayFull) → (e ≡ refusals.DayFull → day_limit ≤ length gate.records) → r ≡ Err e → IsToldFull after e
+told_full gate after sure r refusals.DayFull same never full day is = subst (λ (g : GateData). day_limit ≤ length g.records) (sym same) (day refl)
+told_full gate after sure r refusals.OutOfMemory same never full day is = subst HasRoom (sym same) (by (cases_lt (length gate.records) day_limit))
+  where
+    not_both : day_limit ≤ length gate.records → (b : Bool) → sure ≡ b → ⊥
+    not_both h true is_sure = let clash : false ≡ true = sym (ap is_ok is) ∙ never is_sure in cc
+    not_both h false unsure = let clash : Err refusals.DayFull ≡ Err refusals.OutOfMemory = sym (full h unsure) ∙ is in cc
+
+    by : (length gate.records < day_limit) ⊎ (day_limit ≤ length gate.records) → HasRoom gate
+    by (inl h) = h
+    by (inr h) = absurd (not_both h sure refl)
+
+pub match_told_full : {T F : Type 0} (gate after : GateData) (found : Option F) (none : T) (r : Result T StepFault) (e : StepFault) → after ≡ gate → (found ≡ None → r ≡ Ok none)
+    → (is_some found ≡ true → day_limit ≤ length gate.records → r ≡ Err refusals.DayFull) → (e ≡ refusals.DayFull → day_limit ≤ length gate.records) → r ≡ Err e → IsToldFull after e
+match_told_full gate after found none r refusals.DayFull same idle full day is = subst (λ (g : GateData). day_limit ≤ length g.records) (sym same) (day refl)
+match_told_full {T} {F} gate after found none r refusals.OutOfMemory same idle full day is = subst HasRoom (sym same) (by (cases_lt (length gate.records) day_limit))
+  where
+    not_both : day_limit ≤ length gate.records → (x : Option F) → found ≡ x → ⊥
+    not_both h None idles = let clash : Err refusals.OutOfMemory ≡ Ok none = sym is ∙ idle idles in cc
+    not_both h (Some x) waits = let clash : Err refusals.DayFull ≡ Err refusals.OutOfMemory = sym (full (ap is_some waits) h) ∙ is in cc
+
+    by : (length gate.records < day_limit) ⊎ (day_limit ≤ length gate.records) → HasRoom gate
+    by (inl h) = h
+    by (inr h) = absurd (not_both h found refl)
+
+-- as a connection tells it
+pub of_step : (gate after : GateData) (e : StepFault) → after ≡ gate → IsToldFull after e → IsOfStep (fault_of_step e) gate
+of_step gate after refusals.OutOfMemory same h = subst HasRoom same h
+of_step gate after refusals.DayFull same h = subst IsFull same h
+
+pub of_matching : (gate : GateData) (e : StepFault) → IsToldFull gate e → IsOfMatching (fault_of_step e) gate
+of_matching gate refusals.OutOfMemory h = h
+of_matching gate refusals.DayFull h = h

@@ -8,6 +8,7 @@ use Rattle.gx_units.specs.declared.names.UserName.{UserName}
 use Rattle.gx_soup.specs.declared.packet.LoginRequest.{LoginRequest}
 use Rattle.gx_soup.specs.declared.packet.ClientPacket.{ClientPacket}
 use Rattle.gx_soup.specs.declared.packet.ClientPacket.TheVariants as client
+use Rattle.gx_history.specs.declared.record.Request.TheVariants as requests
 use Rattle.gx_history.specs.declared.report.Report.{Report}
 use Rattle.gx_history.specs.InForce.{is_closed}
 use Rattle.gx_history.specs.Lists.{slice}
@@ -31,8 +32,8 @@ use Rattle.gx_session.specs.Faults.{fault_of_send}
 use Rattle.gx_session.specs.Events.{asks_step}
 use Rattle.gx_session.specs.Happenings.{Happening}
 use Rattle.gx_session.specs.Happenings as happens
-use Rattle.gx_session.specs.Piping.{who, IsTaken, IsUnsent, IsGivenUp, IsTurnGivenUp, IsPullGivenUp, GivesAll, IfFullIsClosed, IsOfStep}
-use Rattle.gx_core.specs.Asking.{stepped}
+use Rattle.gx_session.specs.Piping.{logout_of, IsTaken, IsUnsent, IsGivenUp, IsTurnGivenUp, IsPullGivenUp, GivesAll, IfFullIsClosed, IsOfStep}
+use Rattle.gx_core.specs.Asking.{asked_by, stepped}
 use Rattle.gx_session.specs.Steps.{login_asked_at, login_told}
 use Rattle.gx_session.specs.Table.{SessionData, row_in, turn}
 use Rattle.gx_session.specs.Transcript.{Run, with_text, silent, control_text, acted, on_event, first_told, logged_in, login_in, with_login, answered, reports_text, sent, unsent, is_on, pulled}
@@ -172,12 +173,14 @@ module _ (gate : GateData) (c : Connection) (packet : ClientPacket) (moment : �
   unfolding on_event
   nothing_sent = subst (λ s. Appends output mid (control_text s)) (packet_is_silent c.session packet moment) told.text
 
-  before_is_out : who c ≡ None
-  before_is_out = ap (λ b. cond b (Some c.user) None) (login_waits c.session packet moment asks).fresh
+  before_is_out : logout_of c ≡ None
+  before_is_out = ap (λ b. cond b (Some (asked_by c.user requests.Logout c.session.heard)) None) (login_waits c.session packet moment asks).fresh
 
-  after_is_out : who state ≡ None
+  after_is_out : logout_of state ≡ None
   unfolding on_event
-  after_is_out = ap who told.connection ∙ ap (λ p. cond (is_on p) (Some c.user) None) (login_waits c.session packet moment asks).waiting
+  after_is_out =
+      ap logout_of told.connection
+      ∙ ap (λ p. cond (is_on p) (Some (asked_by c.user requests.Logout (turn c.session (happens.Packet packet) moment).session.heard)) None) (login_waits c.session packet moment asks).waiting
 
   answered_is : answered gate c packet moment ≡ logged_in now state login moment
   unfolding answered on_event
@@ -190,9 +193,9 @@ module _ (gate : GateData) (c : Connection) (packet : ClientPacket) (moment : �
 
   pub login_cut : (fault : PipeFault) (then : GateData) (after : Connection) (left : Option (List ℕ)) → IsGivenUp now state (logged_in now state login moment) fault then after mid left → IsGivenUp gate c (answered gate c packet moment) fault then after output left
   login_cut fault then after left (inl u) =
-      inl (record { gate_is = u.gate_is ∙ same_gate; user = u.user ∙ (after_is_out ∙ sym before_is_out); cause = u.cause; written = Appends-trans output mid left [] [] nothing_sent u.written })
+      inl (record { gate_is = u.gate_is ∙ same_gate; logout = u.logout ∙ (after_is_out ∙ sym before_is_out); cause = subst (IsOfStep fault) same_gate u.cause; written = Appends-trans output mid left [] [] nothing_sent u.written })
   login_cut fault then after left (inr u) =
-      inr (subst (λ r. IsUnsent r fault then after output left) (sym answered_is) (record { gate = u.gate; user = u.user; cause = u.cause; text = front_behind [] (logged_in now state login moment).text output mid left nothing_sent u.text }))
+      inr (subst (λ r. IsUnsent r fault then after output left) (sym answered_is) (record { gate = u.gate; logout = u.logout; cause = u.cause; text = front_behind [] (logged_in now state login moment).text output mid left nothing_sent u.text }))
 
 -- A pull.
 
@@ -240,7 +243,7 @@ module _ (gate : GateData) (c : Connection) (moment : ℕ) (reports : List Repor
 
   pub pull_unsent : (fault : SendFault) (output left : Option (List ℕ)) → IsFront output left (reports_text reports) → IsPullGivenUp gate c moment (fault_of_send fault) gate c output left
   pull_unsent fault output left f =
-      inl (record { gate_is = refl; user = refl; cause = sends fault; text = subst (IsFront output left) (sym text_is) (front_longer (reports_text reports) turned.text output left f) })
+      inl (record { gate_is = refl; logout = refl; cause = sends fault; text = subst (IsFront output left) (sym text_is) (front_longer (reports_text reports) turned.text output left f) })
     where
       sends : (e : SendFault) → IfFullIsClosed (fault_of_send e) gate
       sends send_faults.OutOfMemory = tt
@@ -255,16 +258,16 @@ module _ (gate : GateData) (c : Connection) (moment : ℕ) (reports : List Repor
       let closed : is_closed gate.records ≡ true = sym all.ended_is ∙ pull_asks_at_the_end c.session count ended moment h.0 in
       inl (record {
         gate_is = h.1.gate_is;
-        user = h.1.user;
+        logout = h.1.logout;
         cause = if_closed fault h.1.cause closed;
         text = subst (IsFront output left) (sym text_is) (front_whole (reports_text reports) turned.text output left (subst (Appends output left) (append-nil (reports_text reports)) (Appends-trans output mid left (reports_text reports) [] w h.1.written)));
       })
     where
-      if_closed : (e : PipeFault) → IsOfStep e → is_closed gate.records ≡ true → IfFullIsClosed e gate
+      if_closed : (e : PipeFault) → IsOfStep e gate → is_closed gate.records ≡ true → IfFullIsClosed e gate
       if_closed faults.OutOfMemory f k = tt
       if_closed faults.WriteFailed f k = absurd f
       if_closed faults.ReadFailed f k = absurd f
       if_closed faults.DayFull f k = k
       if_closed faults.Endless f k = absurd f
   pull_unturned fault now state output mid left w (inr h) =
-      inr (subst (λ r. IsUnsent r fault now state output left) (sym pulled_is) (record { gate = h.1.gate; user = h.1.user; cause = h.1.cause; text = front_behind (reports_text reports) turned.text output mid left w h.1.text }))
+      inr (subst (λ r. IsUnsent r fault now state output left) (sym pulled_is) (record { gate = h.1.gate; logout = h.1.logout; cause = h.1.cause; text = front_behind (reports_text reports) turned.text output mid left w h.1.text }))

@@ -10,9 +10,13 @@ use Rattle.gx_session.specs.declared.fault.PipeFault.TheVariants as faults
 use Rattle.gx_session.specs.declared.fault.SendFault.{SendFault}
 use Rattle.gx_session.specs.declared.fault.SendFault.TheVariants as send_faults
 
--- a step is refused for a full day only where the gate holds as many records as a day may have
+-- the gate holds fewer records than a day may have
+abbrev pub HasRoom : GateData → Type 0
+HasRoom gate = length gate.records < day_limit
+
+-- a step is refused for a full day exactly where the gate holds as many records as a day may have
 abbrev pub IsToldFull : GateData → StepFault → Type 0
-IsToldFull gate refusals.OutOfMemory = Unit {0}
+IsToldFull gate refusals.OutOfMemory = HasRoom gate
 IsToldFull gate refusals.DayFull = day_limit ≤ length gate.records
 
 -- what is told of a fault

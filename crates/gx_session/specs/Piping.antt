@@ -1,5 +1,6 @@
 -- What a connection did to a reader, a writer and a gate.
-use Rattle.std.specs.Prelude.{◌≡◌, ℕ, ◌+◌, ◌≤◌, max, Bool, true, ◌⊎◌, if◌then◌else◌, IsTrue, IsFalse, is_some, List, [], ◌∷◌, ◌++◌, fold, length, Option, Some, None}
+use Rattle.std.specs.Option.{option_map_or}
+use Rattle.std.specs.Prelude.{◌≡◌, ℕ, ◌+◌, ◌≤◌, max, Bool, true, false, ◌⊎◌, if◌then◌else◌, IsTrue, IsFalse, is_some, List, [], ◌∷◌, ◌++◌, fold, length, Option, Some, None}
 use Rattle.std.specs.Io.KnownBytes.{Consumes, Appends, IsAtEnd}
 use Rattle.gx_units.specs.declared.names.UserName.{UserName}
 use Rattle.gx_soup.specs.declared.packet.ClientPacket.{ClientPacket}
@@ -7,14 +8,18 @@ use Rattle.gx_soup.specs.Packets.{packets_of}
 use Rattle.gx_soup.specs.Feeding.{Held, HasRead}
 use Rattle.gx_history.specs.InForce.{is_closed}
 use Rattle.gx_history.specs.declared.report.Report.{Report}
+use Rattle.gx_history.specs.declared.record.Asked.{Asked}
 use Rattle.gx_history.specs.declared.record.Request.TheVariants as requests
 use Rattle.gx_core.specs.Gates.{GateData}
 use Rattle.gx_core.specs.Matches.{matching_of, IsSettling}
-use Rattle.gx_core.specs.Steps.{IsFull}
+use Rattle.gx_core.specs.Steps.{IsFull, has_its_places}
 use Rattle.gx_session.specs.declared.connection.Connection.{Connection}
+use Rattle.gx_session.specs.declared.event.Next.{Next}
+use Rattle.gx_session.specs.declared.event.Next.TheVariants as nexts
 use Rattle.gx_session.specs.declared.fault.PipeFault.{PipeFault}
 use Rattle.gx_session.specs.declared.fault.PipeFault.TheVariants as faults
 use Rattle.gx_devices.specs.Devices.{IsFront}
+use Rattle.gx_session.specs.Faults.{HasRoom}
 use Rattle.gx_session.specs.Events.{asks_step, is_over}
 use Rattle.gx_session.specs.Happenings.{Happening}
 use Rattle.gx_session.specs.Happenings as happens
@@ -22,9 +27,22 @@ use Rattle.gx_core.specs.Asking.{asked_by, stepped}
 use Rattle.gx_session.specs.Table.{turn}
 use Rattle.gx_session.specs.Transcript.{Run, silent, and_then, unsent, is_on, ticked, on_event, answered, matched, pulled, handled, on_packet, opened, run_of, pipe, is_ended}
 
--- the user who is logged in
-abbrev pub who : Connection → Option UserName
-who connection = if is_on connection.session.phase then Some connection.user else None
+-- the logout of the user who is logged in, at the moment of the last packet heard
+abbrev pub logout_of : Connection → Option Asked
+logout_of connection =
+    if is_on connection.session.phase then Some (asked_by connection.user requests.Logout connection.session.heard) else None
+
+-- the step that the session asks for, if it asks for one
+abbrev pub step_of : UserName → ℕ → Next → Option Asked
+step_of user moment (nexts.Act request) = Some (asked_by user request moment)
+step_of user moment nexts.Logout = Some (asked_by user requests.Logout moment)
+step_of user moment nexts.Idle = None
+step_of user moment nexts.Login = None
+step_of user moment nexts.Close = None
+
+-- a granted Kill or Logout, which no gate refuses
+abbrev pub is_never_refused : GateData → Option Asked → Bool
+is_never_refused gate found = option_map_or (has_its_places gate) found false
 
 -- a fault of sending: a growth was refused, or the writer failed
 abbrev pub IsOfSending : PipeFault → Type 0
@@ -34,13 +52,13 @@ IsOfSending faults.ReadFailed = ⊥
 IsOfSending faults.DayFull = ⊥
 IsOfSending faults.Endless = ⊥
 
--- a fault of a step: a growth was refused, or the day is full
-abbrev pub IsOfStep : PipeFault → Type 0
-IsOfStep faults.OutOfMemory = Unit {0}
-IsOfStep faults.DayFull = Unit {0}
-IsOfStep faults.ReadFailed = ⊥
-IsOfStep faults.WriteFailed = ⊥
-IsOfStep faults.Endless = ⊥
+-- a fault of a step: the day is full, or it is not and a growth was refused
+abbrev pub IsOfStep : PipeFault → GateData → Type 0
+IsOfStep faults.OutOfMemory gate = HasRoom gate
+IsOfStep faults.DayFull gate = IsFull gate
+IsOfStep faults.ReadFailed gate = ⊥
+IsOfStep faults.WriteFailed gate = ⊥
+IsOfStep faults.Endless gate = ⊥
 
 -- the run was made, and its text written
 pub record IsTaken (run : Run) (now : GateData) (state : Connection) (output left : Option (List ℕ)) : Type 0 where
@@ -51,14 +69,14 @@ pub record IsTaken (run : Run) (now : GateData) (state : Connection) (output lef
 -- no step was made, and nothing written
 pub record IsUndone (gate : GateData) (connection : Connection) (fault : PipeFault) (now : GateData) (state : Connection) (output left : Option (List ℕ)) : Type 0 where
   pub gate_is : now ≡ gate
-  pub user : who state ≡ who connection
-  pub cause : IsOfStep fault
+  pub logout : logout_of state ≡ logout_of connection
+  pub cause : IsOfStep fault gate
   pub written : Appends output left []
 
 -- the run's steps were made, and a front of its text written
 pub record IsUnsent (run : Run) (fault : PipeFault) (now : GateData) (state : Connection) (output left : Option (List ℕ)) : Type 0 where
   pub gate : now ≡ run.gate
-  pub user : who state ≡ who run.connection
+  pub logout : logout_of state ≡ logout_of run.connection
   pub cause : IsOfSending fault
   pub text : IsFront output left run.text
 
@@ -84,7 +102,7 @@ IfFullIsClosed faults.Endless gate = ⊥
 -- no step was made, and a front of the text written
 pub record IsPartlySent (gate : GateData) (connection : Connection) (run : Run) (fault : PipeFault) (now : GateData) (state : Connection) (output left : Option (List ℕ)) : Type 0 where
   pub gate_is : now ≡ gate
-  pub user : who state ≡ who connection
+  pub logout : logout_of state ≡ logout_of connection
   pub cause : IfFullIsClosed fault gate
   pub text : IsFront output left run.text
 
@@ -94,9 +112,9 @@ IsPullGivenUp gate connection moment fault now state output left =
     IsPartlySent gate connection (pulled gate connection moment) fault now state output left
     ⊎ IsUnsent (pulled gate connection moment) fault now state output left
 
--- a fault of a matching step: a growth was refused, or the day is full
+-- a fault of a matching step: the day is full, or it is not and a growth was refused
 abbrev pub IsOfMatching : PipeFault → GateData → Type 0
-IsOfMatching faults.OutOfMemory gate = Unit {0}
+IsOfMatching faults.OutOfMemory gate = HasRoom gate
 IsOfMatching faults.WriteFailed gate = ⊥
 IsOfMatching faults.ReadFailed gate = ⊥
 IsOfMatching faults.DayFull gate = IsFull gate
@@ -125,9 +143,9 @@ IsLeaving happens.Tick = ⊥
 IsLeaving happens.Fault = Unit {0}
 IsLeaving happens.End = Unit {0}
 
--- this gate, and whether its user is logged in
+-- this gate, and who is to be logged out of it, and when
 abbrev pub IsAt : GateData → Connection → GateData → Connection → Type 0
-IsAt now state gate connection = (now ≡ gate) × (who state ≡ who connection)
+IsAt now state gate connection = (now ≡ gate) × (logout_of state ≡ logout_of connection)
 
 -- each packet that was taken is answered whole
 abbrev pub IsBetween : Run → List ℕ → (GateData → Connection → Type 0) → Type 0
@@ -232,12 +250,16 @@ pub record IsFault (input left output written : Option (List ℕ)) (before : Gat
   pub cut : IsCutShort (opened before first) (packets_of bytes).packets output written fault At
   pub prompt : IsPrompt bytes cut.packets
 
--- this gate, or, where a user is logged in, perhaps the gate after his logout
+-- the gate after this logout, if there is one
+abbrev pub after_logout : GateData → Option Asked → GateData
+after_logout gate found = option_map_or (stepped gate) found gate
+
+-- The gate after the logout of the user who is logged in; only a logout that is not granted may have been refused.
 abbrev pub LoggedOut : GateData → GateData → Connection → Type 0
 LoggedOut after gate connection =
-    (after ≡ gate) ⊎ ((user : UserName) × (moment : ℕ) × (who connection ≡ Some user) × (after ≡ stepped gate (asked_by user requests.Logout moment)))
+    (after ≡ after_logout gate (logout_of connection)) ⊎ ((after ≡ gate) × IsFalse (is_never_refused gate (logout_of connection)))
 
 -- After a fault: of the packets of the bytes read, the first were taken and answered whole, and of the next one perhaps
--- some steps and a front of its answer; the gate is that of these packets, perhaps with the user's logout.
+-- some steps and a front of its answer; the gate is that of these packets, with the user's logout.
 abbrev pub IsAfterFault : (input left output written : Option (List ℕ)) → GateData → ℕ → GateData → PipeFault → Type 0
 IsAfterFault input left output written before first after fault = IsFault input left output written before first fault (LoggedOut after)

@@ -20,6 +20,7 @@ fn login_request(gate: &Gate, login: &LoginRequest) -> Request
 }
 
 /// Makes the login's step, and says what it is told.
+#[tactic(auto, unfolding(crate::specs::Steps::login_told), using(gx_history_laws::proofs::Granting::verdict_of_next, crate::proofs::Stepping::told_full))]
 pub(crate) fn login_step(
     gate: &mut Gate,
     moment: u64,

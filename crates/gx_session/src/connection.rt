@@ -1,6 +1,6 @@
 //! A connection: what happens to its session, done to the gate and to the writer.
 
-ghost use Rattle.std.specs.Prelude.{◌≡◌, ◌-◌, ◌^◌, ◌<◌, ◌≤◌, List, ◌∷◌, length, is_some, IfOk, IfErr, OnOk, OnErr, IsTrue};
+ghost use Rattle.std.specs.Prelude.{◌≡◌, ◌-◌, ◌^◌, ◌<◌, ◌≤◌, List, ◌∷◌, length, is_some, IfOk, IfErr, OnOk, OnErr, IsFalse, IsTrue};
 ghost use Rattle.std.specs.Io.KnownBytes.{Appends};
 ghost use Rattle.gx_core.specs.Matches.{matching_of, settled_gate, IsSettling};
 ghost use Rattle.gx_soup.specs.declared.packet.ClientPacket.{ClientPacket};
@@ -10,7 +10,7 @@ ghost use Rattle.gx_session.specs.Faults.{IsToldFull, IsToldRightly, IsFinite, I
 ghost use Rattle.gx_session.specs.Faults.{fault_of_step};
 ghost use Rattle.gx_session.specs.Events.{CanAsk, asks_step, is_over};
 ghost use Rattle.gx_session.specs.Happenings.{happening};
-ghost use Rattle.gx_session.specs.Piping.{IsTaken, IsGivenUp};
+ghost use Rattle.gx_session.specs.Piping.{is_never_refused, logout_of, step_of, IsTaken, IsGivenUp};
 ghost use Rattle.gx_session.specs.Piping.{IsTurnGivenUp, IsPullGivenUp, IsAt};
 ghost use Rattle.gx_session.specs.Piping.{GivesAll, IsCutShort, IsLeaving, IsMatchedInPart};
 ghost use Rattle.gx_session.specs.Table.{turn};
@@ -44,11 +44,13 @@ pub struct Connection {
 }
 
 /// Makes the step that a session asks for.
+#[tactic(auto, using(crate::proofs::Stepping::told_full))]
 fn act(gate: &mut Gate, user: UserName, next: Next, moment: u64) -> Result<(), StepFault>
     requires { CanAsk next }
     ensures ok { OnOk result (gate.new ≡ acted gate.old user moment next) }
     ensures err { OnErr result (gate.new ≡ gate.old) }
     ensures step { OnErr result (IsTrue (asks_step next)) }
+    ensures sure { OnErr result (IsFalse (is_never_refused gate.old (step_of user moment next))) }
     ensures grows { length gate.old.records ≤ length gate.new.records }
     ensures full { IfErr result (IsToldFull gate.new) }
 {
@@ -89,6 +91,7 @@ fn send<W: Write>(alloc: Global, control: Control, writer: &mut Counted<W>) -> R
 /// Makes matching steps at this moment until no order waits.
 ///
 /// A refused step ends it. Those before it stand, and an order still waits.
+#[tactic(auto, using(crate::proofs::Stepping::match_told_full))]
 fn settle(gate: &mut Gate, moment: u64) -> Result<(), StepFault>
     ensures ok { OnOk result (gate.new ≡ settled_gate gate.old moment) }
     ensures err { OnErr result (IsSettling gate.old moment gate.new) }
@@ -117,7 +120,7 @@ impl Connection {
     /// Answers what it asked for.
     ///
     /// Where the step is refused, the session stands as before the event.
-    #[tactic(auto, unfolding(crate::specs::Transcript::on_event))]
+    #[tactic(auto, using(crate::proofs::Stepping::of_step), unfolding(crate::specs::Transcript::on_event))]
     fn turn<W: Write>(
         &mut self,
         alloc: Global,
@@ -150,7 +153,7 @@ impl Connection {
     }
 
     /// Makes a login's step, and tells the session of its answer.
-    #[tactic(auto, unfolding(crate::specs::Transcript::logged_in))]
+    #[tactic(auto, using(crate::proofs::Stepping::of_step), unfolding(crate::specs::Transcript::logged_in))]
     fn log_in<W: Write>(
         &mut self,
         alloc: Global,
@@ -207,7 +210,7 @@ impl Connection {
     }
 
     /// Makes the matching steps that follow a packet; none once the session is over.
-    #[tactic(auto, unfolding(crate::specs::Transcript::matched))]
+    #[tactic(auto, using(crate::proofs::Stepping::of_matching), unfolding(crate::specs::Transcript::matched))]
     fn match_orders(&self, gate: &mut Gate, moment: u64) -> Result<(), StepFault>
         ensures ok { OnOk result (gate.new ≡ (matched gate.old self.now moment).gate) }
         ensures err { IfErr result (λ refused. IsMatchedInPart
@@ -313,10 +316,13 @@ impl Connection {
     }
 
     /// Tells the session that its input has a fault or is at its end, and logs out a user who is on.
+    ///
+    /// A logout that the gate grants is not refused.
     pub(crate) fn leave(&mut self, gate: &mut Gate, event: Event<'_>) -> Result<(), StepFault>
         requires { IsLeaving (happening event) }
         ensures ok { OnOk result (gate.new ≡ (finished (silent gate.old self.old)).gate) }
         ensures err { OnErr result ((gate.new ≡ gate.old) × (self.new ≡ self.old)) }
+        ensures sure { OnErr result (IsFalse (is_never_refused gate.old (logout_of self.old))) }
         ensures grows { length gate.old.records ≤ length gate.new.records }
         ensures full { IfErr result (IsToldFull gate.new) }
     {

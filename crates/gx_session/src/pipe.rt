@@ -134,8 +134,8 @@ fn told<'a>(fault: PipeFault) -> Event<'a>
 /// is answered before the next is taken; then, unless the session is over, orders are matched at its moment
 /// until none waits, and the reports that are there are sent.
 ///
-/// A refused matching step ends the run as any refused step does. After a fault a user who is on is logged out,
-/// where memory allows.
+/// A refused matching step ends the run as any refused step does. After a fault a user who is on is logged
+/// out at the moment of the last packet, even where no memory is left.
 pub fn run_pipe<R: Read, W: Write>(
     alloc: Global,
     gate: &mut Gate,

@@ -35,4 +35,4 @@ returns-then-at-bytes c =
 pub returns : goal.returns
 returns c =
     all_legal c.args.gate.now.policy c.loop-at.gate.policy c.loop-at.gate.records c.args.bytes.now c.loop-at.at c.length.result c.loop-at.invariant.policy
-    c.is_legal.ensures.legal c.loop-at.invariant.shown c.loop-at.invariant.bytes (omega arith) c.length.ensures
+    c.is_legal.ensures.legal c.loop-at.invariant.shown c.loop-at.invariant.bytes (omega arith) c.length.ensures.count

@@ -1,5 +1,6 @@
 use Rattle.std.proofs.Common.{refl}
 use Rattle.gx_keepers.proofs.Carrying.{denial_goes_on, denied_place, denied_unused}
+use Rattle.gx_keepers.proofs.Rooms.{telling_keeps_room}
 use Rattle.gx_keepers.proofs.apply.apply_denial.Goals as goal
 
 pub mark_denied-requires : goal.mark_denied-requires
@@ -14,3 +15,7 @@ pub returns-clause-ok : goal.returns-clause-ok
 returns-clause-ok c =
     denial_goes_on c.args.next.policy.now c.args.next.history.now.records c.args.next.asked.now c.args.next.left.now c.args.rule c.args.keepers.now _ c.reports_of_denial-message.result
     c.requires.takes c.requires.denied c.reports_of_denial-message.ensures refl refl refl c.in_ok-mark_denied.ensures.ok refl refl c.tell.ensures
+
+pub returns-clause-room : goal.returns-clause-room
+returns-clause-room c =
+    telling_keeps_room c.args.keepers.now.streams c.tell.new.streams c.args.next.asked.now.user c.args.next.left.now.moment c.reports_of_denial-message.result c.tell.ensures

@@ -1,8 +1,9 @@
 use Rattle.std.proofs.Common.{◌≡◌, ◌<◌, true, false, refl, ◌∙◌, ap, sym, subst}
-use Rattle.std.specs.Prelude.{is_some}
+use Rattle.std.specs.Prelude.{Some, is_some}
 use Rattle.gx_orders.specs.declared.live_order.LiveOrder.{LiveOrder}
 use Rattle.gx_orders.specs.LiveOrders.{AreBelow, is_used}
 use Rattle.gx_keepers.proofs.Carrying.{account_is, can_enter, enter_goes_on, enter_place, enters_last, enters_unused, has_account}
+use Rattle.gx_keepers.proofs.Rooms.{telling_keeps_room}
 use Rattle.gx_keepers.proofs.apply.apply_enter.Goals as goal
 
 pub unreachable-requires : goal.unreachable-requires
@@ -40,3 +41,7 @@ returns-clause-ok c =
     c.order_of-order.ensures c.placed-handed.ensures c.accepted.ensures refl refl refl
     (λ i. record { live = c.in_ok-enter.ensures.live i; used = c.in_ok-enter.ensures.used i })
     refl c.accept.ensures.accepted c.tell.ensures
+
+pub returns-clause-room : goal.returns-clause-room
+returns-clause-room c =
+    telling_keeps_room c.args.keepers.now.streams c.tell.new.streams c.args.next.asked.now.user c.args.next.left.now.moment (Some c.accepted.result) c.tell.ensures

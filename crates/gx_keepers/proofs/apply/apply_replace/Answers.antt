@@ -1,10 +1,11 @@
 use Rattle.std.proofs.Common.{◌≡◌, ◌<◌, true, false, refl, ◌∙◌, ap, sym}
 use Rattle.std.proofs.Math.Path.{subst}
-use Rattle.std.specs.Prelude.{is_some}
+use Rattle.std.specs.Prelude.{Some, is_some}
 use Rattle.gx_orders.specs.declared.live_order.LiveOrder.{LiveOrder}
 use Rattle.gx_orders.specs.LiveOrders.{AreBelow, is_used, without}
 use Rattle.gx_ledger.proofs.Following.{ended_then_accepted}
 use Rattle.gx_keepers.proofs.Replacing.{old_has_less, old_is_there, replace_goes_on, replace_has_place, replaces_last, replaces_unused}
+use Rattle.gx_keepers.proofs.Rooms.{telling_keeps_room}
 use Rattle.gx_keepers.proofs.apply.apply_replace.Goals as goal
 
 pub unreachable-requires : goal.unreachable-requires
@@ -43,3 +44,7 @@ returns-clause-ok c =
     c.requires.takes c.requires.granted c.requires.replaces (sym c.under.ensures ∙ c.in-Some.is) c.replacement_of-new.ensures c.open_order-gone.ensures c.placed-handed.ensures c.replaced-message.ensures refl refl refl
     (λ i. record { live = (c.end.ensures.live ∙ ap (without c.in-Some.old.number) c.in_ok-enter.ensures.live) i; used = (c.end.ensures.used ∙ c.in_ok-enter.ensures.used) i }) c.remove.ensures.removed
     (ended_then_accepted c.open_order-gone.result c.placed-handed.result c.args.keepers.now.ledger c.close.new.self c.accept.new.self c.close.ensures.closed c.accept.ensures.accepted) c.tell.ensures
+
+pub returns-clause-room : goal.returns-clause-room
+returns-clause-room c =
+    telling_keeps_room c.args.keepers.now.streams c.tell.new.streams c.args.next.asked.now.user c.args.next.left.now.moment (Some c.replaced-message.result) c.tell.ensures

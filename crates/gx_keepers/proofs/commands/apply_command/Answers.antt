@@ -1,4 +1,6 @@
 use Rattle.gx_keepers.proofs.Commanded.{command_goes_on, command_places, has_room_for, has_setting}
+use Rattle.gx_keepers.specs.Ends.{owed_by_next}
+use Rattle.gx_keepers.proofs.Rooms.{both_keep_room, sent_keeps_room, telling_all_keeps_room}
 use Rattle.gx_keepers.proofs.commands.apply_command.Goals as goal
 
 pub set-requires : goal.set-requires
@@ -17,3 +19,9 @@ returns-clause-ok c =
     command_goes_on c.args.next.policy.now c.args.next.history.now.records c.args.next.asked.now c.args.next.left.now c.args.c.now c.args.keepers.now _ _
     c.requires.takes c.requires.granted c.requires.commands c.rules.ensures.sound
     c.in_ok-set.ensures.people c.in_ok-set.ensures.streams c.in_ok-set.ensures.rules c.set_day.ensures c.end_orders.ensures.left c.end_orders.ensures.taken c.end_orders.ensures.closed c.tell_of_command.ensures
+
+pub returns-clause-room : goal.returns-clause-room
+returns-clause-room c =
+    both_keep_room c.args.keepers.now.streams c.set.new.streams c.tell_of_command.new.streams
+    (sent_keeps_room c.args.next.policy.now c.args.keepers.now.people c.set.new.people c.args.keepers.now.streams c.set.new.streams c.args.c.now.action c.in_ok-set.ensures.streams)
+    (telling_all_keeps_room c.set.new.streams c.tell_of_command.new.streams (owed_by_next c.args.next c.args.c.now c.args.keepers.now.orders.live) c.tell_of_command.ensures)

@@ -3,6 +3,9 @@ use Rattle.std.specs.Prelude.{IfSome, is_some}
 use Rattle.gx_orders.specs.declared.live_order.LiveOrder.{LiveOrder}
 use Rattle.gx_orders.specs.LiveOrders.{HasOpen, filled_at, order_numbered}
 use Rattle.gx_keepers.proofs.Matches.{best_has_shares, can_fill, fill_goes_on, maker_is_there, maker_told, taker_told}
+use Rattle.gx_streams.specs.declared.fill.ToldFill.{ToldFill}
+use Rattle.gx_keepers.proofs.Keepings.{known_told, known_told_but, match_keeps}
+use Rattle.gx_keepers.proofs.Rooms.{filling_takes_none}
 use Rattle.gx_keepers.proofs.matching.apply_fill.Goals as goal
 
 pub unreachable-requires : goal.unreachable-requires
@@ -46,3 +49,21 @@ returns-clause-ok c =
       used = (c.fill-2.ensures.used ∙ c.fill.ensures.used) i;
     })
     c.take_from_best.ensures c.fill-3.ensures.filled c.in_ok-append_fill.ensures.ok
+
+abbrev told : goal.After-fill-3 → ToldFill
+told c = record {
+  match_number = c.args.next.left.now.number;
+  moment = c.args.next.left.now.moment;
+  shares = c.args.f.shares;
+  price = c.args.f.price;
+  taker = c.side_of.result;
+  maker = c.side_of-2.result;
+}
+
+pub returns-clause-kept_after : goal.returns-clause-kept_after
+returns-clause-kept_after c =
+    match_keeps c.args.next.policy.now c.args.next.history.now.records c.requires.takes.handed c.args.next.left.now c.args.keepers.now.streams _ c.requires.takes.legal c.requires.takes.left
+    (known_told c.args.next.policy.now c.args.next.history.now.records c.args.keepers.now c.requires.takes.in_force)
+    (known_told_but c.args.next.policy.now c.args.next.history.now.records c.args.next.left.now _ (returns-clause-ok c))
+    (filling_takes_none c.args.keepers.now.streams _ (told c) c.in_ok-append_fill.ensures.ok)
+    c.requires.kept

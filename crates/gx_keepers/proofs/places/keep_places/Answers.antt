@@ -1,37 +1,64 @@
-use Rattle.std.proofs.Common.{arith, ◌∙◌, sym}
-use Rattle.std.proofs.Math.Path.{subst}
+use Rattle.std.proofs.Common.{◌≡◌, true, false, refl, ◌∙◌, sym}
 use Rattle.std.proofs.lemmas.Result.{on_ok_weaker}
-use Rattle.gx_units.specs.declared.names.UserName.{UserName}
-use Rattle.gx_desk.specs.declared.Action.{Action}
-use Rattle.gx_history.specs.declared.record.Step.TheVariants as steps
-use Rattle.gx_keepers.specs.Keepers.{HaveEndPlaces}
-use Rattle.gx_keepers.proofs.Figuring.{legal_after}
-use Rattle.gx_keepers.proofs.Keepings.{AsksEnd, TellsFew, asked_no_fill, asks_end, command_fits, few_live, known_told, one_fits, tells_few}
+use Rattle.gx_keepers.proofs.Keepings.{asked_are_placed, asker_fits, few_live, keep_still, kept_fit, many_fit}
 use Rattle.gx_keepers.proofs.places.keep_places.Goals as goal
 
-pub keep_for_ends-requires : goal.keep_for_ends-requires
-keep_for_ends-requires c = record {
-  known = λ (user : UserName).
-      c.in_ok-keep.ensures.known user ∙ known_told c.args.next.policy.now c.args.next.history.now.records c.args.keepers.now c.requires.takes.in_force user;
-  few = few_live c.args.next.policy.now c.args.next.history.now.records c.args.next.asked.now c.args.next.left.now c.args.keepers.now c.requires.takes;
-}
+pub keep_enough_for_all-requires : goal.keep_enough_for_all-requires
+keep_enough_for_all-requires c = record { few = few_live c.args.next.policy.now c.args.next.history.now.records c.args.keepers.now c.requires.takes.legal c.requires.takes.in_force }
 
-pub returns-in-Some-clause-places : goal.returns-in-Some-clause-places
-returns-in-Some-clause-places c =
-    let end : AsksEnd c.args.next.asked.now.request c.args.next.left.now.verdict c.in-Some.action =
-    asks_end c.args.next.asked.now.request c.args.next.left.now.verdict c.in-Some.action (sym c.ending.ensures ∙ c.in-Some.is) in
-    on_ok_weaker c.keep_for_ends.result
-    (λ has. command_fits c.args.next.policy.now c.args.next.history.now.records c.args.next.asked.now c.args.next.left.now end.command c.args.keepers.now c.keep_for_ends.new.streams
-    c.requires.takes end.grants end.asks
-    (subst (λ (action : Action). HaveEndPlaces c.args.next.policy.now action c.args.keepers.now.orders.live c.keep_for_ends.new.streams) (sym end.acts) has)
-    (λ known. omega (arith, c.in_ok-keep.ensures.places (c.in_ok-keep.ensures.known c.args.next.asked.now.user ∙ known), c.keep_for_ends.ensures.more c.args.next.asked.now.user)))
-    c.keep_for_ends.ensures.places
+pub keep_enough-requires : goal.keep_enough-requires
+keep_enough-requires c = record { few = few_live c.args.next.policy.now c.args.next.history.now.records c.args.keepers.now c.requires.takes.legal c.requires.takes.in_force }
 
-pub returns-in-None-clause-places : goal.returns-in-None-clause-places
-returns-in-None-clause-places c =
-    let few : TellsFew c.args.next.policy.now c.args.next.history.now.records c.args.next.asked.now c.args.next.left.now =
-    tells_few c.args.next.policy.now c.args.next.history.now.records c.args.next.asked.now c.args.next.left.now c.args.keepers.now c.requires.takes (sym c.ending.ensures ∙ c.in-None.is) in
-    one_fits c.args.next.policy.now c.args.next.history.now.records c.args.next.left.now c.args.keepers.now c.keep.new.streams c.args.next.asked.now.user few.told c.requires.takes.in_force
-    (legal_after c.args.next.policy.now c.args.next.history.now.records (steps.Asked c.args.next.asked.now) c.args.next.left.now c.requires.takes.legal c.requires.takes.fits c.requires.takes.left)
-    (asked_no_fill c.args.next.policy.now c.args.next.history.now.records c.args.next.asked.now c.args.next.left.now c.args.keepers.now c.requires.takes)
-    few.tells few.few (λ known. c.in_ok-keep.ensures.places (c.in_ok-keep.ensures.known c.args.next.asked.now.user ∙ known))
+-- a granted Kill or Logout
+pub returns-then-has_kept_places-clause-whole : goal.returns-then-has_kept_places-clause-whole
+returns-then-has_kept_places-clause-whole c =
+    kept_fit c.args.next.policy.now c.args.next.history.now.records c.args.next.asked.now c.args.next.left.now c.args.keepers.now c.requires.takes c.requires.kept (sym c.has_kept_places.ensures ∙ c.if-has_kept_places.true)
+
+pub returns-then-has_kept_places-clause-places : goal.returns-then-has_kept_places-clause-places
+returns-then-has_kept_places-clause-places c =
+    asked_are_placed c.args.next.policy.now c.args.next.history.now.records c.args.next.asked.now c.args.next.left.now c.args.keepers.now c.args.keepers.now.streams c.requires.takes (λ user. refl)
+    (returns-then-has_kept_places-clause-whole c)
+
+-- a granted Lift or Close Day
+pub returns-then-concerns_many-clause-kept : goal.returns-then-concerns_many-clause-kept
+returns-then-concerns_many-clause-kept c =
+    keep_still c.args.next.policy.now c.args.next.history.now.records c.args.keepers.now c.keep_enough_for_all.new.streams
+    (record { in_force = c.requires.takes.in_force; kept = c.requires.kept; known = c.keep_enough_for_all.ensures.known; more = c.keep_enough_for_all.ensures.more })
+
+pub returns-then-concerns_many-clause-whole : goal.returns-then-concerns_many-clause-whole
+returns-then-concerns_many-clause-whole c =
+    on_ok_weaker c.keep_enough_for_all.result
+    (λ all. many_fit c.args.next.policy.now c.args.next.history.now.records c.args.next.asked.now c.args.next.left.now c.args.keepers.now c.keep_enough_for_all.new.streams c.requires.takes c.keep_enough_for_all.ensures.known all)
+    c.keep_enough_for_all.ensures.places
+
+pub returns-then-concerns_many-clause-places : goal.returns-then-concerns_many-clause-places
+returns-then-concerns_many-clause-places c =
+    on_ok_weaker c.keep_enough_for_all.result
+    (asked_are_placed c.args.next.policy.now c.args.next.history.now.records c.args.next.asked.now c.args.next.left.now c.args.keepers.now c.keep_enough_for_all.new.streams c.requires.takes c.keep_enough_for_all.ensures.known)
+    (returns-then-concerns_many-clause-whole c)
+
+pub returns-then-concerns_many-clause-sure : goal.returns-then-concerns_many-clause-sure
+returns-then-concerns_many-clause-sure c = λ sure. let clash : false ≡ true = sym c.if-has_kept_places.false ∙ c.has_kept_places.ensures ∙ sure in cc
+
+-- any other request
+pub returns-clause-kept : goal.returns-clause-kept
+returns-clause-kept c =
+    keep_still c.args.next.policy.now c.args.next.history.now.records c.args.keepers.now c.keep_enough.new.streams
+    (record { in_force = c.requires.takes.in_force; kept = c.requires.kept; known = c.keep_enough.ensures.known; more = c.keep_enough.ensures.more })
+
+pub returns-clause-whole : goal.returns-clause-whole
+returns-clause-whole c =
+    on_ok_weaker c.keep_enough.result
+    (λ has. asker_fits c.args.next.policy.now c.args.next.history.now.records c.args.next.asked.now c.args.next.left.now c.args.keepers.now c.keep_enough.new.streams c.requires.takes
+    (record { in_force = c.requires.takes.in_force; kept = c.requires.kept; known = c.keep_enough.ensures.known; more = c.keep_enough.ensures.more })
+    (sym c.concerns_many.ensures ∙ c.if-concerns_many.false) has)
+    c.keep_enough.ensures.places
+
+pub returns-clause-places : goal.returns-clause-places
+returns-clause-places c =
+    on_ok_weaker c.keep_enough.result
+    (asked_are_placed c.args.next.policy.now c.args.next.history.now.records c.args.next.asked.now c.args.next.left.now c.args.keepers.now c.keep_enough.new.streams c.requires.takes c.keep_enough.ensures.known)
+    (returns-clause-whole c)
+
+pub returns-clause-sure : goal.returns-clause-sure
+returns-clause-sure c = λ sure. let clash : false ≡ true = sym c.if-has_kept_places.false ∙ c.has_kept_places.ensures ∙ sure in cc

@@ -11,7 +11,7 @@ returns-then-is_officer c =
     let role = role_in c.args.self.now.policy.users c.args.officer in
     let is : is_officer role ≡ true =
     ap (λ (g : GateData). is_officer (role_in g.policy.users c.args.officer)) (sym c.self.view_is)
-    ∙ sym (officers_are_known c.self.inside.policy c.self.inside.history.records c.self.inside.keepers c.args.officer c.self.invariant)
+    ∙ sym (officers_are_known c.self.inside.policy c.self.inside.history.records c.self.inside.keepers c.args.officer c.self.invariant.kept)
     ∙ sym c.is_officer.ensures ∙ c.if-is_officer.true in
     c.has_concerned.ensures
     ∙ ap (λ (b : Bool). b && has_concerned c.args.self.now role c.args.action.now) (sym is)
@@ -22,7 +22,7 @@ returns-else-is_officer c =
     let role = role_in c.args.self.now.policy.users c.args.officer in
     let is : is_officer role ≡ false =
     ap (λ (g : GateData). is_officer (role_in g.policy.users c.args.officer)) (sym c.self.view_is)
-    ∙ sym (officers_are_known c.self.inside.policy c.self.inside.history.records c.self.inside.keepers c.args.officer c.self.invariant)
+    ∙ sym (officers_are_known c.self.inside.policy c.self.inside.history.records c.self.inside.keepers c.args.officer c.self.invariant.kept)
     ∙ sym c.is_officer.ensures ∙ c.if-is_officer.false in
     c.if-is_officer.false
     ∙ ap (λ (b : Bool). b && has_concerned c.args.self.now role c.args.action.now) (sym is)

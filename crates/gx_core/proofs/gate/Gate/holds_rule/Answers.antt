@@ -10,5 +10,5 @@ pub returns : goal.returns
 returns c =
     c.are_its_accounts_his.ensures
     ∙ ap (its_accounts_are_his c.self.inside.keepers c.args.officer c.args.rule) c.accounts.ensures
-    ∙ its_accounts_are_known c.self.inside.policy c.self.inside.history.records c.self.inside.keepers c.args.officer c.args.rule c.self.invariant
+    ∙ its_accounts_are_known c.self.inside.policy c.self.inside.history.records c.self.inside.keepers c.args.officer c.args.rule c.self.invariant.kept
     ∙ ap (λ (g : GateData). list_all (is_his_or_not_its g (role_in g.policy.users c.args.officer) c.args.rule) g.policy.accounts) c.self.view_is

@@ -7,9 +7,9 @@ returns c =
     let policy = c.self.inside.policy in
     let records = c.self.inside.history.records in
     rw (← c.self.view_is) (record {
-      legal = c.self.invariant.legal;
-      uncrossed = never_crossed_now policy records c.self.invariant.legal;
-      shares_within = gross_shares_are_kept policy records c.self.invariant.legal;
-      values_within = gross_values_are_kept policy records c.self.invariant.legal;
-      none_held = λ among. none_asked_none_held policy records among c.self.invariant.legal;
+      legal = c.self.invariant.kept.legal;
+      uncrossed = never_crossed_now policy records c.self.invariant.kept.legal;
+      shares_within = gross_shares_are_kept policy records c.self.invariant.kept.legal;
+      values_within = gross_values_are_kept policy records c.self.invariant.kept.legal;
+      none_held = λ among. none_asked_none_held policy records among c.self.invariant.kept.legal;
     })

@@ -13,13 +13,13 @@ returns-clause-verdict c =
     let policy = c.self.inside.policy in
     let records = c.self.inside.history.records in
     let keepers = c.self.inside.keepers in
-    let in_force = c.self.invariant.in_force in
+    let in_force = c.self.invariant.kept.in_force in
     let known : c.facts_of-known.result ≡ facts_now policy records c.args.a.now =
     c.facts_of-known.ensures
     ∙ ap (λ (g : GateData). facts g.policy g.records c.args.a.now c.args.moment) (sym c.self.view_is)
     ∙ ap (facts policy records c.args.a.now) (c.requires.moment ∙ ap (λ (g : GateData). moment_of g.records (steps.Asked c.args.a.now)) (sym c.self.view_is)) in
     decided_is_the_verdict policy records keepers.people keepers.rules keepers.ledger c.facts_of-known.result c.args.a.now c.decide.result
-    c.rules.ensures.sound c.self.invariant.legal in_force.people in_force.rules known in_force.ledger c.decide.ensures.decided
+    c.rules.ensures.sound c.self.invariant.kept.legal in_force.people in_force.rules known in_force.ledger c.decide.ensures.decided
     ∙ ap (λ (g : GateData). verdict g.policy g.records c.args.a.now) c.self.view_is
 
 pub returns-clause-shown : goal.returns-clause-shown

@@ -10,14 +10,14 @@ use Rattle.gx_core.proofs.gate.Gate.match_outcome.Goals as goal
 pub returns-clause-verdict : goal.returns-clause-verdict
 returns-clause-verdict c =
     ap matching_of (sym c.self.view_is)
-    ∙ first_is_met c.self.inside.policy c.self.inside.history.records c.self.inside.keepers c.args.first.now c.self.invariant
-    (first_is_known c.self.inside.policy c.self.inside.history.records c.self.inside.keepers c.self.invariant ∙ ap first_of c.self.view_is ∙ c.requires.waits)
+    ∙ first_is_met c.self.inside.policy c.self.inside.history.records c.self.inside.keepers c.args.first.now c.self.invariant.kept
+    (first_is_known c.self.inside.policy c.self.inside.history.records c.self.inside.keepers c.self.invariant.kept ∙ ap first_of c.self.view_is ∙ c.requires.waits)
     ∙ ap Some (sym (c.met.ensures ∙ ap (met c.args.first.now) c.best_against.ensures))
 
 pub returns-clause-next : goal.returns-clause-next
 returns-clause-next c =
     ap (λ (g : GateData). next_match g c.args.handed) (sym c.self.view_is)
     ∙ match_in_parts c.self.inside.policy c.self.inside.history.records c.args.handed _ _ c.met.result
-    (ap (λ (n : ℕ). n + 1) (c.length.ensures ∙ ap (λ (g : GateData). length g.records) (sym c.self.view_is)))
+    (ap (λ (n : ℕ). n + 1) (c.length.ensures.count ∙ ap (λ (g : GateData). length g.records) (sym c.self.view_is)))
     (c.max.ensures ∙ ap (max c.args.handed) (c.last_moment.ensures ∙ ap (λ (g : GateData). last_moment g.records) (sym c.self.view_is)))
     (ap matching_of c.self.view_is ∙ returns-clause-verdict c)

@@ -1,5 +1,8 @@
+use Rattle.std.proofs.Common.{◌∙◌}
 use Rattle.gx_core.proofs.Keeping.{keep_none}
 use Rattle.gx_core.proofs.gate.Gate.open.Goals as goal
 
 pub invariant_of-result : goal.invariant_of-result
-invariant_of-result c = keep_none c.in_ok-policy.policy c.new-2.result.records c.in_ok-keepers.keepers c.new-2.ensures.records c.in_ok-keepers.ensures
+invariant_of-result c =
+    keep_none c.in_ok-policy.policy c.keep_first.new.history.records c.keep_first.new.history.spare c.in_ok-keepers.keepers (c.keep_first.ensures.records ∙ c.new-history.ensures.records)
+    c.in_ok-keep_first.ensures.enough (record { in_force = c.in_ok-keepers.ensures.in_force; told = c.in_ok-keepers.ensures.kept })

@@ -1,4 +1,4 @@
-use Rattle.std.proofs.Common.{◌∙◌, ◌++◌, ◌∷◌, [], List, ap, sym, inl}
+use Rattle.std.proofs.Common.{◌≡◌, arith, true, false, length, ◌∙◌, ◌++◌, ◌∷◌, [], List, ap, sym}
 use Rattle.std.proofs.Math.Path.{subst}
 use Rattle.gx_units.specs.declared.names.AccountName.{AccountName}
 use Rattle.gx_history.specs.declared.record.RecordData.{RecordData}
@@ -7,27 +7,15 @@ use Rattle.gx_history.specs.declared.record.Step.TheVariants as steps
 use Rattle.gx_history.specs.InForce.{is_killed}
 use Rattle.gx_history_laws.proofs.Granting.{denied_names_first, granted_exactly}
 use Rattle.gx_effects.proofs.Lifting.{kill_ends_by_lift}
+use Rattle.std.specs.Prelude.{is_ok}
+use Rattle.gx_places.specs.Places.{has_kept_places}
 use Rattle.gx_core.specs.Gates.{GateData, left_by}
 use Rattle.gx_keepers.specs.Keepers.{AreInForce}
-use Rattle.gx_core.specs.Kept.{IsKept}
+use Rattle.gx_core.specs.Kept.{IsWhole}
 use Rattle.gx_core.specs.Steps.{HasEffect, IsJudged, VerdictEffect, next_of}
 use Rattle.gx_core.proofs.Effecting.{effect_of}
-use Rattle.gx_core.proofs.Keeping.{keep_on}
+use Rattle.gx_core.proofs.Keeping.{AreCarried, as_before, asked_fits, asked_has_place, keep_asked, keep_still, takes_asked, told_then}
 use Rattle.gx_core.proofs.gate.Gate.step.Goals as goal
-
-pub invariant_of-self-2 : goal.invariant_of-self-2
-invariant_of-self-2 c =
-    subst (λ (records : List RecordData). IsKept c.self.inside.policy records c.carry_on.new.keepers)
-    (sym
-    (c.push_reserved.ensures.records
-    ∙ ap (λ (records : List RecordData). records ++ c.new-record.result ∷ []) c.reserve.ensures.records
-    ∙ ap (λ (r : RecordData). c.self.inside.history.records ++ r ∷ []) (c.new-record.ensures ∙ c.record_of-entry.ensures)))
-    (keep_on c.self.inside.policy c.self.inside.history.records (steps.Asked c.args.a) (left_by c.args.a c.outcome_of-outcome.result) c.self.inside.keepers c.carry_on.new.keepers c.self.invariant
-    (ap (λ (g : GateData). next_of g c.args.a) c.self.view_is ∙ c.outcome_of-outcome.ensures.next) c.outcome_of-outcome.ensures.fits
-    (subst (λ (records : List RecordData). AreInForce c.self.inside.policy records c.carry_on.new.keepers)
-    (ap (λ (records : List RecordData). records ++ c.record_of-entry.result ∷ []) c.reserve.ensures.records
-    ∙ ap (λ (r : RecordData). c.self.inside.history.records ++ r ∷ []) c.record_of-entry.ensures)
-    c.in_ok-carry_on.ensures.ok))
 
 pub returns-clause-judged : goal.returns-clause-judged
 returns-clause-judged c =
@@ -44,18 +32,72 @@ returns-clause-effect c =
     (subst (λ (records : List RecordData). VerdictEffect c.self.inside.policy c.self.inside.history.records records (left_by c.args.a c.outcome_of-outcome.result) c.args.a c.outcome_of-outcome.result.verdict)
     (sym
     (c.push_reserved.ensures.records
-    ∙ ap (λ (records : List RecordData). records ++ c.new-record.result ∷ []) c.reserve.ensures.records
+    ∙ ap (λ (records : List RecordData). records ++ c.new-record.result ∷ []) c.keep_for.ensures.records
     ∙ ap (λ (r : RecordData). c.self.inside.history.records ++ r ∷ []) (c.new-record.ensures ∙ c.record_of-entry.ensures)))
-    (effect_of c.self.inside.policy c.self.inside.history.records c.args.a (left_by c.args.a c.outcome_of-outcome.result) c.self.invariant.legal (ap (λ (g : GateData). next_of g c.args.a) c.self.view_is ∙ c.outcome_of-outcome.ensures.next)))
+    (effect_of c.self.inside.policy c.self.inside.history.records c.args.a (left_by c.args.a c.outcome_of-outcome.result) c.self.invariant.kept.legal (ap (λ (g : GateData). next_of g c.args.a) c.self.view_is ∙ c.outcome_of-outcome.ensures.next)))
 
 pub returns-clause-lifted_by : goal.returns-clause-lifted_by
 returns-clause-lifted_by c =
     rw (← c.self.view_is) (λ (account : AccountName) killed lifted.
     kill_ends_by_lift c.self.inside.policy c.self.inside.history.records (left_by c.args.a c.outcome_of-outcome.result) account
-    (record { is_next = (ap (λ (g : GateData). next_of g c.args.a) c.self.view_is ∙ c.outcome_of-outcome.ensures.next); fits_day = record { fits = inl c.outcome_of-outcome.ensures.fits } }) killed
+    (record { is_next = (ap (λ (g : GateData). next_of g c.args.a) c.self.view_is ∙ c.outcome_of-outcome.ensures.next); fits_day = asked_fits c.self.inside.policy c.self.inside.history.records c.args.a (left_by c.args.a c.outcome_of-outcome.result) c.self.inside.history.spare c.keep_for.new.history.spare (ap (λ (g : GateData). next_of g c.args.a) c.self.view_is ∙ c.outcome_of-outcome.ensures.next) (record { more = c.keep_for.ensures.more; own = c.in_ok-keep_for.ensures.own; room = c.in_ok-keep_for.ensures.room }) }) killed
     (sym
     (ap (λ (records : List RecordData). is_killed c.self.inside.policy records account)
     (c.push_reserved.ensures.records
-    ∙ ap (λ (records : List RecordData). records ++ c.new-record.result ∷ []) c.reserve.ensures.records
+    ∙ ap (λ (records : List RecordData). records ++ c.new-record.result ∷ []) c.keep_for.ensures.records
     ∙ ap (λ (r : RecordData). c.self.inside.history.records ++ r ∷ []) (c.new-record.ensures ∙ c.record_of-entry.ensures)))
     ∙ lifted))
+
+pub carry_on-requires : goal.carry_on-requires
+carry_on-requires c = record {
+  takes = takes_asked c.self.inside.policy c.self.inside.history.records c.keep_for.new.history.records c.args.a (left_by c.args.a c.outcome_of-outcome.result) c.record_of-entry.result c.self.inside.history.spare c.keep_for.new.history.spare c.self.inside.keepers c.self.invariant c.keep_for.ensures.records c.record_of-entry.ensures
+      (ap (λ (g : GateData). next_of g c.args.a) c.self.view_is ∙ c.outcome_of-outcome.ensures.next) (record { more = c.keep_for.ensures.more; own = c.in_ok-keep_for.ensures.own; room = c.in_ok-keep_for.ensures.room });
+  kept = told_then c.self.inside.policy c.self.inside.history.records c.keep_for.new.history.records c.self.inside.history.spare c.self.inside.keepers c.self.invariant c.keep_for.ensures.records;
+}
+
+pub push_reserved-requires : goal.push_reserved-requires
+push_reserved-requires c = asked_has_place c.self.inside.policy c.self.inside.history.records c.args.a (left_by c.args.a c.outcome_of-outcome.result) c.self.inside.history.spare c.keep_for.new.history.spare c.self.inside.keepers c.self.invariant (ap (λ (g : GateData). next_of g c.args.a) c.self.view_is ∙ c.outcome_of-outcome.ensures.next) (record { more = c.keep_for.ensures.more; own = c.in_ok-keep_for.ensures.own; room = c.in_ok-keep_for.ensures.room })
+
+pub invariant_of-self-2 : goal.invariant_of-self-2
+invariant_of-self-2 c =
+    subst (λ (records : List RecordData). IsWhole c.self.inside.policy records c.push_reserved.new.self.spare c.carry_on.new.keepers)
+    (sym
+    (c.push_reserved.ensures.records
+    ∙ ap (λ (records : List RecordData). records ++ c.new-record.result ∷ []) c.keep_for.ensures.records
+    ∙ ap (λ (r : RecordData). c.self.inside.history.records ++ r ∷ []) (c.new-record.ensures ∙ c.record_of-entry.ensures)))
+    (keep_asked c.self.inside.policy c.self.inside.history.records c.args.a (left_by c.args.a c.outcome_of-outcome.result) c.self.inside.history.spare c.keep_for.new.history.spare c.push_reserved.new.self.spare c.self.inside.keepers c.carry_on.new.keepers c.self.invariant (ap (λ (g : GateData). next_of g c.args.a) c.self.view_is ∙ c.outcome_of-outcome.ensures.next) (record { more = c.keep_for.ensures.more; own = c.in_ok-keep_for.ensures.own; room = c.in_ok-keep_for.ensures.room }) c.push_reserved.ensures.spare
+    (subst (λ (records : List RecordData). AreCarried c.self.inside.policy records c.carry_on.new.keepers)
+    (ap (λ (records : List RecordData). records ++ c.record_of-entry.result ∷ []) c.keep_for.ensures.records
+    ∙ ap (λ (r : RecordData). c.self.inside.history.records ++ r ∷ []) c.record_of-entry.ensures)
+    (record { in_force = c.in_ok-carry_on.ensures.ok; told = c.in_ok-carry_on.ensures.kept_after })))
+
+-- nothing was made: more places may be kept
+pub invariant_of-self : goal.invariant_of-self
+invariant_of-self c =
+    keep_still c.self.inside.policy c.self.inside.history.records c.keep_for.new.history.records c.self.inside.history.spare c.keep_for.new.history.spare c.self.inside.keepers c.self.inside.keepers c.self.invariant c.keep_for.ensures.records c.keep_for.ensures.more
+    (as_before c.self.inside.policy c.self.inside.history.records c.self.inside.history.spare c.self.inside.keepers c.self.invariant)
+
+pub invariant_of-self-in_err-carry_on : goal.invariant_of-self-in_err-carry_on
+invariant_of-self-in_err-carry_on c =
+    keep_still c.self.inside.policy c.self.inside.history.records c.keep_for.new.history.records c.self.inside.history.spare c.keep_for.new.history.spare c.self.inside.keepers c.carry_on.new.keepers c.self.invariant c.keep_for.ensures.records c.keep_for.ensures.more
+    (subst (λ (records : List RecordData). AreCarried c.self.inside.policy records c.carry_on.new.keepers) c.keep_for.ensures.records
+    (record { in_force = c.in_err-carry_on.ensures.err; told = c.in_err-carry_on.ensures.kept_before }))
+
+pub returns-in_err-keep_for-clause-never_refused : goal.returns-in_err-keep_for-clause-never_refused
+returns-in_err-keep_for-clause-never_refused c = λ sure.
+    let clash : false ≡ true = sym (ap is_ok c.in_err-keep_for.was) ∙ c.keep_for.ensures.sure (ap (has_kept_places c.args.a.request) c.outcome_of-outcome.ensures.verdict ∙ sure) in cc
+
+pub returns-in_err-carry_on-clause-never_refused : goal.returns-in_err-carry_on-clause-never_refused
+returns-in_err-carry_on-clause-never_refused c = λ sure.
+    let clash : false ≡ true =
+    sym (ap is_ok c.in_err-carry_on.was)
+    ∙ c.carry_on.ensures.sure (ap (λ (r : RecordData). has_kept_places c.args.a.request r.verdict) c.record_of-entry.ensures ∙ ap (has_kept_places c.args.a.request) c.outcome_of-outcome.ensures.verdict ∙ sure)
+    in cc
+
+pub returns-in_err-carry_on-clause-full : goal.returns-in_err-carry_on-clause-full
+returns-in_err-carry_on-clause-full c = λ full none.
+    absurd (omega (arith, c.in_ok-keep_for.ensures.room (ap (has_kept_places c.args.a.request) c.outcome_of-outcome.ensures.verdict ∙ none), full, ap (λ (g : GateData). length g.records) c.self.view_is))
+
+pub returns-clause-full : goal.returns-clause-full
+returns-clause-full c = λ full none.
+    absurd (omega (arith, c.in_ok-keep_for.ensures.room (ap (has_kept_places c.args.a.request) c.outcome_of-outcome.ensures.verdict ∙ none), full, ap (λ (g : GateData). length g.records) c.self.view_is))

@@ -1,7 +1,17 @@
+use Rattle.std.proofs.Common.{refl, List, [], sym}
+use Rattle.std.proofs.Math.Path.{subst}
+use Rattle.gx_orders.specs.declared.live_order.LiveOrder.{LiveOrder}
+use Rattle.gx_keepers.specs.Keepers.{HaveEnough}
 use Rattle.gx_keepers.proofs.Beginning.{begin}
+use Rattle.gx_keepers.proofs.Keepings.{kept_at_first}
 use Rattle.gx_keepers.proofs.keepers.Keepers.new.Goals as goal
 
-pub returns : goal.returns
-returns c =
+pub returns-clause-in_force : goal.returns-clause-in_force
+returns-clause-in_force c =
     begin c.args.policy.now c.in_ok-telling.telling.people c.in_ok-settings.settings.rules c.in_ok-settings.settings.day c.new.result c.in_ok-trading.trading.book c.in_ok-trading.trading.ledger c.in_ok-telling.telling.streams
     c.in_ok-telling.ensures.people c.in_ok-settings.ensures.rules c.in_ok-settings.ensures.day c.new.ensures.live c.new.ensures.used c.in_ok-trading.ensures.book c.in_ok-trading.ensures.ledger c.in_ok-telling.ensures.shown c.in_ok-telling.ensures.sent
+
+pub returns-clause-kept : goal.returns-clause-kept
+returns-clause-kept c =
+    kept_at_first c.args.policy.now _ c.in_ok-telling.telling.streams (returns-clause-in_force c) (λ user. refl)
+    (subst (λ (live : List LiveOrder). HaveEnough live c.in_ok-telling.telling.people c.args.policy.now c.in_ok-telling.telling.streams c.args.policy.now.users) (sym c.new.ensures.live) c.in_ok-telling.ensures.enough)

@@ -1,11 +1,10 @@
 use Rattle.std.proofs.Common.{◌≡◌, ◌≤◌, take}
-use Rattle.std.specs.List.{AllByRecursion}
 use Rattle.gx_units.specs.declared.names.UserName.{UserName}
 use Rattle.gx_streams.specs.Kept.{places_in}
 use Rattle.gx_streams.specs.Streams.{is_told}
 use Rattle.gx_streams.specs.Telling.{shown}
-use Rattle.gx_keepers.specs.Keepers.{HasEndPlaces}
-use Rattle.gx_keepers.proofs.places.keep_for_ends.Given as goal
+use Rattle.gx_keepers.specs.Keepers.{HaveEnough}
+use Rattle.gx_keepers.proofs.places.keep_enough_for_all.Given as goal
 
 abbrev pub invariant-loop-user : goal.invariant-loop-user
 invariant-loop-user l =
@@ -14,5 +13,5 @@ invariant-loop-user l =
       known : (other : UserName) → is_told l.streams other ≡ is_told l.fn.streams other;
       readers : l.streams.readers ≡ l.fn.streams.readers;
       more : (other : UserName) → places_in l.fn.streams.told other ≤ places_in l.streams.told other;
-      places : AllByRecursion (HasEndPlaces l.fn.action l.fn.orders.live l.streams) (take l.user-index l.user-items);
+      places : HaveEnough l.fn.orders.live l.fn.people l.fn.policy l.streams (take l.user-index l.user-items);
     }

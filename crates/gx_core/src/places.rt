@@ -1,0 +1,76 @@
+//! The places of records.
+
+ghost use Rattle.std.specs.Prelude.{◌≡◌, ◌+◌, ◌-◌, ◌<◌, ◌≤◌, ◌^◌, length, IfErr, IsFalse, IsOk, IsTrue, OnOk};
+ghost use Rattle.gx_core.specs.declared.outcome.StepFault.TheVariants as faults;
+ghost use Rattle.gx_history.specs.Verdicts.{day_limit};
+ghost use Rattle.gx_places.specs.Places.{has_kept_places, most_record_places};
+
+use crate::outcome::StepFault;
+use gx_history::history::History;
+use gx_history::policy::Policy;
+use gx_history::record::{Asked, Verdict};
+use gx_keepers::request::has_kept_places;
+use gx_units::OutOfMemory;
+
+/// The most records of a day, but for granted Kills and Logouts.
+const DAY_LIMIT: usize = 16_777_216;
+
+/// The most places that are ever kept for the records of Kills and Logouts: one for each account, and one for each user.
+fn most_record_places(policy: &Policy) -> usize
+    ensures most { result ≡ most_record_places policy.now }
+    ensures few { result < 2 ^ 64 - 1 }
+{
+    policy.accounts().len() + policy.users().len()
+}
+
+/// The places that are kept at the beginning of a day.
+pub(crate) fn keep_first(history: &mut History, policy: &Policy) -> Result<(), OutOfMemory>
+    ensures records { history.new.records ≡ history.old.records }
+    ensures enough { OnOk result (most_record_places policy.now ≤ history.new.spare) }
+{
+    history.reserve(most_record_places(policy))
+}
+
+/// Makes a place for one more record, beside those that are kept.
+///
+/// `DayFull` comes before `OutOfMemory`, and only where the day has as many records as it may have.
+pub(crate) fn keep_one(history: &mut History, policy: &Policy) -> Result<(), StepFault>
+    ensures records { history.new.records ≡ history.old.records }
+    ensures more { history.old.spare ≤ history.new.spare }
+    ensures own { OnOk result (most_record_places policy.now + 1 ≤ history.new.spare) }
+    ensures room { OnOk result (length history.old.records < day_limit) }
+    ensures full { day_limit ≤ length history.old.records → result ≡ Err faults.DayFull }
+    ensures day_full { IfErr result (λ e. e ≡ faults.DayFull
+        → day_limit ≤ length history.old.records) }
+{
+    if history.len() >= DAY_LIMIT {
+        return Err(StepFault::DayFull);
+    }
+    history.reserve(most_record_places(policy) + 1)?;
+    Ok(())
+}
+
+/// Makes a place for the record that a request of this verdict leaves. A granted Kill or Logout has one that was kept.
+pub(crate) fn keep_for(
+    history: &mut History,
+    policy: &Policy,
+    a: &Asked,
+    given: Verdict,
+) -> Result<(), StepFault>
+    ensures records { history.new.records ≡ history.old.records }
+    ensures more { history.old.spare ≤ history.new.spare }
+    ensures own { OnOk result (IsFalse (has_kept_places a.now.request given)
+        → most_record_places policy.now + 1 ≤ history.new.spare) }
+    ensures room { OnOk result (IsFalse (has_kept_places a.now.request given)
+        → length history.old.records < day_limit) }
+    ensures sure { IsTrue (has_kept_places a.now.request given) → IsOk result }
+    ensures full { day_limit ≤ length history.old.records
+        → IsFalse (has_kept_places a.now.request given) → result ≡ Err faults.DayFull }
+    ensures day_full { IfErr result (λ e. e ≡ faults.DayFull
+        → day_limit ≤ length history.old.records) }
+{
+    if has_kept_places(&a.request, given) {
+        return Ok(());
+    }
+    keep_one(history, policy)
+}

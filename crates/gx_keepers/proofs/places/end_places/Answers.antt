@@ -1,7 +1,0 @@
-use Rattle.std.proofs.Common.{arith}
-use Rattle.gx_orders.specs.LiveOrders.{is_of_user}
-use Rattle.gx_positions.proofs.Small.{few_pass}
-use Rattle.gx_keepers.proofs.places.end_places.Goals as goal
-
-pub overflow_add-result : goal.overflow_add-result
-overflow_add-result c = omega (arith, c.count_of-in-CloseDay.ensures, few_pass (is_of_user c.args.user) c.args.orders.now.live, c.requires.few)

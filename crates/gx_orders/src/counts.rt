@@ -1,0 +1,58 @@
+//! How many live orders each user has.
+
+ghost use Rattle.std.specs.Prelude.{◌≡◌, ◌<◌, ◌^◌, IsOk, OnOk};
+ghost use Rattle.std.specs.Map.{values_of};
+ghost use Rattle.indexmap.specs.IndexMap.{spare};
+ghost use Rattle.gx_orders.specs.Tables.{counted_of, CountsNoMore, CountsOneLess, CountsOneMore};
+
+use crate::live_order::LiveOrder;
+use gx_units::{AccountName, OutOfMemory, UserName};
+use indexmap::IndexMap;
+use std::collections::BTreeMap;
+
+/// How many orders of the user are counted.
+pub(crate) fn count_in(counts: &IndexMap<UserName, usize>, user: UserName) -> usize
+    ensures { result ≡ counted_of counts.now.entries user }
+{
+    counts.get(&user).copied().unwrap_or(0)
+}
+
+/// Counts one order more of the user. Where there is a place to spare it takes no memory.
+pub(crate) fn count_one_more(
+    counts: &mut IndexMap<UserName, usize>,
+    user: UserName,
+) -> Result<(), OutOfMemory>
+    requires few { counted_of counts.old.entries user < 2 ^ 63 }
+    ensures more { OnOk result (CountsOneMore user counts.old.entries counts.new.entries) }
+    ensures sure { 0 < spare counts.old → IsOk result }
+{
+    let count = count_in(counts, user);
+    counts.insert(user, count + 1)?;
+    Ok(())
+}
+
+/// Counts one order less of the user, where any is counted. It takes no memory.
+pub(crate) fn count_one_less(counts: &mut IndexMap<UserName, usize>, user: UserName)
+    ensures { CountsOneLess user counts.old.entries counts.new.entries }
+{
+    let Some(count) = counts.get_mut(&user) else {
+        return;
+    };
+    *count = count.saturating_sub(1);
+}
+
+/// Counts the orders of the account no more. It takes no memory.
+pub(crate) fn count_no_more(
+    counts: &mut IndexMap<UserName, usize>,
+    by_number: &BTreeMap<u64, LiveOrder>,
+    account: AccountName,
+)
+    ensures { CountsNoMore account (values_of by_number.now.entries)
+        counts.old.entries counts.new.entries }
+{
+    for order in by_number.values() {
+        if order.is_of_account(account) {
+            count_one_less(counts, order.user);
+        }
+    }
+}

@@ -1,0 +1,235 @@
+-- Which accounts may still be killed, and who is logged in, after one more record.
+use Rattle.std.proofs.Common.{◌≡◌, ℕ, ◌+◌, ◌≤◌, arith, true, false, not, Bool, List, [], ◌∷◌, ◌++◌, length, refl, ◌∙◌, ap, sym, cond, drop}
+use Rattle.std.specs.Prelude.{Option, Some, None, is_some, unwrap_or, find, ◌&&◌}
+use Rattle.std.proofs.lemmas.Bool.{not-false}
+use Rattle.std.specs.List.{filter}
+use Rattle.gx_units.specs.Names.{same_account, same_user}
+use Rattle.gx_units.specs.declared.names.AccountName.{AccountName}
+use Rattle.gx_units.specs.declared.names.UserName.{UserName}
+use Rattle.gx_desk.specs.declared.Action.{Action}
+use Rattle.gx_desk.specs.declared.Action.TheVariants as actions
+use Rattle.gx_history.specs.declared.policy.Account.{Account}
+use Rattle.gx_history.specs.declared.policy.PolicyData.{PolicyData}
+use Rattle.gx_history.specs.declared.policy.Role.{Role}
+use Rattle.gx_history.specs.declared.policy.Role.TheVariants as roles
+use Rattle.gx_history.specs.declared.policy.User.{User}
+use Rattle.gx_history.specs.declared.record.Asked.{Asked}
+use Rattle.gx_history.specs.declared.record.RecordData.{RecordData}
+use Rattle.gx_history.specs.declared.record.Request.{Request}
+use Rattle.gx_history.specs.declared.record.Request.TheVariants as requests
+use Rattle.gx_history.specs.declared.record.RuleName.{RuleName}
+use Rattle.gx_history.specs.declared.record.RuleName.TheVariants.{L1, L2, L3, G1, G2, G3, Q1, Q2, Q3, Q4}
+use Rattle.gx_history.specs.declared.record.Step.TheVariants as steps
+use Rattle.gx_history.specs.declared.record.Verdict.TheVariants as verdicts
+use Rattle.gx_history.specs.Asking.{are_his, changes, facts, has_power, is_on_line, knows_names, of_command}
+use Rattle.gx_history.specs.InForce.{is_killed, kill_or_lift_of, line_of}
+use Rattle.gx_history.specs.Lists.{where_true}
+use Rattle.gx_history.specs.People.{account_named, covers, is_officer, role_in, user_in}
+use Rattle.gx_history.specs.Requests.{is_command, is_unreadable}
+use Rattle.gx_history.specs.RuleNames.{rules_before, rules_behind}
+use Rattle.gx_history.specs.Rules.{forbids}
+use Rattle.gx_history.specs.Verdicts.{facts_now, next, rules_now}
+use Rattle.gx_history_laws.proofs.Adding.{user_is, user_is_itself}
+use Rattle.gx_history_laws.proofs.Granting.{granted_passes, granted_passes_before, none_behind}
+use Rattle.gx_history_laws.proofs.Names.{account_is, account_is_itself}
+use Rattle.gx_history_laws.proofs.NextInForce.{is_killed_next}
+use Rattle.gx_history_laws.proofs.Order.{none_among}
+use Rattle.gx_effects.proofs.Allowed.{has_the_accounts, has_the_power, names_are_known}
+use Rattle.gx_effects.proofs.Commanding.{GrantsCommand, mark_granted}
+use Rattle.gx_places.specs.Places.{is_alive, is_left_to, is_on, kills_left, may_kill, most_kills}
+use Rattle.gx_places.proofs.Counting.{fewer_pass, most_pass, one_less_passes}
+
+-- each account that was killed is so still
+pub record StayKilled (policy : PolicyData) (before after : List RecordData) : Type 0 where
+  pub stays : (account : AccountName) → is_killed policy before account ≡ true → is_killed policy after account ≡ true
+
+pub none_lifted : (policy : PolicyData) (before after : List RecordData) → ((account : AccountName) → is_killed policy after account ≡ is_killed policy before account) → StayKilled policy before after
+none_lifted policy before after same = record { stays = λ account killed. same account ∙ killed }
+
+-- what a granted command makes of an account
+killed_by : (policy : PolicyData) (history : List RecordData) (r : RecordData) (a : Asked) (action : Action) (account : AccountName) → GrantsCommand r a action
+    → is_killed policy (history ++ r ∷ []) account ≡ unwrap_or (kill_or_lift_of account a.user action) (is_killed policy history account)
+killed_by policy history r a action account g =
+    is_killed_next policy history r account ∙ ap (λ (m : Option Bool). unwrap_or m (is_killed policy history account)) (mark_granted (kill_or_lift_of account) r a action g)
+
+-- a Lift
+abbrev pub lifts : Action → Bool
+lifts (actions.Lift account) = true
+lifts other = false
+
+-- any other command lifts none
+pub command_lifts_none : (policy : PolicyData) (history : List RecordData) (r : RecordData) (a : Asked) (action : Action) → GrantsCommand r a action → lifts action ≡ false → StayKilled policy history (history ++ r ∷ [])
+command_lifts_none policy history r a action g lifts_none = record {
+  stays = λ (account : AccountName) killed. killed_by policy history r a action account g ∙ by action lifts_none account killed;
+}
+  where
+    marked : (b : Bool) (was : Bool) → was ≡ true → unwrap_or (where_true b true) was ≡ true
+    marked true was h = refl
+    marked false was h = h
+
+    by : (action : Action) → lifts action ≡ false → (account : AccountName) → is_killed policy history account ≡ true → unwrap_or (kill_or_lift_of account a.user action) (is_killed policy history account) ≡ true
+    by (actions.Kill named) none account h = marked (same_account named account) (is_killed policy history account) h
+    by (actions.Lift named) none account h = cc
+    by (actions.SetLimit rule limit) none account h = h
+    by (actions.Restrict rule stock) none account h = h
+    by (actions.Unrestrict rule stock) none account h = h
+    by (actions.Grant reader named) none account h = h
+    by (actions.Revoke reader named) none account h = h
+    by actions.CloseDay none account h = h
+
+-- a Kill kills its account
+pub kill_kills : (policy : PolicyData) (history : List RecordData) (r : RecordData) (a : Asked) (account : AccountName) → GrantsCommand r a (actions.Kill account) → is_killed policy (history ++ r ∷ []) account ≡ true
+kill_kills policy history r a account g =
+    killed_by policy history r a (actions.Kill account) account g ∙ ap (λ b. unwrap_or (where_true b true) (is_killed policy history account)) (account_is_itself account)
+
+-- what was not passed before is not passed after
+left_before : (m k l : Bool) → (k ≡ true → l ≡ true) → (m && not l) ≡ true → (m && not k) ≡ true
+left_before false k l h e = e
+left_before true false l h e = refl
+left_before true true l h e = let clash : false ≡ true = sym (ap not (h refl)) ∙ e in clash
+
+pub fewer_kills_left : (policy : PolicyData) (before after : List RecordData) (user : UserName) → StayKilled policy before after → kills_left policy after user ≤ kills_left policy before user
+fewer_kills_left policy before after user stay =
+    fewer_pass (is_left_to policy before user) (is_left_to policy after user)
+    (λ (a : Account) h. left_before (may_kill (role_in policy.users user) a.name) (is_killed policy before a.name) (is_killed policy after a.name) (stay.stays a.name) h)
+    policy.accounts
+
+pub fewer_alive : (policy : PolicyData) (before after : List RecordData) → StayKilled policy before after
+    → length (filter (is_alive policy after) policy.accounts) ≤ length (filter (is_alive policy before) policy.accounts)
+fewer_alive policy before after stay =
+    fewer_pass (is_alive policy before) (is_alive policy after)
+    (λ (a : Account) h. left_before true (is_killed policy before a.name) (is_killed policy after a.name) (stay.stays a.name) h)
+    policy.accounts
+
+-- an officer who has the power and the account may kill it
+may : (policy : PolicyData) (history : List RecordData) (role : Option Role) (account : AccountName)
+    → has_power role (actions.Kill account) ≡ true → are_his policy history role (actions.Kill account) ≡ true → may_kill role account ≡ true
+may policy history (Some (roles.Officer powers scope)) account power his = ap (λ b. b && covers scope account) power ∙ his
+may policy history (Some (roles.Trader other)) account power his = cc
+may policy history (Some (roles.Reader names)) account power his = cc
+may policy history None account power his = cc
+
+change_is_no_bar : (policy : PolicyData) (history : List RecordData) (a : Asked) (r : RecordData)
+    → next policy history (steps.Asked a) ≡ Some r → r.verdict ≡ verdicts.Granted → forbids Q4 (facts_now policy history a) a.request ≡ false
+unfolding rules_behind
+change_is_no_bar policy history a r left granted =
+    none_among (λ (name : RuleName). forbids name (facts_now policy history a) a.request) (Q1 ∷ Q2 ∷ Q3 ∷ []) Q4 (drop 4 rules_behind)
+    (none_behind (rules_now policy history a) (facts_now policy history a) a.request (granted_passes policy history a r left granted))
+
+-- a granted command changes something
+changes_something : (policy : PolicyData) (history : List RecordData) (a : Asked) (r : RecordData) (action : Action) → GrantsCommand r a action
+    → next policy history (steps.Asked a) ≡ Some r → changes policy history a.user action ≡ true
+unfolding facts
+changes_something policy history a r action g left =
+    let test : Action → Bool = changes policy history a.user in
+    ap test (sym g.is_for)
+    ∙ not-false (test g.command.action) (sym (ap (λ (q : Request). is_command q && not (of_command test q)) g.is_command) ∙ change_is_no_bar policy history a r left g.grants)
+
+-- what a granted Kill finds
+pub record Kills (policy : PolicyData) (history : List RecordData) (r : RecordData) (a : Asked) (account : AccountName) : Type 0 where
+  pub is_known : is_some (account_named policy account) ≡ true
+  pub may : may_kill (role_in policy.users a.user) account ≡ true
+  pub was_alive : is_killed policy history account ≡ false
+  pub is_killed_now : is_killed policy (history ++ r ∷ []) account ≡ true
+  pub stay : StayKilled policy history (history ++ r ∷ [])
+
+not_true : (b : Bool) → not b ≡ true → b ≡ false
+not_true true h = cc
+not_true false h = refl
+
+pub kill_finds : (policy : PolicyData) (history : List RecordData) (a : Asked) (r : RecordData) (account : AccountName) → next policy history (steps.Asked a) ≡ Some r
+    → GrantsCommand r a (actions.Kill account) → Kills policy history r a account
+kill_finds policy history a r account left g = record {
+  is_known = names_are_known policy history a r (actions.Kill account) g left;
+  may = may policy history (role_in policy.users a.user) account (has_the_power policy history a r (actions.Kill account) g left) (has_the_accounts policy history a r (actions.Kill account) g left);
+  was_alive = not_true (is_killed policy history account) (changes_something policy history a r (actions.Kill account) g left);
+  is_killed_now = kill_kills policy history r a account g;
+  stay = command_lifts_none policy history r a (actions.Kill account) g refl;
+}
+
+there : {X : Type 0} (found : Option X) → is_some found ≡ true → (x : X) × (found ≡ Some x)
+there None h = cc
+there (Some x) h = (x, refl)
+
+-- one account less is left to the officer
+pub one_kill_less : (policy : PolicyData) (history : List RecordData) (r : RecordData) (a : Asked) (account : AccountName) → Kills policy history r a account
+    → kills_left policy (history ++ r ∷ []) a.user + 1 ≤ kills_left policy history a.user
+one_kill_less policy history r a account k =
+    let it = there (account_named policy account) k.is_known in
+    one_less_passes (is_left_to policy history a.user) (is_left_to policy (history ++ r ∷ []) a.user) (λ (x : Account). same_account x.name account)
+    (λ (x : Account) h. left_before (may_kill (role_in policy.users a.user) x.name) (is_killed policy history x.name) (is_killed policy (history ++ r ∷ []) x.name) (k.stay.stays x.name) h)
+    (λ (x : Account) h. this x (account_is x.name account h)) policy.accounts it.0 it.1
+  where
+    passes : Bool → Bool → Bool
+    passes m killed = m && not killed
+
+    this : (x : Account) → x.name ≡ account → (is_left_to policy history a.user x ≡ true) × (is_left_to policy (history ++ r ∷ []) a.user x ≡ false)
+    this x is = (
+      ap (λ (n : AccountName). may_kill (role_in policy.users a.user) n && not (is_killed policy history n)) is
+          ∙ ap (λ b. b && not (is_killed policy history account)) k.may ∙ ap not k.was_alive,
+      ap (λ (n : AccountName). may_kill (role_in policy.users a.user) n && not (is_killed policy (history ++ r ∷ []) n)) is
+          ∙ ap (λ b. b && not (is_killed policy (history ++ r ∷ []) account)) k.may ∙ ap not k.is_killed_now,
+    )
+
+-- and one less is alive
+pub one_less_alive : (policy : PolicyData) (history : List RecordData) (r : RecordData) (a : Asked) (account : AccountName) → Kills policy history r a account
+    → length (filter (is_alive policy (history ++ r ∷ [])) policy.accounts) + 1 ≤ length (filter (is_alive policy history) policy.accounts)
+one_less_alive policy history r a account k =
+    let it = there (account_named policy account) k.is_known in
+    one_less_passes (is_alive policy history) (is_alive policy (history ++ r ∷ [])) (λ (x : Account). same_account x.name account)
+    (λ (x : Account) h. left_before true (is_killed policy history x.name) (is_killed policy (history ++ r ∷ []) x.name) (k.stay.stays x.name) h)
+    (λ (x : Account) h. let is : x.name ≡ account = account_is x.name account h in (
+      ap (λ (n : AccountName). not (is_killed policy history n)) is ∙ ap not k.was_alive,
+      ap (λ (n : AccountName). not (is_killed policy (history ++ r ∷ []) n)) is ∙ ap not k.is_killed_now,
+    )) policy.accounts it.0 it.1
+
+-- there are never more for him than all, and none for who is no officer
+pub no_more_kills : (policy : PolicyData) (history : List RecordData) (user : UserName) → kills_left policy history user ≤ most_kills policy user
+no_more_kills policy history user = by (is_officer (role_in policy.users user)) refl
+  where
+    none : (role : Option Role) → is_officer role ≡ false → (accounts : List Account) → length (filter (λ (a : Account). may_kill role a.name && not (is_killed policy history a.name)) accounts) ≤ 0
+    none (Some (roles.Officer powers scope)) h accounts = cc
+    none (Some (roles.Trader other)) h [] = omega arith
+    none (Some (roles.Trader other)) h (a ∷ accounts) = none (Some (roles.Trader other)) h accounts
+    none (Some (roles.Reader names)) h [] = omega arith
+    none (Some (roles.Reader names)) h (a ∷ accounts) = none (Some (roles.Reader names)) h accounts
+    none None h [] = omega arith
+    none None h (a ∷ accounts) = none None h accounts
+
+    by : (b : Bool) → is_officer (role_in policy.users user) ≡ b → kills_left policy history user ≤ cond b (length policy.accounts) 0
+    by true is = most_pass (is_left_to policy history user) policy.accounts
+    by false is = none (role_in policy.users user) is policy.accounts
+
+-- what is unreadable is denied
+pub unreadable_is_denied : (policy : PolicyData) (history : List RecordData) (a : Asked) (r : RecordData)
+    → next policy history (steps.Asked a) ≡ Some r → r.verdict ≡ verdicts.Granted → is_unreadable a.request ≡ false
+unfolding rules_before
+unreadable_is_denied policy history a r left granted =
+    none_among (λ (name : RuleName). forbids name (facts_now policy history a) a.request)
+    (L1 ∷ L2 ∷ L3 ∷ G1 ∷ G2 ∷ []) G3 (drop 6 rules_before)
+    (granted_passes_before policy history a r left granted)
+
+-- ---- who is logged in
+
+line_is_no_bar : (policy : PolicyData) (history : List RecordData) (a : Asked) (r : RecordData)
+    → next policy history (steps.Asked a) ≡ Some r → r.verdict ≡ verdicts.Granted → forbids G1 (facts_now policy history a) a.request ≡ false
+unfolding rules_before
+line_is_no_bar policy history a r left granted =
+    none_among (λ (name : RuleName). forbids name (facts_now policy history a) a.request) (L1 ∷ L2 ∷ L3 ∷ []) G1 (drop 4 rules_before)
+    (granted_passes_before policy history a r left granted)
+
+on_this_line : (policy : PolicyData) (history : List RecordData) (a : Asked) → (facts_now policy history a).is_on_this_line ≡ is_on_line (line_of history a.user) a.line
+unfolding facts
+on_this_line policy history a = refl
+
+-- who is granted a Logout is on a line
+pub was_on : (policy : PolicyData) (history : List RecordData) (a : Asked) (r : RecordData)
+    → next policy history (steps.Asked a) ≡ Some r → r.verdict ≡ verdicts.Granted → a.request ≡ requests.Logout → is_some (line_of history a.user) ≡ true
+was_on policy history a r left granted asks =
+    on (line_of history a.user)
+    (sym (on_this_line policy history a)
+    ∙ not-false (facts_now policy history a).is_on_this_line (sym (ap (forbids G1 (facts_now policy history a)) asks) ∙ line_is_no_bar policy history a r left granted))
+  where
+    on : (line : Option ℕ) → is_on_line line a.line ≡ true → is_some line ≡ true
+    on None h = h
+    on (Some n) h = refl

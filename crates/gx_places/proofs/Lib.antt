@@ -1,0 +1,4 @@
+pub mod Counting
+pub mod Held
+pub mod Kills
+pub mod Asked

@@ -1,0 +1,92 @@
+-- The places that are kept beforehand, so that each Kill and each Logout that may be granted can be recorded and told.
+use Rattle.std.specs.Prelude.{ℕ, ◌+◌, Bool, true, false, ◌&&◌, not, is_some, length, List, Option, Some, if◌then◌else◌}
+use Rattle.std.specs.List.{filter}
+use Rattle.gx_units.specs.Names.{same_user}
+use Rattle.gx_units.specs.declared.names.AccountName.{AccountName}
+use Rattle.gx_units.specs.declared.names.UserName.{UserName}
+use Rattle.gx_desk.specs.declared.Action.{Action}
+use Rattle.gx_desk.specs.declared.Action.TheVariants as actions
+use Rattle.gx_history.specs.declared.policy.Account.{Account}
+use Rattle.gx_history.specs.declared.policy.PolicyData.{PolicyData}
+use Rattle.gx_history.specs.declared.policy.Role.{Role}
+use Rattle.gx_history.specs.declared.policy.Role.TheVariants as roles
+use Rattle.gx_history.specs.declared.policy.User.{User}
+use Rattle.gx_history.specs.declared.record.RecordData.{RecordData}
+use Rattle.gx_history.specs.declared.record.Request.{Request}
+use Rattle.gx_history.specs.declared.record.Request.TheVariants as requests
+use Rattle.gx_history.specs.declared.record.Verdict.{Verdict}
+use Rattle.gx_history.specs.declared.record.Verdict.TheVariants as verdicts
+use Rattle.gx_history.specs.Executions.{Standing, live_orders}
+use Rattle.gx_history.specs.InForce.{is_killed, line_of}
+use Rattle.gx_history.specs.People.{covers, is_officer, role_in}
+
+-- the order is the user's
+abbrev pub is_of_user : UserName → Standing → Bool
+is_of_user user s = same_user s.order.user user
+
+-- how many orders of the user are live: a Kill may end each of them
+abbrev pub orders_held : PolicyData → List RecordData → UserName → ℕ
+orders_held policy history user = length (filter (is_of_user user) (live_orders policy history))
+
+-- an officer who may kill the account
+abbrev pub may_kill : Option Role → AccountName → Bool
+may_kill (Some (roles.Officer powers scope)) account = powers.kill && covers scope account
+may_kill other account = false
+
+-- the user may kill the account, and a Kill would change it
+abbrev pub is_left_to : PolicyData → List RecordData → UserName → Account → Bool
+is_left_to policy history user a = may_kill (role_in policy.users user) a.name && not (is_killed policy history a.name)
+
+-- how many accounts there are that he may kill and that are not killed: each Kill of his has an answer
+abbrev pub kills_left : PolicyData → List RecordData → UserName → ℕ
+kills_left policy history user = length (filter (is_left_to policy history user) policy.accounts)
+
+-- the places that are kept for reports to the user
+abbrev pub report_places : PolicyData → List RecordData → UserName → ℕ
+report_places policy history user = orders_held policy history user + kills_left policy history user
+
+-- the most accounts that there can be for him to kill
+abbrev pub most_kills : PolicyData → UserName → ℕ
+most_kills policy user = if is_officer (role_in policy.users user) then length policy.accounts else 0
+
+-- so many places are enough for what a record tells the user, and for what is kept behind it: two more than for his orders and kills,
+-- since one record tells him of one thing beside the orders of his that it ends, or of two, and brings him one order at most
+abbrev pub enough_places : PolicyData → List RecordData → UserName → ℕ
+enough_places policy history user = orders_held policy history user + most_kills policy user + 2
+
+-- the account is not killed
+abbrev pub is_alive : PolicyData → List RecordData → Account → Bool
+is_alive policy history a = not (is_killed policy history a.name)
+
+-- the user is logged in
+abbrev pub is_on : List RecordData → User → Bool
+is_on history u = is_some (line_of history u.name)
+
+-- the places that are kept for records: one for each account that a Kill would change, and one for each user who may log out
+abbrev pub record_places : PolicyData → List RecordData → ℕ
+record_places policy history = length (filter (is_alive policy history) policy.accounts) + length (filter (is_on history) policy.users)
+
+-- there are never more than these
+abbrev pub most_record_places : PolicyData → ℕ
+most_record_places policy = length policy.accounts + length policy.users
+
+-- a Kill or a Logout
+abbrev pub is_kill_or_logout : Request → Bool
+is_kill_or_logout requests.Logout = true
+is_kill_or_logout (requests.Command c) = elim c.action [ actions.Kill account ↦ true | _ ↦ false ]
+is_kill_or_logout other = false
+
+-- a granted Kill or Logout: its record, and what it tells, have their places
+abbrev pub has_kept_places : Request → Verdict → Bool
+has_kept_places q verdicts.Granted = is_kill_or_logout q
+has_kept_places q other = false
+
+-- a Lift or a Close Day, after which many a user may want more places, or is told
+abbrev pub is_lift_or_close : Request → Bool
+is_lift_or_close (requests.Command c) = elim c.action [ actions.Lift account ↦ true | actions.CloseDay ↦ true | _ ↦ false ]
+is_lift_or_close other = false
+
+-- a granted Lift or Close Day
+abbrev pub concerns_many : Request → Verdict → Bool
+concerns_many q verdicts.Granted = is_lift_or_close q
+concerns_many q other = false
