@@ -5,7 +5,7 @@ use gx_audit::{AuditFault, RECORD_SIZE, check_record, read_record, wrong_field};
 use gx_core::Gate;
 use gx_history::policy::Policy;
 use gx_history::record::RecordData;
-use gx_script::{append, append_number, verdict_text};
+use gx_script::{append, append_number, append_verdict};
 use gx_units::OutOfMemory;
 use std::alloc::Global;
 
@@ -65,8 +65,7 @@ fn append_said(line: &mut Vec<u8>, content: &RecordData) -> Result<(), OutOfMemo
     append(line, b"at ")?;
     append_number(line, content.moment)?;
     append(line, b" ")?;
-    let words = verdict_text(*line.allocator(), &content.verdict)?;
-    append(line, words.as_slice())
+    append_verdict(line, &content.verdict)
 }
 
 /// The record that the step of an illegal one leaves by the rules: it is made again, behind the records before it.

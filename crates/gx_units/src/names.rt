@@ -1,6 +1,8 @@
 //! Names, each in a fixed field of bytes, and two small answers that every layer gives.
 
-ghost use Rattle.std.specs.Prelude.{◌≡◌, IsTrue};
+ghost use Rattle.std.proofs.Common.{rules};
+ghost use Rattle.std.specs.Cmp.Rules.{hashing};
+ghost use Rattle.std.specs.Prelude.{◌≡◌, ◌∷◌, [], IsTrue};
 ghost use Rattle.gx_units.specs.Names.{has_no_lower_case};
 ghost use Rattle.gx_units.specs.Spelling.{folded_user, folded_password, folded_session};
 
@@ -8,6 +10,7 @@ use crate::spelling::rejustified;
 use std::alloc::{AllocError, AllocFailed};
 use std::error::Error;
 use std::fmt;
+use std::hash::{Hash, Hasher};
 
 /// The allocator refused what was asked of it.
 #[derive(Clone, Copy, Debug, PartialEq, Eq)]
@@ -34,27 +37,67 @@ impl<T: Drop> From<AllocFailed<T>> for OutOfMemory {
 }
 
 /// An order token: 14 bytes that a trader chooses, compared as bytes.
-#[derive(Clone, Copy, PartialEq, Eq, Hash)]
+#[derive(Clone, Copy, PartialEq, Eq)]
 pub struct Token {
     pub bytes: [u8; 14],
 }
 
+impl Hash for Token {
+    ghost hash_input = { λ name. name.bytes ∷ [] };
+
+    ghost respects_eq = { Prim.search (hashing, rules) };
+
+    fn hash<H: Hasher>(&self, state: &mut H) {
+        state.write(&self.bytes);
+    }
+}
+
 /// The name of a stock, padded with spaces.
-#[derive(Clone, Copy, PartialEq, Eq, Hash)]
+#[derive(Clone, Copy, PartialEq, Eq)]
 pub struct Symbol {
     pub bytes: [u8; 8],
 }
 
+impl Hash for Symbol {
+    ghost hash_input = { λ name. name.bytes ∷ [] };
+
+    ghost respects_eq = { Prim.search (hashing, rules) };
+
+    fn hash<H: Hasher>(&self, state: &mut H) {
+        state.write(&self.bytes);
+    }
+}
+
 /// The name of an account, padded with spaces.
-#[derive(Clone, Copy, PartialEq, Eq, Hash)]
+#[derive(Clone, Copy, PartialEq, Eq)]
 pub struct AccountName {
     pub bytes: [u8; 8],
 }
 
+impl Hash for AccountName {
+    ghost hash_input = { λ name. name.bytes ∷ [] };
+
+    ghost respects_eq = { Prim.search (hashing, rules) };
+
+    fn hash<H: Hasher>(&self, state: &mut H) {
+        state.write(&self.bytes);
+    }
+}
+
 /// The name of a rule, padded with spaces.
-#[derive(Clone, Copy, PartialEq, Eq, Hash)]
+#[derive(Clone, Copy, PartialEq, Eq)]
 pub struct RuleId {
     pub bytes: [u8; 8],
+}
+
+impl Hash for RuleId {
+    ghost hash_input = { λ name. name.bytes ∷ [] };
+
+    ghost respects_eq = { Prim.search (hashing, rules) };
+
+    fn hash<H: Hasher>(&self, state: &mut H) {
+        state.write(&self.bytes);
+    }
 }
 
 /// A firm, padded with spaces.
@@ -65,9 +108,19 @@ pub struct Firm {
 
 /// The name of a user, padded with spaces. It is compared in upper case: `folded` gives the form in which the gate
 /// keeps it.
-#[derive(Clone, Copy, PartialEq, Eq, Hash)]
+#[derive(Clone, Copy, PartialEq, Eq)]
 pub struct UserName {
     pub bytes: [u8; 6],
+}
+
+impl Hash for UserName {
+    ghost hash_input = { λ name. name.bytes ∷ [] };
+
+    ghost respects_eq = { Prim.search (hashing, rules) };
+
+    fn hash<H: Hasher>(&self, state: &mut H) {
+        state.write(&self.bytes);
+    }
 }
 
 impl UserName {
