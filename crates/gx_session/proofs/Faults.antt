@@ -10,12 +10,14 @@ use Rattle.gx_soup.specs.declared.packet.SoupFault.{SoupFault}
 use Rattle.gx_soup.specs.Packets.{packets_of}
 use Rattle.gx_soup.specs.Feeding.{Held, HasRead, Gives}
 use Rattle.gx_soup.proofs.PacketLaws.{packets_grow}
+use Rattle.gx_places.specs.Places.{has_kept_places}
 use Rattle.gx_core.specs.Gates.{GateData}
 use Rattle.gx_history.specs.declared.record.Request.TheVariants as requests
 use Rattle.gx_units.specs.declared.names.UserName.{UserName}
 use Rattle.gx_session.specs.declared.connection.Connection.{Connection}
 use Rattle.gx_session.specs.declared.event.Next.{Next}
 use Rattle.gx_session.specs.declared.event.Next.TheVariants as nexts
+use Rattle.gx_session.specs.declared.event.Reply.{Reply}
 use Rattle.gx_session.specs.declared.fault.PipeFault.{PipeFault}
 use Rattle.gx_session.specs.declared.fault.PipeFault.TheVariants.{OutOfMemory, ReadFailed, WriteFailed, DayFull, Endless}
 use Rattle.gx_session.specs.declared.session.Phase.{Phase}
@@ -24,10 +26,12 @@ use Rattle.gx_devices.specs.Devices.{IsFront}
 use Rattle.gx_session.specs.Events.{asks_step, is_over}
 use Rattle.gx_session.specs.Happenings.{Happening}
 use Rattle.gx_session.specs.Happenings as happens
-use Rattle.gx_session.specs.Piping.{after_logout, is_never_refused, logout_of, step_of, IsTaken, IsUndone, IsGivenUp, IsPullGivenUp, IsOfSending, IsOfStep, IsOfMatching, IfFullIsClosed, IsMatchedInPart, IsAt, matched_of, IsMade, IsWithin, IsLeaving, StopsAt, IsCutShort, Follows, Broken, IsFault, LoggedOut, IsAfterFault}
-use Rattle.gx_core.specs.Asking.{asked_by, stepped}
+use Rattle.gx_session.specs.Piping.{after_logout, is_never_refused, logout_of, step_of, IsTaken, IsUndone, IsGivenUp, IsPullGivenUp, IsOfSending, IsOfStep, IsOfMatching, IfFullIsClosed, IsMatchedInPart, IsAt, row_of, matched_of, IsMade, IsWithin, IsLeaving, StopsAt, IsCutShort, Follows, Broken, IsFault, LoggedOut, IsAfterFault}
+use Rattle.gx_core.specs.Asking.{asked_by}
 use Rattle.gx_session.specs.Table.{SessionData, row_in, turn}
 use Rattle.gx_session.specs.Transcript.{Run, with_text, silent, and_then, acted, is_on, on_event, ticked, answered, matched, pulled, handled, on_packet, opened, run_of, finished}
+use Rattle.gx_session.specs.Serving.{IsOnLine}
+use Rattle.gx_session.proofs.OnLine.{logout_is_granted, settling_keeps, row_keeps, match_keeps, packet_keeps, packets_keep, nobody_is_on, run_keeps}
 use Rattle.gx_session.proofs.Runs.{Stands, fold_from}
 use Rattle.gx_session.proofs.Turning.{taken_behind, front_behind, front_longer}
 
@@ -109,31 +113,45 @@ module _ (At : GateData → Connection → Type 0) where
         };
       }
 
-module _ (At Then : GateData → Connection → Type 0) (leads : (gate : GateData) (connection : Connection) → At gate connection → Then gate connection) where
-  made_leads : (run : Run) (packet : ClientPacket) (text : List ℕ) (fault : PipeFault) → IsMade run packet text fault At → IsMade run packet text fault Then
-  made_leads run packet text fault (inl at) = inl (at.0, leads _ _ at.1)
-  made_leads run packet text fault (inr (inl m)) = inr (inl (record { now = m.now; in_part = m.in_part; is_at = leads _ _ m.is_at; answer = m.answer }))
-  made_leads run packet text fault (inr (inr (inl at))) = inr (inr (inl (at.0, leads _ _ at.1)))
-  made_leads run packet text fault (inr (inr (inr at))) = inr (inr (inr (at.0, leads _ _ at.1)))
+-- What holds of a user who is on holds wherever a run stops.
 
-  within_leads : (run : Run) (more : List ClientPacket) (text : List ℕ) (fault : PipeFault) → IsWithin run more text fault At → IsWithin run more text fault Then
-  within_leads run more text fault w = record { packet = w.packet; others = w.others; next = w.next; made = made_leads run w.packet text fault w.made; rest = w.rest; front = w.front }
+module _ (At Then : GateData → Connection → Type 0) (leads : (gate : GateData) (connection : Connection) → IsOnLine gate connection → At gate connection → Then gate connection) where
+  made_leads : (run : Run) (packet : ClientPacket) (text : List ℕ) (fault : PipeFault) → IsOnLine run.gate run.connection → IsMade run packet text fault At → IsMade run packet text fault Then
+  made_leads run packet text fault on (inl at) = inl (at.0, leads _ _ (row_keeps run.gate run.connection packet run.connection.coming on) at.1)
+  made_leads run packet text fault on (inr (inl m)) =
+      let row = row_of run packet in
+      let still = settling_keeps row.gate m.now row.connection run.connection.coming m.in_part.matches (row_keeps run.gate run.connection packet run.connection.coming on) in
+      inr (inl (record { now = m.now; in_part = m.in_part; is_at = leads _ _ still m.is_at; answer = m.answer }))
+  made_leads run packet text fault on (inr (inr (inl at))) =
+      let row = row_of run packet in
+      inr (inr (inl (at.0, leads _ _ (match_keeps row.gate row.connection run.connection.coming (row_keeps run.gate run.connection packet run.connection.coming on)) at.1)))
+  made_leads run packet text fault on (inr (inr (inr at))) = inr (inr (inr (at.0, leads _ _ (packet_keeps run packet on) at.1)))
 
-  stops_lead : (fault : PipeFault) (run : Run) (more : List ClientPacket) (text : List ℕ) → StopsAt fault run more text At → StopsAt fault run more text Then
-  stops_lead OutOfMemory run more text (inl b) = inl (b.0, leads _ _ b.1)
-  stops_lead OutOfMemory run more text (inr w) = inr (within_leads run more text OutOfMemory w)
-  stops_lead WriteFailed run more text (inl b) = inl (b.0, leads _ _ b.1)
-  stops_lead WriteFailed run more text (inr w) = inr (within_leads run more text WriteFailed w)
-  stops_lead DayFull run more text (inl b) = inl (b.0, leads _ _ b.1)
-  stops_lead DayFull run more text (inr w) = inr (within_leads run more text DayFull w)
-  stops_lead ReadFailed run more text b = (b.0, (b.1.0, leads _ _ b.1.1))
-  stops_lead Endless run more text b = (b.0, (b.1.0, leads _ _ b.1.1))
+  within_leads : (run : Run) (more : List ClientPacket) (text : List ℕ) (fault : PipeFault) → IsOnLine run.gate run.connection → IsWithin run more text fault At → IsWithin run more text fault Then
+  within_leads run more text fault on w = record { packet = w.packet; others = w.others; next = w.next; made = made_leads run w.packet text fault on w.made; rest = w.rest; front = w.front }
+
+  stops_lead : (fault : PipeFault) (run : Run) (more : List ClientPacket) (text : List ℕ) → IsOnLine run.gate run.connection → StopsAt fault run more text At → StopsAt fault run more text Then
+  stops_lead OutOfMemory run more text on (inl b) = inl (b.0, leads _ _ on b.1)
+  stops_lead OutOfMemory run more text on (inr w) = inr (within_leads run more text OutOfMemory on w)
+  stops_lead WriteFailed run more text on (inl b) = inl (b.0, leads _ _ on b.1)
+  stops_lead WriteFailed run more text on (inr w) = inr (within_leads run more text WriteFailed on w)
+  stops_lead DayFull run more text on (inl b) = inl (b.0, leads _ _ on b.1)
+  stops_lead DayFull run more text on (inr w) = inr (within_leads run more text DayFull on w)
+  stops_lead ReadFailed run more text on b = (b.0, (b.1.0, leads _ _ on b.1.1))
+  stops_lead Endless run more text on b = (b.0, (b.1.0, leads _ _ on b.1.1))
 
   fault_leads : (input left output written : Option (List ℕ)) (before : GateData) (first : ℕ) (fault : PipeFault) → IsFault input left output written before first fault At → IsFault input left output written before first fault Then
   fault_leads input left output written before first fault f = record {
     bytes = f.bytes;
     consumed = f.consumed;
-    cut = record { packets = f.cut.packets; more = f.cut.more; split = f.cut.split; text = f.cut.text; written = f.cut.written; stop = stops_lead fault _ _ _ f.cut.stop };
+    cut = record {
+      packets = f.cut.packets;
+      more = f.cut.more;
+      split = f.cut.split;
+      text = f.cut.text;
+      written = f.cut.written;
+      stop = stops_lead fault _ _ _ (packets_keep f.cut.packets (opened before first) (nobody_is_on before first)) f.cut.stop;
+    };
     prompt = record { earlier = f.prompt.earlier; piece = f.prompt.piece; read = f.prompt.read; small = f.prompt.small; behind = f.prompt.behind; answered = f.prompt.answered };
   }
 
@@ -306,10 +324,12 @@ row_leaves Abandoned happens.Fault silent quiet k = refl
 row_leaves Done happens.Fault silent quiet k = refl
 
 -- a fault of the input, its end and a refused step ask for the same
-pub leaves_as_at_the_end : (gate : GateData) (c : Connection) (e : Happening) (next : Next) (moment : ℕ) → IsLeaving e → moment ≡ c.session.heard → next ≡ (turn c.session e moment).reply.next → acted gate c.user moment next ≡ (finished (silent gate c)).gate
+pub leaves_as_at_the_end : (gate : GateData) (c : Connection) (e : Happening) (reply : Reply) (moment : ℕ) → IsLeaving e → moment ≡ c.session.heard → reply ≡ (turn c.session e moment).reply
+    → acted gate c.user moment reply.next ≡ (finished (silent gate c)).gate
 unfolding finished on_event turn
-leaves_as_at_the_end gate c e next moment k m n =
-    ap (acted gate c.user moment) (n ∙ row_leaves c.session.phase e _ _ k) ∙ ap (λ h. (on_event gate c happens.End h).gate) m
+leaves_as_at_the_end gate c e reply moment k m r =
+    ap (acted gate c.user moment) (ap (λ (x : Reply). x.next) r ∙ row_leaves c.session.phase e _ _ k)
+    ∙ ap (λ h. (on_event gate c happens.End h).gate) m
 
 -- a user who is on is logged out, and nobody else
 abbrev AsksAtTheEnd : Phase → Next → Type 0
@@ -351,28 +371,44 @@ refused_at_the_end gate c next (inl asks) not =
 refused_at_the_end gate c next (inr asks) not = ap (is_never_refused gate) (no_logout c asks.1)
 
 -- of a logout that was refused
-pub refused_as_at_the_end : (gate : GateData) (c : Connection) (e : Happening) (next : Next) (moment : ℕ) → IsLeaving e → moment ≡ c.session.heard → next ≡ (turn c.session e moment).reply.next
-    → is_never_refused gate (step_of c.user moment next) ≡ false → is_never_refused gate (logout_of c) ≡ false
+pub refused_as_at_the_end : (gate : GateData) (c : Connection) (e : Happening) (reply : Reply) (moment : ℕ) → IsLeaving e → moment ≡ c.session.heard → reply ≡ (turn c.session e moment).reply
+    → is_never_refused gate (step_of c.user moment reply.next) ≡ false → is_never_refused gate (logout_of c) ≡ false
 unfolding turn
-refused_as_at_the_end gate c e next moment k m n not =
+refused_as_at_the_end gate c e reply moment k m r not =
     refused_at_the_end gate c (turn c.session happens.End moment).reply.next (end_asks c.session moment)
     (ap (λ h. is_never_refused gate (step_of c.user h (turn c.session happens.End moment).reply.next)) (sym m)
-    ∙ ap (λ x. is_never_refused gate (step_of c.user moment x)) (sym (n ∙ row_leaves c.session.phase e _ _ k))
+    ∙ ap (λ x. is_never_refused gate (step_of c.user moment x)) (sym (ap (λ (x : Reply). x.next) r ∙ row_leaves c.session.phase e _ _ k))
     ∙ not)
 
-finished_at : (now after : GateData) (state : Connection) → after ≡ (finished (silent now state)).gate → (gate : GateData) (connection : Connection) → IsAt now state gate connection → LoggedOut after gate connection
+finished_at : (now after : GateData) (state : Connection) → after ≡ (finished (silent now state)).gate → (gate : GateData) (connection : Connection) → IsOnLine gate connection → IsAt now state gate connection → LoggedOut after gate connection
 unfolding finished on_event
-finished_at now after state e gate connection at =
-    inl (
+finished_at now after state e gate connection on at =
     e
     ∙ acted_at_the_end now state (turn state.session happens.End state.session.heard).reply.next (end_asks state.session state.session.heard)
     ∙ ap (after_logout now) at.1
     ∙ ap (λ g. after_logout g (logout_of connection)) at.0
-    )
 
-refused_at : (now after : GateData) (state : Connection) → after ≡ now → is_never_refused now (logout_of state) ≡ false → (gate : GateData) (connection : Connection) → IsAt now state gate connection → LoggedOut after gate connection
-refused_at now after state e not gate connection at =
-    inr (e ∙ at.0, ap (λ g. is_never_refused g (logout_of connection)) (sym at.0) ∙ ap (is_never_refused now) (sym at.1) ∙ not)
+-- the logout of a user who is on is never refused
+never_refused_when_on : (gate : GateData) (c : Connection) → IsOnLine gate c → is_on c.session.phase ≡ true → is_never_refused gate (logout_of c) ≡ true
+never_refused_when_on gate c line on =
+    ap (is_never_refused gate) (logout_when_on c on)
+    ∙ ap (has_kept_places requests.Logout) (logout_is_granted gate.policy gate.records c.user c.session.heard (line on))
+
+pub run_may_leave : (gate : GateData) (first : ℕ) (bytes : List ℕ) → (run_of gate first bytes).connection.session.phase ≡ On
+    → is_never_refused (run_of gate first bytes).gate (logout_of (run_of gate first bytes).connection) ≡ true
+run_may_leave gate first bytes on =
+    let run = run_of gate first bytes in
+    never_refused_when_on run.gate run.connection (run_keeps gate first bytes) (ap is_on on)
+
+refused_at : (now after : GateData) (state : Connection) → after ≡ now → is_never_refused now (logout_of state) ≡ false → (gate : GateData) (connection : Connection) → IsOnLine gate connection → IsAt now state gate connection → LoggedOut after gate connection
+refused_at now after state e not gate connection line at = by (is_on connection.session.phase) refl
+  where
+    same : is_never_refused gate (logout_of connection) ≡ false
+    same = ap (λ g. is_never_refused g (logout_of connection)) (sym at.0) ∙ ap (is_never_refused now) (sym at.1) ∙ not
+
+    by : (b : Bool) → is_on connection.session.phase ≡ b → after ≡ after_logout gate (logout_of connection)
+    by true on = let clash : true ≡ false = sym (never_refused_when_on gate connection line on) ∙ same in cc
+    by false off = e ∙ at.0 ∙ ap (after_logout gate) (sym (no_logout connection off))
 
 pub after_either : {T E : Type 0} (input left output written : Option (List ℕ)) (before : GateData) (first : ℕ) (now after : GateData) (state state' : Connection) (fault : PipeFault) (r : Result T E) → IsFault input left output written before first fault (IsAt now state) → OnOk r (after ≡ (finished (silent now state)).gate) → OnErr r ((after ≡ now) × (state' ≡ state)) → OnErr r (is_never_refused now (logout_of state) ≡ false) → IsAfterFault input left output written before first after fault
 after_either input left output written before first now after state state' fault (Ok x) f ok err not =

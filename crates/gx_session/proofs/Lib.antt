@@ -5,4 +5,5 @@ pub mod Turning
 pub mod Runs
 pub mod Faults
 pub mod Serving
+pub mod OnLine
 pub mod NoneWaits

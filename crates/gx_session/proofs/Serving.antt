@@ -61,7 +61,7 @@ spelled_on (x ∷ xs) ys =
     ap (λ rest. report_packet x ++ rest) (spelled_on xs ys) ∙ sym (append_assoc (report_packet x) (flat_map report_packet xs) (flat_map report_packet ys))
 
 -- the record that a request leaves
-left_of : GateData → Asked → RecordData
+unfoldable pub left_of : GateData → Asked → RecordData
 left_of gate a = record {
   number = length gate.records + 1;
   moment = moment_of gate.records (steps.Asked a);
@@ -69,7 +69,7 @@ left_of gate a = record {
   verdict = verdict gate.policy gate.records a;
 }
 
-left_is : (gate : GateData) (a : Asked) → next gate.policy gate.records (steps.Asked a) ≡ Some (left_of gate a)
+pub left_is : (gate : GateData) (a : Asked) → next gate.policy gate.records (steps.Asked a) ≡ Some (left_of gate a)
 unfolding left_of
 left_is gate a = left_by_request gate.policy gate.records a
 
@@ -192,7 +192,7 @@ first_within wanted old now true e w o = (omega arith, omega arith)
 first_within wanted old now false e w o = (grind (arith, nat_tests), omega arith)
 
 -- an answer that accepts comes of a granted login alone
-rejects : (policy : PolicyData) (history : List RecordData) (user : UserName) (wanted : ℕ) (rule : RuleName)
+pub rejects : (policy : PolicyData) (history : List RecordData) (user : UserName) (wanted : ℕ) (rule : RuleName)
     → (reason : LoginRejection) × (login_answered policy history user wanted (verdicts.Denied rule) ≡ answers.Rejected reason)
 rejects policy history user wanted L1 = (rejections.NotAuthorized, refl)
 rejects policy history user wanted L2 = (rejections.NotAuthorized, refl)
@@ -221,7 +221,7 @@ rejects policy history user wanted Q3 = (rejections.NotAuthorized, refl)
 rejects policy history user wanted Q4 = (rejections.NotAuthorized, refl)
 rejects policy history user wanted (File rule) = (rejections.NotAuthorized, refl)
 
-never : {P : Type 0} (answer : LoginAnswer) (reason : LoginRejection) (name : SessionName) (from : ℕ) → answer ≡ answers.Rejected reason → answer ≡ answers.Accepted name from → P
+pub never : {P : Type 0} (answer : LoginAnswer) (reason : LoginRejection) (name : SessionName) (from : ℕ) → answer ≡ answers.Rejected reason → answer ≡ answers.Accepted name from → P
 never answer reason name from e f = cc
 
 record IsAcceptance (gate : GateData) (moment : ℕ) (login : LoginRequest) (name : SessionName) (from : ℕ) : Type 0 where

@@ -7,9 +7,7 @@ use Rattle.gx_core.specs.declared.outcome.StepFault.{StepFault}
 use Rattle.gx_core.specs.declared.outcome.StepFault.TheVariants as refusals
 use Rattle.gx_session.specs.Faults.{fault_of_step, HasRoom, IsToldFull}
 use Rattle.gx_session.specs.Piping.{IsOfMatching, IsOfStep}
-use Rattle.std.proofs.Common.{◌≡◌, ℕ, ◌<◌, ◌≤◌, ◌⊎◌, inl, inr, subst, Bool, true, false, Result, Ok, Err, is_some, List, [], ◌∷◌, ◌++◌, length, take, Option, None, Some, option_map, refl, sym, ap, ◌∙◌, arith, length-take}
-use Rattle.std.specs.Option.{option_map_or}
-use Rattle.std.proofs.lemmas.List.{take_all}
+use Rattle.std.proofs.Common.{◌≡◌, ℕ, ◌<◌, ◌≤◌, ◌⊎◌, inl, inr, subst, Bool, true, false, Result, Ok, Err, is_some, List, [], ◌∷◌, ◌++◌, length, Option, None, Some, option_map, refl, sym, ap, ◌∙◌}
 use Rattle.gx_units.specs.Spelling.{folded_user}
 use Rattle.gx_units.specs.declared.names.UserName.{UserName}
 use Rattle.gx_soup.specs.declared.packet.LoginRequest.{LoginRequest}
@@ -17,8 +15,7 @@ use Rattle.gx_history.specs.declared.record.Asked.{Asked}
 use Rattle.gx_history.specs.declared.record.RecordData.{RecordData}
 use Rattle.gx_history.specs.declared.record.Step.TheVariants as steps
 use Rattle.gx_history.specs.declared.record.Verdict.{Verdict}
-use Rattle.gx_history.specs.declared.policy.PolicyData.{PolicyData}
-use Rattle.gx_history.specs.Verdicts.{next, verdict, after_step}
+use Rattle.gx_history.specs.Verdicts.{next, verdict}
 use Rattle.gx_history_laws.proofs.Granting.{verdict_of_next}
 use Rattle.gx_effects.proofs.Settling.{settled_idle}
 use Rattle.gx_core.specs.Gates.{GateData, left_by, matched_by}

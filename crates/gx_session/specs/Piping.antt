@@ -254,10 +254,9 @@ pub record IsFault (input left output written : Option (List ℕ)) (before : Gat
 abbrev pub after_logout : GateData → Option Asked → GateData
 after_logout gate found = option_map_or (stepped gate) found gate
 
--- The gate after the logout of the user who is logged in; only a logout that is not granted may have been refused.
+-- the gate after the logout of the user who is logged in
 abbrev pub LoggedOut : GateData → GateData → Connection → Type 0
-LoggedOut after gate connection =
-    (after ≡ after_logout gate (logout_of connection)) ⊎ ((after ≡ gate) × IsFalse (is_never_refused gate (logout_of connection)))
+LoggedOut after gate connection = after ≡ after_logout gate (logout_of connection)
 
 -- After a fault: of the packets of the bytes read, the first were taken and answered whole, and of the next one perhaps
 -- some steps and a front of its answer; the gate is that of these packets, with the user's logout.

@@ -1,5 +1,5 @@
 -- What a connection was sent, in other words than the session table's.
-use Rattle.std.specs.Prelude.{◌≡◌, ℕ, ◌+◌, ◌-◌, ◌≤◌, None, List, [], ◌++◌, length, drop}
+use Rattle.std.specs.Prelude.{◌≡◌, ℕ, ◌+◌, ◌-◌, ◌≤◌, None, Some, IsTrue, List, [], ◌++◌, length, drop}
 use Rattle.std.specs.List.{AllByRecursion}
 use Rattle.gx_units.specs.Spelling.{folded_user}
 use Rattle.gx_units.specs.declared.names.UserName.{UserName}
@@ -7,12 +7,14 @@ use Rattle.gx_soup.specs.declared.packet.ServerPacket.TheVariants as server
 use Rattle.gx_soup.specs.Writing.{server_bytes}
 use Rattle.gx_history.specs.declared.record.RecordData.{RecordData}
 use Rattle.gx_history.specs.declared.report.Report.{Report}
+use Rattle.gx_history.specs.InForce.{line_of}
 use Rattle.gx_history.specs.Requests.{asked}
 use Rattle.gx_history.specs.Streams.{stream}
 use Rattle.gx_core.specs.Gates.{GateData}
+use Rattle.gx_session.specs.declared.connection.Connection.{Connection}
 use Rattle.gx_session.specs.declared.session.Phase.{Phase}
 use Rattle.gx_session.specs.declared.session.Phase.TheVariants.{Fresh, Waiting, On, Abandoned, Done}
-use Rattle.gx_session.specs.Transcript.{Run, reports_text}
+use Rattle.gx_session.specs.Transcript.{Run, is_on, reports_text}
 
 -- the user's stream
 abbrev pub owed : GateData → UserName → List Report
@@ -49,3 +51,7 @@ IsSilent before run = HasOnlyMatched before run.gate × (run.text ≡ [])
 -- the user of the run was sent his stream from the number that he asked for
 abbrev pub WasServed : Run → Type 0
 WasServed run = IsServed run.gate run.text run.connection.user run.connection.next
+
+-- where a user is on, the gate has him on line 1
+abbrev pub IsOnLine : GateData → Connection → Type 0
+IsOnLine gate c = IsTrue (is_on c.session.phase) → line_of gate.records (folded_user c.user) ≡ Some 1

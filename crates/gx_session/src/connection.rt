@@ -317,7 +317,8 @@ impl Connection {
 
     /// Tells the session that its input has a fault or is at its end, and logs out a user who is on.
     ///
-    /// A logout that the gate grants is not refused.
+    /// A logout that the gate grants is not refused; and of a user who is on it grants it, wherever a run stops.
+    #[tactic(auto, using(crate::proofs::Faults::leaves_as_at_the_end, crate::proofs::Faults::refused_as_at_the_end))]
     pub(crate) fn leave(&mut self, gate: &mut Gate, event: Event<'_>) -> Result<(), StepFault>
         requires { IsLeaving (happening event) }
         ensures ok { OnOk result (gate.new ≡ (finished (silent gate.old self.old)).gate) }

@@ -1,13 +1,15 @@
 //! Laws of the session table and of the transcript: what was meant, in other words.
 
-ghost use Rattle.std.specs.Prelude.{◌≡◌, ℕ, ◌<◌, ◌≤◌, length, List, ◌++◌, None, count_by, IsTrue, IsFalse};
+ghost use Rattle.std.specs.Prelude.{◌≡◌, ℕ, ◌<◌, ◌≤◌, length, List, ◌++◌, None};
+ghost use Rattle.std.specs.Prelude.{count_by, IsTrue, IsFalse};
 ghost use Rattle.std.specs.List.{list_all};
 ghost use Rattle.gx_soup.specs.Packets.{packets_of};
 ghost use Rattle.gx_history.specs.Verdicts.{IsLegal};
 ghost use Rattle.gx_core.specs.Gates.{GateData};
 ghost use Rattle.gx_core.specs.Matches.{matching_of};
 ghost use Rattle.gx_session.specs.declared.session.Phase.TheVariants.{Fresh, On};
-ghost use Rattle.gx_session.specs.Serving.{WasServed, IsSilent};
+ghost use Rattle.gx_session.specs.Piping.{is_never_refused, logout_of};
+ghost use Rattle.gx_session.specs.Serving.{WasServed, IsSilent, IsOnLine};
 ghost use Rattle.gx_session.specs.Transcript.{run_of, pipe, is_ended};
 ghost use Rattle.gx_session.specs.Happenings.{Happening};
 ghost use Rattle.gx_session.specs.Table.{SessionData, turn, new_session};
@@ -75,4 +77,14 @@ pub fn nothing_follows()
     ensures { (gate : GateData) (first : ℕ) (bytes more : List ℕ)
         → IsTrue (is_ended gate first bytes)
         → pipe gate first (bytes ++ more) ≡ pipe gate first bytes }
+{}
+
+/// After each packet a user who is on is logged in on line 1, so no gate refuses his Logout.
+pub fn whoever_is_on_may_leave()
+    ensures line { (gate : GateData) (first : ℕ) (bytes : List ℕ)
+        → IsOnLine (run_of gate first bytes).gate (run_of gate first bytes).connection }
+    ensures logout { (gate : GateData) (first : ℕ) (bytes : List ℕ)
+        → (run_of gate first bytes).connection.session.phase ≡ On
+        → IsTrue (is_never_refused (run_of gate first bytes).gate
+        (logout_of (run_of gate first bytes).connection)) }
 {}

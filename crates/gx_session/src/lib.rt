@@ -15,6 +15,7 @@ pub use fault::{PipeFault, SendFault};
 pub use laws::{
     ended_sessions_are_silent, no_logout_without_a_login, no_order_waits, nothing_follows,
     one_login, silent_before_an_answer, silent_before_login, stream_is_sent,
+    whoever_is_on_may_leave,
 };
 pub use pipe::run_pipe;
 pub use sending::send_pulled;
