@@ -4,3 +4,4 @@ pub mod Texts
 pub mod ScriptRuns
 pub mod Settling
 pub mod ScriptEnds
+pub mod Fronts

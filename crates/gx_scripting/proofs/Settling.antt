@@ -70,7 +70,7 @@ refused_is gate moment waits full =
     let one : (r : RecordData) × (next_match gate moment ≡ Some r) = waits_for_one gate moment waits in
     refused_match gate moment one.0 one.1 (le-leb day_limit (length gate.records) full)
 
-take_front : {X : Type 0} (xs ys : List X) (n : ℕ) → length xs ≤ n → take n (xs ++ ys) ≡ xs ++ take (n - length xs) ys
+pub take_front : {X : Type 0} (xs ys : List X) (n : ℕ) → length xs ≤ n → take n (xs ++ ys) ≡ xs ++ take (n - length xs) ys
 take_front xs ys n h = ap (λ (k : ℕ). take k (xs ++ ys)) (omega (arith, h)) ∙ take-append-add xs ys (n - length xs)
 
 -- what settling leaves and prints, of this many records, with room for so many, where it comes to these

@@ -2,3 +2,4 @@ pub mod Scripting
 pub mod Leaving
 pub mod ScriptPiping
 pub mod ScriptTexts
+pub mod Fronts

@@ -1,7 +1,11 @@
 //! Laws of scripts.
 
-ghost use Rattle.std.specs.Prelude.{◌≡◌, ℕ, List, ◌++◌, IsTrue};
+ghost use Rattle.std.specs.Prelude.{◌≡◌, ℕ, List, ◌++◌, Option, IfSome, IsTrue};
 ghost use Rattle.gx_core.specs.Gates.{GateData};
+ghost use Rattle.gx_devices.specs.Devices.{IsFront};
+ghost use Rattle.gx_scripting.specs.declared.script_fault.ScriptFault.{ScriptFault};
+ghost use Rattle.gx_scripting.specs.Fronts.{AreFirst};
+ghost use Rattle.gx_scripting.specs.ScriptPiping.{IsCutShort};
 ghost use Rattle.gx_scripting.specs.Scripting.{cut_of, script_of, is_settled};
 ghost use Rattle.gx_scripting.specs.ScriptTexts.{joined, are_lines};
 
@@ -15,4 +19,15 @@ pub fn nothing_follows_a_bad_line()
 pub fn lines_make_the_text()
     ensures text { (text : List ℕ) → joined (cut_of text) ≡ text }
     ensures lines { (text : List ℕ) → IsTrue (are_lines (cut_of text)) }
+{}
+
+/// After a fault that is no bad line, what was written is a front of what the whole script prints, and the records
+/// are the first that it leaves; for a reader that tells its bytes.
+pub fn faults_leave_a_front()
+    ensures text { (input left output written : Option (List ℕ)) (before after : GateData)
+        (fault : ScriptFault) → IsCutShort input left output written before after fault
+        → IfSome input (λ all. IsFront output written (script_of before all).text) }
+    ensures records { (input left output written : Option (List ℕ)) (before after : GateData)
+        (fault : ScriptFault) → IsCutShort input left output written before after fault
+        → IfSome input (λ all. AreFirst after.records (script_of before all).gate.records) }
 {}

@@ -6,4 +6,5 @@ pub mod Runs
 pub mod Faults
 pub mod Serving
 pub mod OnLine
+pub mod Fronts
 pub mod NoneWaits

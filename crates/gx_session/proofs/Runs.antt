@@ -127,7 +127,7 @@ pipe_history : (before : GateData) (first : ℕ) (bytes : List ℕ) (gate : Gate
 unfolding pipe
 pipe_history before first bytes gate connection h s = finished_from (run_of before first bytes) gate connection h s
 
-pipe_text : (before : GateData) (first : ℕ) (bytes : List ℕ) → (pipe before first bytes).text ≡ (run_of before first bytes).text
+pub pipe_text : (before : GateData) (first : ℕ) (bytes : List ℕ) → (pipe before first bytes).text ≡ (run_of before first bytes).text
 unfolding pipe
 pipe_text before first bytes = finished_text (run_of before first bytes)
 
@@ -141,7 +141,7 @@ ended input left output written before first gate gate' connection feeder s f wh
   whole = whole;
 }
 
-on_done : (run : Run) (p : ClientPacket) → is_over run.connection.session.phase ≡ true → on_packet run p ≡ run
+pub on_done : (run : Run) (p : ClientPacket) → is_over run.connection.session.phase ≡ true → on_packet run p ≡ run
 unfolding handled
 on_done run p h =
     ap (λ b. with_text run.text (cond b (silent run.gate run.connection) (and_then (answered run.gate (ticked run.connection) p run.connection.coming) (λ g c. and_then (matched g c run.connection.coming) (λ g c. pulled g c run.connection.coming))))) h

@@ -6,3 +6,4 @@ pub mod Steps
 pub mod Transcript
 pub mod Piping
 pub mod Serving
+pub mod Fronts

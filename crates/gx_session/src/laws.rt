@@ -1,14 +1,17 @@
 //! Laws of the session table and of the transcript: what was meant, in other words.
 
-ghost use Rattle.std.specs.Prelude.{◌≡◌, ℕ, ◌<◌, ◌≤◌, length, List, ◌++◌, None};
+ghost use Rattle.std.specs.Prelude.{◌≡◌, ℕ, ◌<◌, ◌≤◌, length, List, ◌++◌, Option, None, IfSome};
 ghost use Rattle.std.specs.Prelude.{count_by, IsTrue, IsFalse};
 ghost use Rattle.std.specs.List.{list_all};
 ghost use Rattle.gx_soup.specs.Packets.{packets_of};
 ghost use Rattle.gx_history.specs.Verdicts.{IsLegal};
 ghost use Rattle.gx_core.specs.Gates.{GateData};
 ghost use Rattle.gx_core.specs.Matches.{matching_of};
+ghost use Rattle.gx_devices.specs.Devices.{IsFront};
+ghost use Rattle.gx_session.specs.declared.fault.PipeFault.{PipeFault};
 ghost use Rattle.gx_session.specs.declared.session.Phase.TheVariants.{Fresh, On};
-ghost use Rattle.gx_session.specs.Piping.{is_never_refused, logout_of};
+ghost use Rattle.gx_session.specs.Fronts.{AreFirst};
+ghost use Rattle.gx_session.specs.Piping.{is_never_refused, logout_of, IsAfterFault};
 ghost use Rattle.gx_session.specs.Serving.{WasServed, IsSilent, IsOnLine};
 ghost use Rattle.gx_session.specs.Transcript.{run_of, pipe, is_ended};
 ghost use Rattle.gx_session.specs.Happenings.{Happening};
@@ -87,4 +90,17 @@ pub fn whoever_is_on_may_leave()
         → (run_of gate first bytes).connection.session.phase ≡ On
         → IsTrue (is_never_refused (run_of gate first bytes).gate
         (logout_of (run_of gate first bytes).connection)) }
+{}
+
+/// After a fault what was written is a front of what the pipe of the whole input writes, and the records are the
+/// first of the pipe's, with at most the granted Logout of a user behind them; for a reader that tells its bytes.
+pub fn faults_leave_a_front()
+    ensures text { (input left output written : Option (List ℕ)) (before : GateData) (first : ℕ)
+        (after : GateData) (fault : PipeFault)
+        → IsAfterFault input left output written before first after fault
+        → IfSome input (λ all. IsFront output written (pipe before first all).text) }
+    ensures records { (input left output written : Option (List ℕ)) (before : GateData)
+        (first : ℕ) (after : GateData) (fault : PipeFault)
+        → IsAfterFault input left output written before first after fault
+        → IfSome input (λ all. AreFirst after.records (pipe before first all).gate.records) }
 {}

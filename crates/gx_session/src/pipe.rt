@@ -135,7 +135,7 @@ fn told<'a>(fault: PipeFault) -> Event<'a>
 /// until none waits, and the reports that are there are sent.
 ///
 /// A refused matching step ends the run as any refused step does. After a fault a user who is on is logged
-/// out at the moment of the last packet, even where no memory is left.
+/// out at the moment of the last packet, without exception: it wants no memory, and no room in the day.
 pub fn run_pipe<R: Read, W: Write>(
     alloc: Global,
     gate: &mut Gate,

@@ -1,0 +1,29 @@
+-- What a run leaves that a fault stopped, beside what it would have left.
+use Rattle.std.specs.Prelude.{◌≡◌, List, [], ◌∷◌, ◌++◌}
+use Rattle.gx_history.specs.declared.record.Asked.{Asked}
+use Rattle.gx_history.specs.declared.record.RecordData.{RecordData}
+use Rattle.gx_history.specs.declared.record.Request.TheVariants as requests
+use Rattle.gx_history.specs.declared.record.Step.TheVariants as steps
+use Rattle.gx_history.specs.declared.record.Verdict.TheVariants as verdicts
+
+-- the record of a granted Logout
+pub record IsLogout (r : RecordData) : Type 0 where
+  pub asked : Asked
+  pub is_asked : r.step ≡ steps.Asked asked
+  pub is_logout : asked.request ≡ requests.Logout
+  pub is_granted : r.verdict ≡ verdicts.Granted
+
+-- no record, or that of one granted Logout
+abbrev pub IsLogoutAtMost : List RecordData → Type 0
+IsLogoutAtMost [] = Unit {0}
+IsLogoutAtMost (r ∷ []) = IsLogout r
+IsLogoutAtMost (r ∷ others) = ⊥
+
+-- the first of all these records, and behind them at most that of a granted Logout
+pub record AreFirst (records all : List RecordData) : Type 0 where
+  pub first : List RecordData
+  pub others : List RecordData
+  pub whole : all ≡ first ++ others
+  pub last : List RecordData
+  pub stand : records ≡ first ++ last
+  pub logout : IsLogoutAtMost last
