@@ -59,7 +59,6 @@ impl<'a> From<AuditingFault> for Ended<'a> {
         let told = match fault {
             AuditingFault::OutOfMemory => PipeFault::OutOfMemory,
             AuditingFault::WriteFailed => PipeFault::WriteFailed,
-            AuditingFault::DayFull => PipeFault::DayFull,
         };
         told.into()
     }

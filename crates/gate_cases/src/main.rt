@@ -22,6 +22,9 @@
 //!   each run ended: how many bytes of that answer were written, and the verdicts of its records. Runs one after the
 //!   other that end alike are told once: `writes 4 to 6: 10 bytes`, or, where each wrote a byte more than the one before
 //!   it, `writes 4 to 6: 10 to 12 bytes`.
+//! - `-- pipe-in-turn`, `-- script-in-turn`: the packets of a connection, in hex, or the lines of a script, which are run
+//!   on a gate of their own. Whoever sends them waits for the whole answer to each before he sends the next, and to the
+//!   last before he ends, and gives up where he would wait for ever. It is told how the run ended.
 //! - `-- session MOMENT`: the events of a session that begins at this moment, a line each: its moment and what happens
 //!   (`login`, `data HEX`, `heartbeat`, `debug`, `logout`, `accepted`, `rejected`, `pulled COUNT`, `pulled-last COUNT`,
 //!   `refused`, `tick`, `fault`, `end`). It is told what the session sends and what follows.
@@ -36,6 +39,7 @@
 
 mod audits;
 mod devices;
+mod patience;
 mod policies;
 mod runs;
 mod sessions;

@@ -1,7 +1,10 @@
 //! Runs on a gate: connections and scripts over devices, and what is printed of them.
 
+ghost use Rattle.std.specs.Prelude.{◌-◌, ◌^◌, ◌<◌};
+
 use crate::audits::{tell_audit, tell_checks, tell_shown};
 use crate::devices::{Drips, Limits, Sips};
+use crate::patience::tell_patience;
 use crate::sessions::tell_session;
 use crate::texts::{bytes_of, put, put_bytes, text_of};
 use crate::trials::{Trial, Varied, tell_trials};
@@ -13,12 +16,39 @@ use gx_scripting::{Explained, run_script_explained};
 use gx_session::{PipeFault, run_pipe};
 use gx_units::OutOfMemory;
 use std::alloc::Global;
-use std::fmt;
 use std::fmt::Write;
+use std::io::Read;
+use std::{fmt, io};
+
+/// What an input is: packets of a connection, or lines of a script.
+#[derive(Clone, Copy)]
+pub(crate) enum Kind {
+    Pipe,
+    Script,
+}
+
+impl Kind {
+    /// Runs the input that the reader gives.
+    pub(crate) fn run<R: Read, W: io::Write>(
+        self,
+        alloc: Global,
+        gate: &mut Gate,
+        reader: &mut Counted<R>,
+        writer: &mut Counted<W>,
+    ) -> End
+        requires reader { reader.old.failed < 2 ^ 64 - 1 }
+        requires writer { writer.old.failed < 2 ^ 64 - 1 }
+    {
+        match self {
+            Kind::Pipe => End::Pipe(run_pipe(alloc, gate, 1, reader, writer)),
+            Kind::Script => End::Script(run_script_explained(alloc, gate, reader, writer)),
+        }
+    }
+}
 
 /// How a run ended.
 #[derive(Clone, Copy)]
-enum End {
+pub(crate) enum End {
     Pipe(Result<(), PipeFault>),
     Script(Result<(), Explained>),
 }
@@ -59,30 +89,23 @@ impl Ended {
     }
 }
 
-/// What a run over these devices did.
-fn ended_over(end: End, reader: Counted<Drips<'_>>, writer: Counted<Sips>) -> Ended {
+/// Runs an input over devices of these limits.
+pub(crate) fn run_on(
+    kind: Kind,
+    alloc: Global,
+    gate: &mut Gate,
+    limits: Limits,
+    input: &[u8],
+) -> Ended {
+    let mut reader = Counted::new(Drips::new(input, limits));
+    let mut writer = Counted::new(Sips::new(alloc, limits));
+    let end = kind.run(alloc, gate, &mut reader, &mut writer);
     Ended {
         end,
         failed_reads: reader.failed(),
         failed_writes: writer.failed(),
         written: writer.into_inner().taken,
     }
-}
-
-/// Runs a connection.
-pub(crate) fn connect(alloc: Global, gate: &mut Gate, limits: Limits, input: &[u8]) -> Ended {
-    let mut reader = Counted::new(Drips::new(input, limits));
-    let mut writer = Counted::new(Sips::new(alloc, limits));
-    let end = End::Pipe(run_pipe(alloc, gate, 1, &mut reader, &mut writer));
-    ended_over(end, reader, writer)
-}
-
-/// Runs a script.
-fn follow(alloc: Global, gate: &mut Gate, limits: Limits, input: &[u8]) -> Ended {
-    let mut reader = Counted::new(Drips::new(input, limits));
-    let mut writer = Counted::new(Sips::new(alloc, limits));
-    let end = End::Script(run_script_explained(alloc, gate, &mut reader, &mut writer));
-    ended_over(end, reader, writer)
 }
 
 /// Puts the verdicts of the records from this number on, a line each.
@@ -130,7 +153,7 @@ fn tell_pipe(
     input: &[u8],
 ) -> Result<(), OutOfMemory> {
     let from = gate.length().saturating_add(1);
-    let ended = connect(alloc, gate, limits, input);
+    let ended = run_on(Kind::Pipe, alloc, gate, limits, input);
     put_verdicts(alloc, out, gate, from)?;
     put_hex(alloc, out, ended.written.as_slice())?;
     put_end(out, &ended)
@@ -144,7 +167,7 @@ fn tell_script(
     limits: Limits,
     input: &[u8],
 ) -> Result<(), OutOfMemory> {
-    let ended = follow(alloc, gate, limits, input);
+    let ended = run_on(Kind::Script, alloc, gate, limits, input);
     put_bytes(out, ended.written.as_slice())?;
     if ended.written.last().is_some_and(|last| *last != b'\n') {
         put(out, "\n")?;
@@ -155,9 +178,9 @@ fn tell_script(
 /// Makes the step of a script's line, and makes it again where it left no record: it was refused then.
 fn step_again(alloc: Global, gate: &mut Gate, limits: Limits, line: &str) {
     let before = gate.length();
-    follow(alloc, gate, limits, line.as_bytes());
+    run_on(Kind::Script, alloc, gate, limits, line.as_bytes());
     if gate.length() == before {
-        follow(alloc, gate, limits, line.as_bytes());
+        run_on(Kind::Script, alloc, gate, limits, line.as_bytes());
     }
 }
 
@@ -249,6 +272,15 @@ fn tell_part(
         ("pipe", Some(limits)) => {
             let input = bytes_of(alloc, text)?;
             tell_pipe(alloc, out, gate, limits, input.as_slice())
+        }
+        ("pipe-in-turn", Some(limits)) => {
+            let input = bytes_of(alloc, text)?;
+            tell_patience(alloc, out, policy, Kind::Pipe, limits, input.as_slice())
+        }
+        ("script-in-turn", Some(limits)) => {
+            let mut lines = String::from_str(alloc, text)?;
+            put(&mut lines, "\n")?;
+            tell_patience(alloc, out, policy, Kind::Script, limits, lines.as_bytes())
         }
         ("again", Some(limits)) => tell_again(alloc, out, gate, limits, text),
         ("audit", Some(limits)) => tell_audit(alloc, out, gate, limits),

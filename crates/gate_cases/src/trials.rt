@@ -1,7 +1,7 @@
 //! A connection tried again and again, a little further each time, and what is told of the runs.
 
 use crate::devices::Limits;
-use crate::runs::{Ended, connect, put_end, put_hex, put_verdicts};
+use crate::runs::{Ended, Kind, put_end, put_hex, put_verdicts, run_on};
 use crate::texts::put;
 use gx_core::Gate;
 use gx_history::policy::Policy;
@@ -140,7 +140,7 @@ fn run_alone(
 ) -> Result<(usize, bool), OutOfMemory> {
     let mut gate = Gate::open(alloc, trial.policy)?;
     let (limits, input) = varied_by(trial, count);
-    let ended = connect(alloc, &mut gate, limits, input);
+    let ended = run_on(Kind::Pipe, alloc, &mut gate, limits, input);
     let put = put_left(alloc, text, &gate, &ended, whole);
     gate.close();
     put?;
@@ -214,7 +214,7 @@ fn put_runs(
 fn whole_answer(alloc: Global, trial: Trial<'_>) -> Result<Vec<u8>, OutOfMemory> {
     let mut gate = Gate::open(alloc, trial.policy)?;
     let (limits, _) = varied_by(trial, usize::MAX);
-    let written = connect(alloc, &mut gate, limits, trial.input).written;
+    let written = run_on(Kind::Pipe, alloc, &mut gate, limits, trial.input).written;
     gate.close();
     Ok(written)
 }

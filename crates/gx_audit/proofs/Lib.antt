@@ -5,4 +5,5 @@ pub mod Rules
 pub mod ReadBack
 pub mod Walking
 pub mod Only
+pub mod Full
 pub mod Whole

@@ -66,7 +66,7 @@ abbrev EndsAt : PolicyData → List RecordData → List ℕ → Result ℕ Audit
 EndsAt policy before left (Ok n) = (left ≡ []) × (length before ≡ n)
 EndsAt policy before left (Err fault) = IsFaultAt policy before left fault
 
-number_of : (policy : PolicyData) (before : List RecordData) (r : RecordData) → Follows policy (before, r) → r.number ≡ length before + 1
+pub number_of : (policy : PolicyData) (before : List RecordData) (r : RecordData) → Follows policy (before, r) → r.number ≡ length before + 1
 unfolding next
 number_of policy before r follows = some_number (length before + 1) (moment_of before r.step) r.step (step_verdict policy before r.step) r follows.is_next
 
@@ -86,7 +86,6 @@ stops policy before left r bytes (Err (faults.BadRecord n)) follows shown is jud
 stops policy before left r bytes (Err (faults.IllegalVerdict n)) follows shown is judges ends =
     let found : record_of (take 128 left) ≡ Some r = ap (λ (bs : List ℕ). record_of (take 128 bs)) is ∙ ap record_of (take_at (record_bytes r) bytes 128 (shown_size r shown)) ∙ shown.read_back in
     ends.1.1.does_not_follow (subst (λ (x : RecordData). Follows policy (before, x)) (some_same (sym found ∙ ends.1.1.shown_is)) follows)
-stops policy before left r bytes (Err (faults.NotJudged n)) follows shown is judges ends = judges
 stops policy before left r bytes (Err faults.OutOfMemory) follows shown is judges ends = judges
 
 none_left : (left : List ℕ) → left ≡ [] → length left ≡ 0
@@ -98,29 +97,24 @@ same_end policy before left (Ok n) (Ok m) ja jb ends other = ap (λ (n : ℕ). O
 same_end policy before left (Ok n) (Err faults.Truncated) ja jb ends other = absurd (omega (arith, none_left left ends.0, other.0))
 same_end policy before left (Ok n) (Err (faults.BadRecord m)) ja jb ends other = absurd (omega (arith, none_left left ends.0, other.0))
 same_end policy before left (Ok n) (Err (faults.IllegalVerdict m)) ja jb ends other = absurd (omega (arith, none_left left ends.0, other.0))
-same_end policy before left (Ok n) (Err (faults.NotJudged m)) ja jb ends other = absurd jb
 same_end policy before left (Ok n) (Err faults.OutOfMemory) ja jb ends other = absurd jb
 same_end policy before left (Err faults.Truncated) (Ok m) ja jb ends other = absurd (omega (arith, none_left left other.0, ends.0))
 same_end policy before left (Err faults.Truncated) (Err faults.Truncated) ja jb ends other = refl
 same_end policy before left (Err faults.Truncated) (Err (faults.BadRecord m)) ja jb ends other = absurd (omega (arith, ends.1, other.0))
 same_end policy before left (Err faults.Truncated) (Err (faults.IllegalVerdict m)) ja jb ends other = absurd (omega (arith, ends.1, other.0))
-same_end policy before left (Err faults.Truncated) (Err (faults.NotJudged m)) ja jb ends other = absurd jb
 same_end policy before left (Err faults.Truncated) (Err faults.OutOfMemory) ja jb ends other = absurd jb
 same_end policy before left (Err (faults.BadRecord n)) (Ok m) ja jb ends other = absurd (omega (arith, none_left left other.0, ends.0))
 same_end policy before left (Err (faults.BadRecord n)) (Err faults.Truncated) ja jb ends other = absurd (omega (arith, other.1, ends.0))
 same_end policy before left (Err (faults.BadRecord n)) (Err (faults.BadRecord m)) ja jb ends other = ap (λ (n : ℕ). Err (faults.BadRecord n)) (ends.1.0 ∙ sym other.1.0)
 same_end policy before left (Err (faults.BadRecord n)) (Err (faults.IllegalVerdict m)) ja jb ends other =
     absurd (ends.1.1 other.1.1.shown other.1.1.shown_is (other.1.1.number_is ∙ other.1.0 ∙ sym ends.1.0))
-same_end policy before left (Err (faults.BadRecord n)) (Err (faults.NotJudged m)) ja jb ends other = absurd jb
 same_end policy before left (Err (faults.BadRecord n)) (Err faults.OutOfMemory) ja jb ends other = absurd jb
 same_end policy before left (Err (faults.IllegalVerdict n)) (Ok m) ja jb ends other = absurd (omega (arith, none_left left other.0, ends.0))
 same_end policy before left (Err (faults.IllegalVerdict n)) (Err faults.Truncated) ja jb ends other = absurd (omega (arith, other.1, ends.0))
 same_end policy before left (Err (faults.IllegalVerdict n)) (Err (faults.BadRecord m)) ja jb ends other =
     absurd (other.1.1 ends.1.1.shown ends.1.1.shown_is (ends.1.1.number_is ∙ ends.1.0 ∙ sym other.1.0))
 same_end policy before left (Err (faults.IllegalVerdict n)) (Err (faults.IllegalVerdict m)) ja jb ends other = ap (λ (n : ℕ). Err (faults.IllegalVerdict n)) (ends.1.0 ∙ sym other.1.0)
-same_end policy before left (Err (faults.IllegalVerdict n)) (Err (faults.NotJudged m)) ja jb ends other = absurd jb
 same_end policy before left (Err (faults.IllegalVerdict n)) (Err faults.OutOfMemory) ja jb ends other = absurd jb
-same_end policy before left (Err (faults.NotJudged n)) other_answer ja jb ends other = absurd ja
 same_end policy before left (Err faults.OutOfMemory) other_answer ja jb ends other = absurd ja
 
 -- where an answer ends
@@ -142,7 +136,6 @@ where_ended policy bytes (Ok n) judges found =
 where_ended policy bytes (Err faults.Truncated) judges found = at_fault policy bytes faults.Truncated found
 where_ended policy bytes (Err (faults.BadRecord n)) judges found = at_fault policy bytes (faults.BadRecord n) found
 where_ended policy bytes (Err (faults.IllegalVerdict n)) judges found = at_fault policy bytes (faults.IllegalVerdict n) found
-where_ended policy bytes (Err (faults.NotJudged n)) judges found = absurd judges
 where_ended policy bytes (Err faults.OutOfMemory) judges found = absurd judges
 
 same_answer : (policy : PolicyData) (bytes : List ℕ) (a b : Result ℕ AuditFault) → IsJudgement a → IsJudgement b → (x : Ends policy bytes a) (y : Ends policy bytes b)

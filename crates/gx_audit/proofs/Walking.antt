@@ -60,8 +60,6 @@ answer_of policy records piece bytes at (faults.BadRecord n) legal shown are who
     first_fault policy records bytes at (faults.BadRecord n) legal shown are (whole, subst (λ (bs : List ℕ). IsRecordFault policy records bs (faults.BadRecord n)) cut stands)
 answer_of policy records piece bytes at (faults.IllegalVerdict n) legal shown are whole cut stands =
     first_fault policy records bytes at (faults.IllegalVerdict n) legal shown are (whole, subst (λ (bs : List ℕ). IsRecordFault policy records bs (faults.IllegalVerdict n)) cut stands)
-answer_of policy records piece bytes at (faults.NotJudged n) legal shown are whole cut stands =
-    first_fault policy records bytes at (faults.NotJudged n) legal shown are (whole, subst (λ (bs : List ℕ). IsRecordFault policy records bs (faults.NotJudged n)) cut stands)
 answer_of policy records piece bytes at faults.OutOfMemory legal shown are whole cut stands = tt
 
 -- what is told of the record at hand is told of the bytes

@@ -3,7 +3,8 @@ use Rattle.std.specs.Prelude.{◌≡◌, ◌≢◌, ℕ, ◌+◌, ◌<◌, ◌�
 use Rattle.std.specs.List.{concat, AllByRecursion}
 use Rattle.gx_history.specs.declared.policy.PolicyData.{PolicyData}
 use Rattle.gx_history.specs.declared.record.RecordData.{RecordData}
-use Rattle.gx_history.specs.Verdicts.{IsLegal, Follows, IsGrantedKillOrLogout, day_limit}
+use Rattle.gx_history.specs.declared.record.Step.{Step}
+use Rattle.gx_history.specs.Verdicts.{IsLegal, Follows}
 use Rattle.gx_audit.specs.declared.fault.AuditFault.{AuditFault}
 use Rattle.gx_audit.specs.declared.fault.AuditFault.TheVariants as faults
 use Rattle.gx_audit.specs.Records.{record_bytes}
@@ -40,20 +41,15 @@ pub record IsIllegal (policy : PolicyData) (before : List RecordData) (n : ℕ) 
   pub number_is : shown.number ≡ n
   pub does_not_follow : ¬ (Follows policy (before, shown))
 
--- the bytes are those of a record of this number, past the day's limit, of a granted Kill or Logout
-pub record IsPastDay (before : List RecordData) (n : ℕ) (bytes : List ℕ) : Type 0 where
-  pub shown : RecordData
-  pub shown_is : record_of bytes ≡ Some shown
-  pub number_is : shown.number ≡ n
-  pub past : day_limit ≤ length before
-  pub granted : IsGrantedKillOrLogout shown.verdict shown.step
+-- no record of this step follows those before
+abbrev pub NoneFollows : PolicyData → List RecordData → Step → Type 0
+NoneFollows policy before step = (r : RecordData) → r.step ≡ step → ¬ (Follows policy (before, r))
 
 -- the fault is that of these bytes as the next record
 abbrev pub IsRecordFault : PolicyData → List RecordData → List ℕ → AuditFault → Type 0
 IsRecordFault policy before bytes faults.Truncated = ⊥
 IsRecordFault policy before bytes (faults.BadRecord n) = (n ≡ length before + 1) × IsBad n bytes
 IsRecordFault policy before bytes (faults.IllegalVerdict n) = (n ≡ length before + 1) × IsIllegal policy before n bytes
-IsRecordFault policy before bytes (faults.NotJudged n) = (n ≡ length before + 1) × IsPastDay before n bytes
 IsRecordFault policy before bytes faults.OutOfMemory = Unit {0}
 
 -- the fault stands at these bytes, behind the records before
@@ -76,10 +72,9 @@ IsAnswer policy bytes (Ok count) = IsLegalAudit policy bytes count
 IsAnswer policy bytes (Err faults.OutOfMemory) = Unit {0}
 IsAnswer policy bytes (Err fault) = IsFirstFault policy bytes fault
 
--- the answer is one of those that say what the bytes are
+-- the answer says what the bytes are: memory did not run out
 abbrev pub IsJudgement : Result ℕ AuditFault → Type 0
 IsJudgement (Err faults.OutOfMemory) = ⊥
-IsJudgement (Err (faults.NotJudged n)) = ⊥
 IsJudgement other = Unit {0}
 
 -- no other answer says what is so

@@ -1,9 +1,9 @@
 //! The check that bytes are the records of a legal day.
 
 ghost use Rattle.std.specs.Prelude.{◌≡◌, ◌≢◌, ◌+◌, ◌-◌, ◌<◌, ◌≤◌, ◌^◌, IsTrue, IsFalse, IfOk, IfErr, OnOk, [], length, take, drop, Some};
-ghost use Rattle.gx_history.specs.Verdicts.{next, IsGrantedKillOrLogout, IsKillOrLogout, IsLegal, day_limit};
+ghost use Rattle.gx_history.specs.Verdicts.{next, IsLegal};
 ghost use Rattle.gx_core.specs.declared.outcome.StepFault.TheVariants as stepping;
-ghost use Rattle.gx_audit.specs.Auditing.{with_left, IsAnswer, IsOneMore, IsOnlyAnswer, IsRecordFault};
+ghost use Rattle.gx_audit.specs.Auditing.{with_left, IsAnswer, IsOneMore, IsOnlyAnswer, IsRecordFault, NoneFollows};
 ghost use Rattle.gx_audit.specs.Reading.{record_of, IsAskableStep, IsShown};
 ghost use Rattle.gx_audit.specs.Records.{record_bytes};
 
@@ -12,19 +12,15 @@ use crate::fault::AuditFault;
 use crate::reading::{is_showable, read_record};
 use crate::writing::write_content;
 use gx_core::{Gate, Outcome, StepFault};
-use gx_desk::Action;
 use gx_history::policy::Policy;
-use gx_history::record::{RecordData, Request, Step, Verdict};
+use gx_history::record::{RecordData, Step};
 use std::alloc::Global;
-
-/// The most records of a day, but for granted Kills and Logouts.
-const DAY_LIMIT: u64 = 16_777_216;
 
 /// Whether the bytes are the records of a legal day under the policy: how many there are, or the first fault.
 #[tactic(auto, using(crate::proofs::Walking::answer_under, crate::proofs::Only::is_only))]
 pub fn check_audit(alloc: Global, policy: &Policy, bytes: &[u8]) -> Result<u64, AuditFault>
     ensures answer { IsAnswer policy.now bytes.now result }
-    // Where memory was not refused, and no record was past the day's limit, no other answer is right.
+    // Where memory was not refused, no other answer is right.
     ensures only { IsOnlyAnswer policy.now bytes.now result }
 {
     let Ok(mut gate) = Gate::open(alloc, policy) else {
@@ -78,7 +74,6 @@ pub fn record_at(bytes: &[u8], at: usize) -> [u8; RECORD_SIZE]
 ///
 /// After `IllegalVerdict` the gate has the record that the step left, if it left one.
 pub fn check_record(gate: &mut Gate, bytes: &[u8; RECORD_SIZE]) -> Result<(), AuditFault>
-    requires few { length gate.old.records + 1 < 2 ^ 64 }
     ensures policy { gate.new.policy ≡ gate.old.policy }
     ensures legal { IsLegal gate.old.policy gate.old.records }
     ensures ok { OnOk result (IsOneMore gate.old.records gate.new.records bytes.now) }
@@ -96,35 +91,7 @@ pub fn check_record(gate: &mut Gate, bytes: &[u8; RECORD_SIZE]) -> Result<(), Au
     if shown.number != number {
         return Err(AuditFault::BadRecord(number));
     }
-    if number <= DAY_LIMIT {
-        return follow(gate, number, &shown, bytes);
-    }
-    if is_granted_kill_or_logout(&shown.step, &shown.verdict) {
-        return Err(AuditFault::NotJudged(number));
-    }
-    Err(AuditFault::IllegalVerdict(number))
-}
-
-/// Whether the record has a granted Kill or Logout.
-fn is_granted_kill_or_logout(step: &Step, verdict: &Verdict) -> bool
-    ensures granted { IsTrue result → IsGrantedKillOrLogout verdict.now step.now }
-    ensures other { IsFalse result → ¬ (IsGrantedKillOrLogout verdict.now step.now) }
-{
-    match (verdict, step) {
-        (Verdict::Granted, Step::Asked(asked)) => is_kill_or_logout(&asked.request),
-        _ => false,
-    }
-}
-
-fn is_kill_or_logout(request: &Request) -> bool
-    ensures granted { IsTrue result → IsKillOrLogout request.now }
-    ensures other { IsFalse result → ¬ (IsKillOrLogout request.now) }
-{
-    match request {
-        Request::Logout => true,
-        Request::Command(command) => matches!(command.action, Action::Kill(_)),
-        _ => false,
-    }
+    follow(gate, number, &shown, bytes)
 }
 
 /// Makes the step of the record that these bytes show, and checks that it leaves this record.
@@ -135,7 +102,6 @@ fn follow(
     bytes: &[u8; RECORD_SIZE],
 ) -> Result<(), AuditFault>
     requires number { number ≡ length gate.old.records + 1 }
-    requires within { number ≤ day_limit }
     requires numbered { shown.now.number ≡ number }
     requires shows { record_of bytes.now ≡ Some shown.now }
     requires askable { IsAskableStep shown.now.step }
@@ -153,13 +119,13 @@ fn follow(
                 Err(AuditFault::IllegalVerdict(number))
             }
         }
-        Ok(None) => Err(AuditFault::IllegalVerdict(number)),
+        Ok(None) | Err(StepFault::DayFull) => Err(AuditFault::IllegalVerdict(number)),
         Err(StepFault::OutOfMemory) => Err(AuditFault::OutOfMemory),
-        Err(StepFault::DayFull) => unreachable!(),
     }
 }
 
-/// Makes the step: the record that it leaves, if it leaves one.
+/// Makes the step: the record that it leaves, if it leaves one. `DayFull` where no record of this step follows.
+#[tactic(auto, using(crate::proofs::Full::none_asked, crate::proofs::Full::none_matched))]
 fn made(gate: &mut Gate, step: Step) -> Result<Option<RecordData>, StepFault>
     requires askable { IsAskableStep step }
     ensures policy { gate.new.policy ≡ gate.old.policy }
@@ -167,7 +133,7 @@ fn made(gate: &mut Gate, step: Step) -> Result<Option<RecordData>, StepFault>
     ensures records { IfOk result (λ left.
         gate.new.records ≡ with_left gate.old.records left) }
     ensures day_full { IfErr result (λ e. e ≡ stepping.DayFull
-        → day_limit ≤ length gate.old.records) }
+        → NoneFollows gate.old.policy gate.old.records step) }
 {
     match step {
         Step::Asked(asked) => {

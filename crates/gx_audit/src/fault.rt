@@ -13,8 +13,6 @@ pub enum AuditFault {
     /// The moment or the verdict of this record is not what its step leaves after those before, or the day has no room
     /// for it.
     IllegalVerdict(u64),
-    /// A granted Kill or Logout past the last record of a full day, of which no gate makes the step so far.
-    NotJudged(u64),
     /// A growth was refused.
     OutOfMemory,
 }
@@ -25,7 +23,6 @@ impl fmt::Display for AuditFault {
             AuditFault::Truncated => write!(f, "truncated"),
             AuditFault::BadRecord(number) => write!(f, "bad record {number}"),
             AuditFault::IllegalVerdict(number) => write!(f, "illegal verdict {number}"),
-            AuditFault::NotJudged(number) => write!(f, "record {number} not judged"),
             AuditFault::OutOfMemory => write!(f, "out of memory"),
         }
     }

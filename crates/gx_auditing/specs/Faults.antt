@@ -7,4 +7,3 @@ use Rattle.gx_auditing.specs.declared.fault.AuditingFault.TheVariants as faults
 abbrev pub IsBlamed : (writes writes' : ℕ) → AuditingFault → Type 0
 IsBlamed writes writes' faults.WriteFailed = writes < writes'
 IsBlamed writes writes' faults.OutOfMemory = writes' ≡ writes
-IsBlamed writes writes' faults.DayFull = writes' ≡ writes

@@ -4,7 +4,7 @@ use Rattle.gx_audit.specs.declared.fault.AuditFault.{AuditFault}
 use Rattle.gx_audit.specs.declared.fault.AuditFault.TheVariants as faults
 use Rattle.gx_script.specs.Printing.{line_end}
 
--- how many records a legal audit has, or the first fault; the others are no answer of an audit
+-- how many records a legal audit has, or the first fault; want of memory is no answer of an audit
 abbrev pub answer_words : Result ℕ AuditFault → List ℕ
 answer_words (Ok count) = codes "legal " ++ decimal count
 answer_words (Err faults.Truncated) = codes "truncated"

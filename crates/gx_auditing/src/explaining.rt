@@ -101,9 +101,6 @@ fn replay(gate: &mut Gate, audit: &[u8], number: u64) -> Result<(), OutOfMemory>
         let Some(bytes) = bytes_at(audit, at + 1) else {
             return Ok(());
         };
-        if gate.length() == u64::MAX {
-            return Ok(());
-        }
         match check_record(gate, &bytes) {
             Ok(()) => {}
             Err(AuditFault::OutOfMemory) => return Err(OutOfMemory),

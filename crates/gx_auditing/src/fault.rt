@@ -15,8 +15,6 @@ pub enum AuditingFault {
     OutOfMemory,
     /// The writer failed, or took none of some bytes.
     WriteFailed,
-    /// The audit goes past the last record of a full day, where nothing is judged so far.
-    DayFull,
 }
 
 impl fmt::Display for AuditingFault {
@@ -24,7 +22,6 @@ impl fmt::Display for AuditingFault {
         match self {
             AuditingFault::OutOfMemory => write!(f, "out of memory"),
             AuditingFault::WriteFailed => write!(f, "write failed"),
-            AuditingFault::DayFull => write!(f, "day full"),
         }
     }
 }

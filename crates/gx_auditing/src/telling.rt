@@ -59,7 +59,6 @@ fn line_of(alloc: Global, answer: Result<u64, AuditFault>) -> Result<Vec<u8>, Au
         Err(AuditFault::IllegalVerdict(number)) => {
             Ok(numbered(alloc, b"illegal verdict ", number)?)
         }
-        Err(AuditFault::NotJudged(_)) => Err(AuditingFault::DayFull),
         Err(AuditFault::OutOfMemory) => Err(AuditingFault::OutOfMemory),
     }
 }

@@ -7,11 +7,11 @@ ghost use Rattle.gx_devices.specs.Devices.{IsFront};
 use crate::counted::Counted;
 use std::io::Write;
 
-/// The writer failed, or took none of some bytes.
+/// The writer failed, at a write or at a flush, or took none of some bytes.
 #[derive(Clone, Copy, PartialEq, Eq)]
 pub struct WriteFailed;
 
-/// Writes all of the bytes; where the writer fails, a front of them.
+/// Writes all of the bytes, and flushes the writer; where the writer fails, a front of them, or all.
 pub fn write_whole<W: Write>(writer: &mut Counted<W>, bytes: &[u8]) -> Result<(), WriteFailed>
     requires { writer.old.failed < 2 ^ 64 - 1 }
     ensures whole { OnOk result (Appends
@@ -28,5 +28,8 @@ pub fn write_whole<W: Write>(writer: &mut Counted<W>, bytes: &[u8]) -> Result<()
             _ => return Err(WriteFailed),
         }
     }
-    Ok(())
+    match writer.flush() {
+        Ok(()) => Ok(()),
+        Err(_) => Err(WriteFailed),
+    }
 }
