@@ -36,7 +36,8 @@ use gx_units::{AccountName, Moment, OutOfMemory, Password, SessionName, UserName
 use std::alloc::Global;
 use std::marker::Model;
 
-fn record_of(a: &Asked, outcome: Outcome) -> RecordData
+/// The record of a request with this outcome.
+pub fn record_of(a: &Asked, outcome: Outcome) -> RecordData
     ensures { result ≡ left_by a.now outcome }
 {
     RecordData {

@@ -13,7 +13,7 @@ use gx_orders::live_order::LiveOrder;
 use gx_units::Moment;
 
 /// The record of a matching step with this outcome.
-pub(crate) fn record_of_match(handed: Moment, outcome: Outcome) -> RecordData
+pub fn record_of_match(handed: Moment, outcome: Outcome) -> RecordData
     ensures { result ≡ matched_by handed outcome }
 {
     RecordData {

@@ -1,0 +1,5 @@
+use Rattle.gx_pass.proofs.Moves.{begins}
+use Rattle.gx_pass.proofs.blank.Blank.new.Goals as goal
+
+pub of_words-requires : goal.of_words-requires
+of_words-requires c = begins

@@ -1,0 +1,22 @@
+//! The name by which types under a lock agree.
+
+use std::marker::Brand;
+
+/// Names one table and one policy: what lies under a lock is known by its type alone. A caller makes the blank and hands
+/// it to a function generic in this name.
+pub trait GateName {
+    ghost use Rattle.atomic_table.specs.Seated.{TableId};
+    ghost use Rattle.gx_history.specs.declared.policy.PolicyData.{PolicyData};
+
+    ghost table: { TableId };
+
+    ghost policy: { PolicyData };
+}
+
+impl GateName for Brand {
+    ghost use Rattle.gx_pass.specs.Views.{no_policy, no_table};
+
+    ghost table = { no_table };
+
+    ghost policy = { no_policy };
+}

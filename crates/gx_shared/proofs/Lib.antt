@@ -1,0 +1,3 @@
+pub mod Idling
+pub mod Meetings
+pub mod Refusals

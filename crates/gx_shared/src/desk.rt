@@ -1,0 +1,208 @@
+//! What lies under the lock.
+
+ghost use Rattle.std.specs.Prelude.{◌≡◌, ◌≢◌, ◌↔◌, ◌++◌, ◌∷◌, [], length, IsTrue, IfErr, IfNone, IfOk, IfSome, OnErr, OnOk, Some, None, is_some};
+ghost use mathlib.Core.List.{IsPrefix};
+ghost use Rattle.gx_units.specs.Spelling.{folded_user};
+ghost use Rattle.gx_history.specs.InForce.{line_of};
+ghost use Rattle.gx_history.specs.Showing.{has_its_first};
+ghost use Rattle.gx_history.specs.Verdicts.{IsLegal};
+ghost use Rattle.gx_core.specs.Gates.{left_by, matched_by};
+ghost use Rattle.gx_core.specs.Matches.{matching_of};
+ghost use Rattle.gx_pass.specs.Views.{mine, of_line};
+ghost use Rattle.gx_shared.specs.declared.fault.PullFault.TheVariants as pull_faults;
+ghost use Rattle.gx_shared.specs.Acts.{asked_on, gate_at, gate_met, login_on};
+ghost use Rattle.gx_shared.specs.Acts.{AddsOwn, EndsWith, IsLater, IsPulled, IsToldFull, LogsIn, MayBeRefused};
+
+use crate::fault::PullFault;
+use crate::steps::{asked_on, leave, match_one, pull, step};
+use gx_core::{Gate, LoginAnswer, Outcome, Pulled, StepFault};
+use gx_history::policy::Policy;
+use gx_history::record::Request;
+use gx_pass::{Blank, GateName, Keeper, Pass, PassFault};
+use gx_units::{Moment, OutOfMemory, Password, SessionName, UserName};
+use std::alloc::Global;
+use std::marker::Model;
+
+/// The gate, and the keeper of its history. Contracts see the gate's records. It is closed, and never dropped: the drop
+/// of all that a gate keeps is proved in `Gate::close`.
+pub struct Desk<N: GateName> {
+    gate: Gate,
+    keeper: Keeper<N>,
+}
+
+impl<N: GateName> Model for Desk<N> {
+    ghost use Rattle.std.specs.Prelude.{◌≡◌, List};
+    ghost use Rattle.gx_history.specs.declared.record.RecordData.{RecordData};
+
+    ghost Value = { List RecordData };
+
+    ghost view = { λ d. d.gate.records };
+
+    ghost invariant = { λ d. (d.gate.policy ≡ N.policy) × (d.keeper.list ≡ d.gate.records) };
+}
+
+impl<N: GateName> Desk<N> {
+    /// A desk at the beginning of a day.
+    pub fn new(alloc: Global, policy: &Policy, blank: Blank) -> Result<Desk<N>, OutOfMemory>
+        requires policy { policy.now ≡ N.policy }
+        requires blank { blank ≡ N.table }
+        ensures { IfOk result (λ desk. desk ≡ []) }
+    {
+        let gate = Gate::open(alloc, policy)?;
+        let keeper = Keeper::open(blank);
+        Ok(Desk { gate, keeper })
+    }
+
+    /// A pass of a new line, which has met all records.
+    pub fn issue(&mut self) -> Result<Pass<N>, PassFault>
+        ensures same { self.new ≡ self.old }
+        ensures front { IfOk result (λ p. p.front ≡ self.old) }
+        ensures legal { IfOk result (λ p. IsLegal N.policy p.front) }
+        ensures own { IfOk result (λ p. mine p ≡ []) }
+    {
+        self.gate.is_legal();
+        self.keeper.issue()
+    }
+
+    /// A login on the pass's line, and what it is told.
+    pub fn login(
+        &mut self,
+        pass: Pass<N>,
+        user: UserName,
+        password: Password,
+        session: SessionName,
+        wanted: u64,
+        moment: Moment,
+    ) -> (Pass<N>, Result<LoginAnswer, StepFault>)
+        ensures front { result.0.front ≡ self.new }
+        ensures later { IsLater N.policy pass result.0 }
+        ensures done { IfOk result.1 (LogsIn N.policy pass result.0
+            (login_on N.policy pass.line user password session wanted moment) wanted) }
+        ensures refused { OnErr result.1 (mine result.0 ≡ mine pass) }
+        ensures full { IfErr result.1 (IsToldFull (gate_at N.policy self.new)) }
+    {
+        let request = self.gate.login_request(user, password, session, wanted);
+        let (pass, result) = self.act(pass, user, request, moment);
+        match result {
+            Ok(outcome) => {
+                let answer = self
+                    .gate
+                    .login_answer(user.folded(), wanted, outcome.verdict);
+                (pass, Ok(answer))
+            }
+            Err(fault) => (pass, Err(fault)),
+        }
+    }
+
+    /// A request on the pass's line.
+    pub fn act(
+        &mut self,
+        pass: Pass<N>,
+        user: UserName,
+        request: Request,
+        moment: Moment,
+    ) -> (Pass<N>, Result<Outcome, StepFault>)
+        requires first { IsTrue (has_its_first request) }
+        ensures front { result.0.front ≡ self.new }
+        ensures later { IsLater N.policy pass result.0 }
+        ensures step { IfOk result.1 (λ o.
+            self.new ≡ self.old ++ left_by (asked_on pass.line user request moment) o ∷ []) }
+        ensures done { IfOk result.1 (λ o.
+            AddsOwn pass result.0 (left_by (asked_on pass.line user request moment) o)) }
+        ensures same { OnErr result.1 (self.new ≡ self.old) }
+        ensures refused { OnErr result.1 (mine result.0 ≡ mine pass) }
+        ensures never_refused { OnErr result.1 (MayBeRefused (gate_at N.policy self.new)
+            (asked_on pass.line user request moment)) }
+        ensures full { IfErr result.1 (IsToldFull (gate_at N.policy self.new)) }
+    {
+        let line = pass.line();
+        let entered = self.keeper.enter(pass);
+        let asked = asked_on(line, user, request, moment);
+        let result = step(&mut self.gate, &mut self.keeper, asked);
+        (leave(&self.gate, &mut self.keeper, entered), result)
+    }
+
+    /// A matching step, whose record is nobody's own.
+    pub fn match_one(
+        &mut self,
+        pass: Pass<N>,
+        moment: Moment,
+    ) -> (Pass<N>, Result<Option<Outcome>, StepFault>)
+        ensures front { result.0.front ≡ self.new }
+        ensures later { IsLater N.policy pass result.0 }
+        ensures own { mine result.0 ≡ mine pass }
+        ensures found { IfOk result.1 (λ found. IfSome found (λ o.
+            EndsWith pass result.0 (matched_by moment o))) }
+        ensures idle { IfOk result.1 (λ found. IfNone found
+            ((self.new ≡ self.old) × (matching_of (gate_at N.policy self.new) ≡ None))) }
+        ensures waits { OnErr result.1
+            (IsTrue (is_some (matching_of (gate_at N.policy self.new)))) }
+        ensures same { OnErr result.1 (self.new ≡ self.old) }
+        ensures full { IfErr result.1 (IsToldFull (gate_at N.policy self.new)) }
+    {
+        let entered = self.keeper.enter(pass);
+        let result = match_one(&mut self.gate, &mut self.keeper, moment);
+        (leave(&self.gate, &mut self.keeper, entered), result)
+    }
+
+    /// The reports of a user who is logged in on the pass's line, from this number on, at most so many.
+    pub fn pull(
+        &mut self,
+        pass: Pass<N>,
+        user: UserName,
+        from: u64,
+        most: u64,
+    ) -> (Pass<N>, Result<Pulled, PullFault>)
+        ensures same { self.new ≡ self.old }
+        ensures front { result.0.front ≡ self.new }
+        ensures later { IsLater N.policy pass result.0 }
+        ensures own { mine result.0 ≡ mine pass }
+        ensures on { OnOk result.1
+            (line_of self.new (folded_user user) ≡ Some pass.line) }
+        ensures not_on { IfErr result.1 (λ e.
+            e ≡ pull_faults.NotOn ↔ line_of self.new (folded_user user) ≢ Some pass.line) }
+        ensures pulled { IfOk result.1
+            (IsPulled (gate_at N.policy self.new) (folded_user user) from most) }
+    {
+        let line = pass.line();
+        let entered = self.keeper.enter(pass);
+        let result = pull(&self.gate, line, user.folded(), from, most);
+        (leave(&self.gate, &mut self.keeper, entered), result)
+    }
+
+    /// Both passes have met the same history.
+    pub fn meet(&mut self, one: Pass<N>, other: Pass<N>) -> (Pass<N>, Pass<N>)
+        ensures same { self.new ≡ self.old }
+        ensures first { IsLater N.policy one result.0 }
+        ensures second { IsLater N.policy other result.1 }
+        ensures first_own { mine result.0 ≡ mine one }
+        ensures second_own { mine result.1 ≡ mine other }
+        ensures front { result.0.front ≡ result.1.front }
+        ensures apart { one.line ≢ other.line }
+    {
+        let one = self.keeper.enter(one);
+        let other = self.keeper.enter(other);
+        let one = leave(&self.gate, &mut self.keeper, one);
+        (one, leave(&self.gate, &mut self.keeper, other))
+    }
+
+    /// The gate. It has all that the pass has met, and of the pass's line its own records.
+    pub fn close(self, pass: Pass<N>) -> Gate
+        ensures policy { result.policy ≡ N.policy }
+        ensures records { result.records ≡ self }
+        ensures legal { IsLegal N.policy result.records }
+        ensures front { IsPrefix pass.front result.records }
+        ensures mine { of_line pass.line result.records ≡ mine pass }
+    {
+        let Desk { gate, mut keeper } = self;
+        gate.is_legal();
+        let _entered = keeper.enter(pass);
+        gate
+    }
+
+    /// Lets the gate go.
+    pub fn let_go(self) {
+        let Desk { gate, keeper: _ } = self;
+        gate.close();
+    }
+}

@@ -1,0 +1,189 @@
+//! The gate under one lock.
+
+ghost use Rattle.std.specs.Prelude.{◌≡◌, ◌≢◌, ◌↔◌, ◌≤◌, [], length, IsTrue, IfErr, IfNone, IfOk, IfSome, OnErr, OnOk, Some, None, is_some};
+ghost use mathlib.Core.List.{IsPrefix};
+ghost use Rattle.gx_units.specs.Spelling.{folded_user};
+ghost use Rattle.gx_history.specs.declared.record.Request.TheVariants as requests;
+ghost use Rattle.gx_history.specs.InForce.{line_of};
+ghost use Rattle.gx_history.specs.Showing.{has_its_first};
+ghost use Rattle.gx_history.specs.Verdicts.{IsLegal};
+ghost use Rattle.gx_core.specs.Gates.{left_by, matched_by};
+ghost use Rattle.gx_core.specs.Matches.{matching_of};
+ghost use Rattle.gx_pass.specs.Views.{mine, of_line};
+ghost use Rattle.gx_shared.specs.declared.fault.PullFault.TheVariants as pull_faults;
+ghost use Rattle.gx_shared.specs.Acts.{asked_on, gate_met, login_on};
+ghost use Rattle.gx_shared.specs.Acts.{AddsOwn, EndsWith, IsLater, IsPulled, IsToldFull, LogsIn, MayBeRefused};
+
+use crate::desk::Desk;
+use crate::door::Door;
+use crate::fault::PullFault;
+use gx_core::{Gate, LoginAnswer, Outcome, Pulled, StepFault};
+use gx_history::policy::Policy;
+use gx_history::record::Request;
+use gx_pass::{Blank, GateName, Pass, PassFault};
+use gx_units::{Moment, OutOfMemory, Password, SessionName, UserName};
+use std::alloc::Global;
+use std::sync::{Mutex, Wait};
+
+/// The gate under one lock. Each call takes the lock once, but for `length`, which takes none.
+///
+/// It ends by `close` or by `let_go`, and is never dropped.
+pub struct SharedGate<N: GateName> {
+    desk: Mutex<Desk<N>>,
+}
+
+impl<N: GateName> SharedGate<N> {
+    /// A gate at the beginning of a day with a copy of the policy, which no thread shares yet.
+    pub fn new(alloc: Global, policy: &Policy, blank: Blank) -> Result<SharedGate<N>, OutOfMemory>
+        requires policy { policy.now ≡ N.policy }
+        requires blank { blank ≡ N.table }
+    {
+        let desk = Desk::new(alloc, policy, blank)?;
+        Ok(SharedGate {
+            desk: Mutex::new(desk),
+        })
+    }
+
+    /// The gate. It has all that the pass has met, and of the pass's line its own records.
+    pub fn close(self, pass: Pass<N>) -> Gate
+        ensures policy { result.policy ≡ N.policy }
+        ensures legal { IsLegal N.policy result.records }
+        ensures front { IsPrefix pass.front result.records }
+        ensures mine { of_line pass.line result.records ≡ mine pass }
+    {
+        let SharedGate { desk } = self;
+        desk.into_inner().close(pass)
+    }
+
+    /// Lets the gate go, where nobody holds a pass or its records are of no use.
+    pub fn let_go(self) {
+        let SharedGate { desk } = self;
+        desk.into_inner().let_go();
+    }
+}
+
+impl<N: GateName> Door<N> for SharedGate<N> {
+    type Ticket = Pass<N>;
+
+    ghost held = { λ p. p };
+
+    fn issue<R: Wait>(&self, rt: &R) -> Result<Pass<N>, PassFault>
+        ensures legal { IfOk result (λ p. IsLegal N.policy p.front) }
+        ensures own { IfOk result (λ p. mine p ≡ []) }
+    {
+        self.desk.lock(rt).issue()
+    }
+
+    fn login<R: Wait>(
+        &self,
+        rt: &R,
+        pass: Pass<N>,
+        user: UserName,
+        password: Password,
+        session: SessionName,
+        wanted: u64,
+        moment: Moment,
+    ) -> (Pass<N>, Result<LoginAnswer, StepFault>)
+        ensures later { IsLater N.policy pass result.0 }
+        ensures done { IfOk result.1 (LogsIn N.policy pass result.0
+            (login_on N.policy pass.line user password session wanted moment) wanted) }
+        ensures refused { OnErr result.1 (mine result.0 ≡ mine pass) }
+        ensures full { IfErr result.1 (IsToldFull (gate_met N.policy result.0)) }
+    {
+        self.desk
+            .lock(rt)
+            .login(pass, user, password, session, wanted, moment)
+    }
+
+    fn act<R: Wait>(
+        &self,
+        rt: &R,
+        pass: Pass<N>,
+        user: UserName,
+        request: Request,
+        moment: Moment,
+    ) -> (Pass<N>, Result<Outcome, StepFault>)
+        requires first { IsTrue (has_its_first request) }
+        ensures later { IsLater N.policy pass result.0 }
+        ensures done { IfOk result.1 (λ o. AddsOwn pass result.0
+            (left_by (asked_on pass.line user request moment) o)) }
+        ensures refused { OnErr result.1 (mine result.0 ≡ mine pass) }
+        ensures never_refused { OnErr result.1 (MayBeRefused (gate_met N.policy result.0)
+            (asked_on pass.line user request moment)) }
+        ensures full { IfErr result.1 (IsToldFull (gate_met N.policy result.0)) }
+    {
+        self.desk.lock(rt).act(pass, user, request, moment)
+    }
+
+    fn match_one<R: Wait>(
+        &self,
+        rt: &R,
+        pass: Pass<N>,
+        moment: Moment,
+    ) -> (Pass<N>, Result<Option<Outcome>, StepFault>)
+        ensures later { IsLater N.policy pass result.0 }
+        ensures own { mine result.0 ≡ mine pass }
+        ensures found { IfOk result.1 (λ found. IfSome found (λ o.
+            EndsWith pass result.0 (matched_by moment o))) }
+        ensures idle { IfOk result.1 (λ found. IfNone found
+            (matching_of (gate_met N.policy result.0) ≡ None)) }
+        ensures waits { OnErr result.1
+            (IsTrue (is_some (matching_of (gate_met N.policy result.0)))) }
+        ensures full { IfErr result.1 (IsToldFull (gate_met N.policy result.0)) }
+    {
+        self.desk.lock(rt).match_one(pass, moment)
+    }
+
+    fn pull<R: Wait>(
+        &self,
+        rt: &R,
+        pass: Pass<N>,
+        user: UserName,
+        from: u64,
+        most: u64,
+    ) -> (Pass<N>, Result<Pulled, PullFault>)
+        ensures later { IsLater N.policy pass result.0 }
+        ensures own { mine result.0 ≡ mine pass }
+        ensures on { OnOk result.1
+            (line_of result.0.front (folded_user user) ≡ Some pass.line) }
+        ensures not_on { IfErr result.1 (λ e. e ≡ pull_faults.NotOn
+            ↔ line_of result.0.front (folded_user user) ≢ Some pass.line) }
+        ensures pulled { IfOk result.1
+            (IsPulled (gate_met N.policy result.0) (folded_user user) from most) }
+    {
+        self.desk.lock(rt).pull(pass, user, from, most)
+    }
+
+    fn logout<R: Wait>(
+        &self,
+        rt: &R,
+        pass: Pass<N>,
+        user: UserName,
+        moment: Moment,
+    ) -> (Pass<N>, Result<Outcome, StepFault>)
+        ensures later { IsLater N.policy pass result.0 }
+        ensures done { IfOk result.1 (λ o. AddsOwn pass result.0
+            (left_by (asked_on pass.line user requests.Logout moment) o)) }
+        ensures refused { OnErr result.1 (mine result.0 ≡ mine pass) }
+        ensures never_refused { OnErr result.1 (MayBeRefused (gate_met N.policy result.0)
+            (asked_on pass.line user requests.Logout moment)) }
+        ensures full { IfErr result.1 (IsToldFull (gate_met N.policy result.0)) }
+    {
+        self.desk.lock(rt).act(pass, user, Request::Logout, moment)
+    }
+
+    fn meet<R: Wait>(&self, rt: &R, one: Pass<N>, other: Pass<N>) -> (Pass<N>, Pass<N>)
+        ensures first { IsLater N.policy one result.0 }
+        ensures second { IsLater N.policy other result.1 }
+        ensures first_own { mine result.0 ≡ mine one }
+        ensures second_own { mine result.1 ≡ mine other }
+        ensures front { result.0.front ≡ result.1.front }
+        ensures apart { one.line ≢ other.line }
+    {
+        self.desk.lock(rt).meet(one, other)
+    }
+
+    fn length(&self, pass: &mut Pass<N>) -> u64 {
+        pass.length()
+    }
+}
