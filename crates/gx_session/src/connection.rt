@@ -1,12 +1,10 @@
 //! A connection: what happens to its session, done to the gate and to the writer.
 
 ghost use Rattle.std.specs.Prelude.{◌≡◌, ◌-◌, ◌^◌, ◌<◌, ◌≤◌, List, ◌∷◌, length, is_some, IfOk, IfErr, OnOk, OnErr, IsFalse, IsTrue};
-ghost use Rattle.std.specs.Io.KnownBytes.{Appends};
 ghost use Rattle.gx_core.specs.Matches.{matching_of, settled_gate, IsSettling};
 ghost use Rattle.gx_soup.specs.declared.packet.ClientPacket.{ClientPacket};
 ghost use Rattle.gx_session.specs.declared.session.Phase.TheVariants.{Waiting};
-ghost use Rattle.gx_devices.specs.Devices.{IsFront};
-ghost use Rattle.gx_session.specs.Faults.{IsToldFull, IsToldRightly, IsFinite, IsBlamed};
+ghost use Rattle.gx_session.specs.Faults.{IsToldFull, IsToldRightly, IsFinite};
 ghost use Rattle.gx_session.specs.Faults.{fault_of_step};
 ghost use Rattle.gx_session.specs.Events.{CanAsk, asks_step, is_over};
 ghost use Rattle.gx_session.specs.Happenings.{happening};
@@ -14,19 +12,19 @@ ghost use Rattle.gx_session.specs.Piping.{is_never_refused, logout_of, step_of, 
 ghost use Rattle.gx_session.specs.Piping.{IsTurnGivenUp, IsPullGivenUp, IsAt};
 ghost use Rattle.gx_session.specs.Piping.{GivesAll, IsCutShort, IsLeaving, IsMatchedInPart};
 ghost use Rattle.gx_session.specs.Table.{turn};
-ghost use Rattle.gx_session.specs.Transcript.{acted, control_bytes, silent, on_event, logged_in, answered};
+ghost use Rattle.gx_session.specs.Transcript.{acted, silent, on_event, logged_in, answered};
 ghost use Rattle.gx_session.specs.Transcript.{matched, pulled, is_on, handled, opened_at};
 ghost use Rattle.gx_session.specs.Transcript.{finished, first_told};
 
 use crate::asking::login_step;
-use crate::event::{Control, Event, Next};
-use crate::fault::{PipeFault, SendFault};
-use crate::sending::send_pulled;
+use crate::event::{Event, Next};
+use crate::fault::PipeFault;
+use crate::sending::{send_control, send_pulled};
 use crate::session::{Phase, Session};
 use gx_core::{Gate, LoginAnswer, Pulled, StepFault, asked, count_of};
-use gx_devices::{Counted, write_whole};
+use gx_devices::Counted;
 use gx_history::record::Request;
-use gx_soup::{ClientPacket, LoginRequest, ServerPacket, encode};
+use gx_soup::{ClientPacket, LoginRequest};
 use gx_units::{OutOfMemory, UserName};
 use std::alloc::Global;
 use std::io::Write;
@@ -65,27 +63,6 @@ fn act(gate: &mut Gate, user: UserName, next: Next, moment: u64) -> Result<(), S
         }
         Next::Idle | Next::Login | Next::Close => Ok(()),
     }
-}
-
-/// Sends a packet of the session's own.
-fn send<W: Write>(alloc: Global, control: Control, writer: &mut Counted<W>) -> Result<(), SendFault>
-    requires { writer.old.failed < 2 ^ 64 - 1 }
-    ensures sent { OnOk result (Appends
-        (W.contents writer.old.device) (W.contents writer.new.device) (control_bytes control)) }
-    ensures front { OnErr result (IsFront
-        (W.contents writer.old.device) (W.contents writer.new.device) (control_bytes control)) }
-    ensures kept { OnOk result (writer.new.failed ≡ writer.old.failed) }
-    ensures told { IfErr result (IsBlamed writer.old.failed writer.new.failed) }
-{
-    let packet = match control {
-        Control::Accepted(name, next) => ServerPacket::Accepted(name, next),
-        Control::Rejected(reason) => ServerPacket::Rejected(reason),
-        Control::Heartbeat => ServerPacket::Heartbeat,
-        Control::EndOfSession => ServerPacket::EndOfSession,
-    };
-    let bytes = encode(alloc, &packet)?;
-    write_whole(writer, bytes.as_slice())?;
-    Ok(())
 }
 
 /// Makes matching steps at this moment until no order waits.
@@ -147,7 +124,7 @@ impl Connection {
         act(gate, self.user, reply.next, moment)?;
         self.session = session;
         if let Some(control) = reply.send {
-            send(alloc, control, writer)?;
+            send_control(alloc, control, writer)?;
         }
         Ok(reply.next)
     }

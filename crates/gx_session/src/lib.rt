@@ -18,5 +18,5 @@ pub use laws::{
     whoever_is_on_may_leave,
 };
 pub use pipe::run_pipe;
-pub use sending::send_pulled;
+pub use sending::{send_control, send_pulled};
 pub use session::{Phase, Session};

@@ -1,11 +1,12 @@
-//! Sending reports.
+//! Sending reports, and packets of the session's own.
 
 ghost use Rattle.std.specs.Prelude.{◌≡◌, ◌-◌, ◌^◌, ◌<◌, IfOk, IfErr, OnOk, OnErr};
 ghost use Rattle.std.specs.Io.KnownBytes.{Appends};
 ghost use Rattle.gx_devices.specs.Devices.{IsFront};
 ghost use Rattle.gx_session.specs.Faults.{IsBlamed};
-ghost use Rattle.gx_session.specs.Transcript.{report_packet, reports_text};
+ghost use Rattle.gx_session.specs.Transcript.{control_bytes, report_packet, reports_text};
 
+use crate::event::Control;
 use crate::fault::SendFault;
 use gx_core::Pulled;
 use gx_devices::{Counted, write_whole};
@@ -56,5 +57,30 @@ pub fn send_pulled<W: Write>(
 {
     let text = reports_text(alloc, pulled.reports.as_slice())?;
     write_whole(writer, text.as_slice())?;
+    Ok(())
+}
+
+/// Sends a packet of the session's own, and nothing else. After a fault a front of it is written.
+pub fn send_control<W: Write>(
+    alloc: Global,
+    control: Control,
+    writer: &mut Counted<W>,
+) -> Result<(), SendFault>
+    requires { writer.old.failed < 2 ^ 64 - 1 }
+    ensures sent { OnOk result (Appends
+        (W.contents writer.old.device) (W.contents writer.new.device) (control_bytes control)) }
+    ensures front { OnErr result (IsFront
+        (W.contents writer.old.device) (W.contents writer.new.device) (control_bytes control)) }
+    ensures kept { OnOk result (writer.new.failed ≡ writer.old.failed) }
+    ensures told { IfErr result (IsBlamed writer.old.failed writer.new.failed) }
+{
+    let packet = match control {
+        Control::Accepted(name, next) => ServerPacket::Accepted(name, next),
+        Control::Rejected(reason) => ServerPacket::Rejected(reason),
+        Control::Heartbeat => ServerPacket::Heartbeat,
+        Control::EndOfSession => ServerPacket::EndOfSession,
+    };
+    let bytes = encode(alloc, &packet)?;
+    write_whole(writer, bytes.as_slice())?;
     Ok(())
 }

@@ -1,0 +1,35 @@
+//! A server: connections in threads of their own over one gate that they share.
+//!
+//! Each connection has a reader, which takes packets and asks the gate, and a writer, which alone
+//! writes. They share a [`Link`]: the session and the pass, under a lock that nobody holds while he
+//! reads or writes. A matcher makes matching steps. All of them are generic over the [`House`] that
+//! they ask, the reader and the writer; each door of a shared gate gives one by [`Through`].
+#![tactic(auto)]
+
+mod bell;
+mod clock;
+mod connection;
+mod course;
+mod fault;
+mod house;
+mod link;
+mod lobby;
+mod matching;
+mod places;
+mod reading;
+mod seat;
+mod serving;
+mod stop;
+mod writing;
+
+pub use bell::Bell;
+pub use connection::{HangUp, converse};
+pub use fault::ServeFault;
+pub use house::{House, Through};
+pub use link::Link;
+pub use lobby::Lobby;
+pub use matching::match_on;
+pub use reading::read_on;
+pub use serving::{Served, serve};
+pub use stop::Stop;
+pub use writing::write_on;

@@ -1,0 +1,38 @@
+//! The matcher.
+
+use crate::bell::Bell;
+use crate::clock::now;
+use crate::house::House;
+use std::sync::Wait;
+use std::time::Clock;
+
+/// Makes matching steps until no order waits, or one is refused.
+fn settle<D: House, R: Wait + Clock>(rt: &R, door: &D, mut pass: D::Ticket) -> D::Ticket {
+    for _ in rt.forever() {
+        let (back, found) = door.match_one(rt, pass, now(rt));
+        pass = back;
+        match found {
+            Ok(Some(_)) => {}
+            Ok(None) | Err(_) => break,
+        }
+    }
+    pass
+}
+
+/// Makes matching steps whenever the bell is rung, and tries a refused one again, until the bell is
+/// closed. Gives the pass back.
+pub fn match_on<D: House, R: Wait + Clock>(
+    rt: &R,
+    door: &D,
+    bell: &Bell,
+    mut pass: D::Ticket,
+) -> D::Ticket {
+    for _ in rt.forever() {
+        let closed = bell.hear(rt);
+        pass = settle(rt, door, pass);
+        if closed {
+            break;
+        }
+    }
+    pass
+}

@@ -1,0 +1,225 @@
+//! The server.
+
+ghost use Rattle.std.specs.Prelude.{◌≡◌, IfOk};
+ghost use Rattle.gx_history.specs.Verdicts.{IsLegal};
+
+use crate::clock::now;
+use crate::connection::converse;
+use crate::fault::ServeFault;
+use crate::house::{House, Through};
+use crate::link::Link;
+use crate::lobby::Lobby;
+use crate::matching::match_on;
+use crate::stop::Stop;
+use gx_core::Gate;
+use gx_history::policy::Policy;
+use gx_pass::{Blank, GateName};
+use gx_shared::SharedGate;
+use std::alloc::Global;
+use std::io::ErrorKind;
+use std::marker::Brand;
+use std::net::{TcpListener, TcpStream};
+use std::sync::Wait;
+use std::thread::Threads;
+use std::time::{Clock, Duration};
+use std::{io, thread};
+
+/// So often an accept may fail in a row before the server gives up.
+const FAILURES: u32 = 50;
+
+/// So many milliseconds lie between a failed accept and the next.
+const PAUSE: u64 = 100;
+
+/// After so many milliseconds the server looks for a new peer, and whether it is to end.
+const POLL: u64 = 5;
+
+/// A write of which a peer takes nothing for so many milliseconds fails.
+const WRITE_PATIENCE: u64 = 5_000;
+
+/// What a server leaves. Its gate is closed, and never dropped.
+pub struct Served {
+    /// The gate of all that was done.
+    pub gate: Gate,
+    /// Why the server gave up, if it did.
+    pub ended: Result<(), ServeFault>,
+}
+
+/// Takes a connection; `None` once the server is to end. One that fails before it is taken is passed
+/// over, and so is a want of descriptors that ends soon.
+fn accept<R: Wait + Clock>(
+    rt: &R,
+    stop: &Stop,
+    listener: &TcpListener,
+) -> Result<Option<TcpStream>, ServeFault> {
+    let mut left = FAILURES;
+    for _ in rt.forever() {
+        if stop.is_asked() {
+            return Ok(None);
+        }
+        match listener.accept() {
+            Ok((stream, _)) => return Ok(Some(stream)),
+            Err(error) if error.kind() == ErrorKind::WouldBlock => {
+                thread::sleep(rt, Duration::from_millis(POLL));
+            }
+            Err(_) => {
+                left = left.saturating_sub(1);
+                thread::sleep(rt, Duration::from_millis(PAUSE));
+            }
+        }
+        if left == 0 {
+            return Err(ServeFault::ListenFailed);
+        }
+    }
+    unreachable!()
+}
+
+/// Sets a stream up: small packets go out at once, and a write ends in time.
+fn set_up(stream: &TcpStream) -> io::Result<()> {
+    stream.set_nodelay(true)?;
+    stream.set_write_timeout(Some(Duration::from_millis(WRITE_PATIENCE)))
+}
+
+/// Serves a connection to its end, with this pass, and gives its place back.
+fn serve_stream<T: Drop + Send, D: House<Ticket = T> + Sync, R: Threads + Wait + Clock + Sync>(
+    rt: &R,
+    alloc: Global,
+    door: &D,
+    lobby: &Lobby,
+    pass: T,
+    stream: TcpStream,
+) {
+    if set_up(&stream).is_ok() {
+        let link = Link::new(pass, now(rt));
+        let bell = &lobby.bell;
+        let stop = &lobby.stop;
+        converse(
+            rt, alloc, door, bell, stop, &link, &stream, &stream, &stream,
+        );
+    }
+    drop(stream);
+    lobby.places.give(rt);
+}
+
+/// Takes connections, each in a thread of its own, and waits until all have ended. One for which there
+/// is no pass or no thread is closed.
+fn take_connections<
+    'x,
+    T: Drop + Send,
+    D: House<Ticket = T> + Sync,
+    R: Threads + Wait + Clock + Sync,
+>(
+    rt: &'x R,
+    alloc: Global,
+    door: &'x D,
+    lobby: &'x Lobby,
+    listener: TcpListener,
+    connections: u64,
+) -> Result<(), ServeFault> {
+    thread::scope(thread::scope_env(), rt, |scope| {
+        for _ in 0..connections {
+            lobby.places.take(rt);
+            let Some(stream) = accept(rt, &lobby.stop, &listener)? else {
+                break;
+            };
+            let Ok(pass) = door.issue(rt) else {
+                lobby.places.give(rt);
+                continue;
+            };
+            let serving = (&*scope).spawn(move || serve_stream(
+                rt, alloc, door, lobby, pass, stream,
+            ));
+            if serving.is_err() {
+                lobby.places.give(rt);
+            }
+        }
+        drop(listener);
+        Ok(())
+    })
+}
+
+/// Runs the matcher beside the connections. Gives the matcher's pass, and why no more connections were
+/// taken; `None` where no thread could be made for the matcher.
+fn run<'x, T: Drop + Send, D: House<Ticket = T> + Sync, R: Threads + Wait + Clock + Sync>(
+    rt: &'x R,
+    alloc: Global,
+    door: &'x D,
+    lobby: &'x Lobby,
+    pass: T,
+    listener: TcpListener,
+    connections: u64,
+) -> Option<(T, Result<(), ServeFault>)> {
+    thread::scope(thread::scope_env(), rt, |scope| {
+        let Ok(matcher) = (&*scope).spawn(move || match_on(rt, door, &lobby.bell, pass)) else {
+            return None;
+        };
+        let taken = take_connections(rt, alloc, door, lobby, listener, connections);
+        lobby.bell.close(rt);
+        Some((matcher.join(rt), taken))
+    })
+}
+
+/// Serves a house. Gives back a pass, and why the server gave up, if it did; `None` where memory was
+/// refused before any connection was taken.
+fn serve_house<T: Drop + Send, D: House<Ticket = T> + Sync, R: Threads + Wait + Clock + Sync>(
+    rt: &R,
+    alloc: Global,
+    house: &D,
+    lobby: &Lobby,
+    listener: TcpListener,
+    connections: u64,
+) -> Option<(T, Result<(), ServeFault>)> {
+    let Ok(pass) = house.issue(rt) else {
+        return None;
+    };
+    if listener.set_nonblocking(true).is_err() {
+        return Some((pass, Err(ServeFault::ListenFailed)));
+    }
+    lobby.bell.open(rt);
+    run(rt, alloc, house, lobby, pass, listener, connections)
+}
+
+fn serve_named<N: GateName + Send + Sync, R: Threads + Wait + Clock + Sync>(
+    rt: &R,
+    alloc: Global,
+    policy: &Policy,
+    blank: Blank,
+    lobby: &Lobby,
+    listener: TcpListener,
+    connections: u64,
+) -> Result<Served, ServeFault>
+    requires policy { policy.now ≡ N.policy }
+    requires blank { blank ≡ N.table }
+    ensures policy { IfOk result (λ served. served.gate.policy ≡ N.policy) }
+    ensures legal { IfOk result (λ served. IsLegal N.policy served.gate.records) }
+{
+    let house: Through<N, SharedGate<N>> = Through::new(SharedGate::new(alloc, policy, blank)?);
+    let ran = serve_house(rt, alloc, &house, lobby, listener, connections);
+    let door = house.into_door();
+    match ran {
+        Some((pass, ended)) => Ok(Served {
+            gate: door.close(pass),
+            ended,
+        }),
+        None => {
+            door.let_go();
+            Err(ServeFault::OutOfMemory)
+        }
+    }
+}
+
+/// Takes connections under the policy, and serves each until it ends: so many of them, or
+/// fewer where the lobby is asked to end. Gives the gate of all that was done, also where it gave up.
+pub fn serve<R: Threads + Wait + Clock + Sync>(
+    rt: &R,
+    alloc: Global,
+    policy: &Policy,
+    lobby: &Lobby,
+    listener: TcpListener,
+    connections: u64,
+) -> Result<Served, ServeFault>
+    ensures policy { IfOk result (λ served. served.gate.policy ≡ policy.now) }
+    ensures legal { IfOk result (λ served. IsLegal policy.now served.gate.records) }
+{
+    let blank = Blank::new(alloc)?;
+    serve_named::<Brand, R>(rt, alloc, policy, blank, lobby, listener, connections)
+}
