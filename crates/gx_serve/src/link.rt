@@ -10,12 +10,20 @@ use gx_soup::ClientPacket;
 use std::sync::{Condvar, Mutex, Wait};
 use std::time::{Clock, Duration};
 
-/// After so many milliseconds the writer looks for reports that others' steps made, and at the
-/// time.
+/// After so many milliseconds the writer of a user who is on looks for reports that others' steps made,
+/// and at the time.
 const POLL: u64 = 1;
+
+/// After so many milliseconds the writer of a connection where nobody is on looks at the time.
+const REST: u64 = 100;
 
 /// So many milliseconds a connection whose session is over is read to its end, before it is cut.
 const LINGER: u64 = 1_000;
+
+/// How long a writer waits that has nothing to do and is not woken.
+fn patience(on: bool) -> Duration {
+    Duration::from_millis(if on { POLL } else { REST })
+}
 
 /// What the two threads of a connection share.
 #[derive(Drop)]
@@ -69,14 +77,16 @@ impl<T: Drop> Link<T> {
         stop: &Stop,
         course: &mut Course,
     ) -> Due {
-        let poll = Duration::from_millis(POLL);
         let mut seat = self.seat.lock(rt);
         for _ in rt.forever() {
             if stop.is_asked() {
                 seat.tell(rt, door, Event::End, now(rt));
             }
             match seat.due(rt, door, course, now(rt)) {
-                Due::Nothing => seat = self.news.wait_timeout(rt, seat, poll).0,
+                Due::Nothing => {
+                    let most = patience(seat.is_on());
+                    seat = self.news.wait_timeout(rt, seat, most).0;
+                }
                 due => return due,
             }
         }

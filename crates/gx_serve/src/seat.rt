@@ -75,7 +75,8 @@ impl<T: Drop> Seat<T> {
         }
     }
 
-    fn is_on(&self) -> bool {
+    /// Whether a user is logged in.
+    pub fn is_on(&self) -> bool {
         match self.session.phase() {
             Phase::On => true,
             Phase::Fresh | Phase::Waiting | Phase::Abandoned | Phase::Done => false,
