@@ -6,24 +6,30 @@ use clap::error::ErrorKind;
 use gx_auditing::{
     AuditAnswer, AuditingFault, Choice, more_of_audit, show_audit, told_of_audit, write_audit,
 };
-use gx_command_line::{Asked, AuditFiles, RunFiles, Wanted};
+use gx_command_line::{Asked, AuditFiles, RunFiles, Serving, Wanted};
 use gx_core::Gate;
 use gx_devices::Counted;
 use gx_history::policy::Policy;
 use gx_scripting::{Explained, run_script_explained};
+use gx_serve::{Lobby, ServeFault, Served, serve};
 use gx_server::{ProgramFault, open_gate, policy_for, told_of_policy};
 use gx_session::{PipeFault, run_pipe};
 use gx_units::OutOfMemory;
 use std::alloc::Global;
 use std::fs::File;
-use std::io::Write;
+use std::io::{Read, Write};
+use std::net::{Ipv4Addr, Net, SocketAddr, TcpListener, TcpStream};
 use std::process::ExitCode;
-use std::{fs, io};
+use std::sync::{Arc, Wait};
+use std::thread::Threads;
+use std::time::Clock;
+use std::{fs, io, thread};
 
 /// The moment of a connection's first packet.
 const FIRST_MOMENT: u64 = 1;
 
-/// Why the program gave up, and which file can't be read or written, in the system's words.
+/// Why the program gave up, and which file can't be read or written, or where nothing can be listened to, in the
+/// system's words.
 #[derive(Drop)]
 struct Ended<'a> {
     fault: ProgramFault,
@@ -51,6 +57,15 @@ impl<'a> From<Explained> for Ended<'a> {
 impl<'a> From<OutOfMemory> for Ended<'a> {
     fn from(refused: OutOfMemory) -> Ended<'a> {
         ProgramFault::from(refused).into()
+    }
+}
+
+impl<'a> From<ServeFault> for Ended<'a> {
+    fn from(fault: ServeFault) -> Ended<'a> {
+        match fault {
+            ServeFault::OutOfMemory => OutOfMemory.into(),
+            ServeFault::ListenFailed => ProgramFault::ListenFailed.into(),
+        }
     }
 }
 
@@ -95,7 +110,7 @@ fn gate_of<'a>(rt: &HostRuntime, file: Option<&'a str>) -> Result<Gate, Ended<'a
 }
 
 /// Serves one connection on a gate.
-fn serve(rt: &HostRuntime, gate: &mut Gate) -> Result<(), PipeFault> {
+fn serve_one(rt: &HostRuntime, gate: &mut Gate) -> Result<(), PipeFault> {
     let mut reader = Counted::new(rt.reader());
     let mut writer = Counted::new(io::writer(rt));
     run_pipe(rt.alloc(), gate, FIRST_MOMENT, &mut reader, &mut writer)
@@ -128,7 +143,7 @@ fn keep_audit<'a>(rt: &HostRuntime, gate: &Gate, path: Option<&'a str>) -> Resul
 /// Serves one connection, and writes the audit.
 fn pipe<'a>(rt: &HostRuntime, files: RunFiles<'a>) -> Result<(), Ended<'a>> {
     let mut gate = gate_of(rt, files.policy)?;
-    let served = serve(rt, &mut gate);
+    let served = serve_one(rt, &mut gate);
     let kept = keep_audit(rt, &gate, files.audit);
     gate.close();
     served?;
@@ -152,7 +167,7 @@ fn script<'a>(rt: &HostRuntime, files: RunFiles<'a>) -> Result<(), Ended<'a>> {
     kept
 }
 
-/// The policy to check under: that of the file that was asked for, if one was.
+/// The policy of a server or of a check: that of the file that was asked for, if one was.
 fn policy_of<'a>(rt: &HostRuntime, file: Option<&'a str>) -> Result<Policy, Ended<'a>> {
     match file {
         Some(path) => {
@@ -161,6 +176,91 @@ fn policy_of<'a>(rt: &HostRuntime, file: Option<&'a str>) -> Result<Policy, Ende
         }
         None => Ok(policy_for(rt.alloc(), None)?),
     }
+}
+
+/// Listens on a port of this machine's own address, and tells which.
+fn listen<'a, R: Net<Listener = TcpListener, Stream = TcpStream> + Eprint>(
+    rt: &R,
+    port: u16,
+) -> Result<TcpListener, Ended<'a>> {
+    let address = SocketAddr::from((Ipv4Addr::LOCALHOST, port));
+    match TcpListener::bind(rt, address) {
+        Ok(listener) => {
+            let _ = eprintln!(rt; "listening on {address}");
+            Ok(listener)
+        }
+        Err(error) => Err(Ended {
+            fault: ProgramFault::ListenFailed,
+            file: Some(("127.0.0.1", error)),
+        }),
+    }
+}
+
+/// Asks for the end of a server once the reader's input has ended or fails.
+fn await_end<I: Read>(reader: &mut I, lobby: &Lobby) {
+    let mut room = [0u8; 256];
+    for _ in 0..u64::MAX {
+        match reader.read(&mut room) {
+            Ok(n) if n > 0 => {}
+            _ => break,
+        }
+    }
+    lobby.end();
+}
+
+/// How many connections a server takes, where it is not ended before.
+fn connections_of(serving: &Serving) -> u64 {
+    match serving.connections {
+        Some(connections) => u64::from(connections),
+        None => u64::MAX,
+    }
+}
+
+/// Has the end of a server asked for at the end of standard input, which a thread of its own awaits.
+fn end_with_input<R: Threads>(
+    rt: &R,
+    host: HostRuntime,
+    lobby: &Arc<Lobby, Global>,
+) -> Result<(), OutOfMemory> {
+    let theirs = Arc::try_clone(lobby)?;
+    match thread::spawn(rt, move || await_end(&mut host.reader(), &theirs)) {
+        Ok(_) => Ok(()),
+        Err(_) => Err(OutOfMemory),
+    }
+}
+
+/// Serves connections, until as many as were asked for have ended, or standard input has.
+fn serve_on<'a, R>(
+    rt: &R,
+    host: &HostRuntime,
+    policy: &Policy,
+    serving: &Serving<'a>,
+) -> Result<Served, Ended<'a>>
+where
+    R: Net<Listener = TcpListener, Stream = TcpStream> + Threads + Wait + Clock + Eprint + Sync,
+{
+    let listener = listen(rt, serving.port)?;
+    let Ok(lobby) = Arc::new(host.alloc(), Lobby::new(serving.at_once)) else {
+        return Err(OutOfMemory.into());
+    };
+    if serving.connections.is_none() {
+        end_with_input(rt, *host, &lobby)?;
+    }
+    let connections = connections_of(serving);
+    Ok(serve(rt, host.alloc(), policy, &lobby, listener, connections)?)
+}
+
+/// Serves connections, and writes the audit.
+fn serve_port<'a, R>(rt: &R, host: &HostRuntime, serving: Serving<'a>) -> Result<(), Ended<'a>>
+where
+    R: Net<Listener = TcpListener, Stream = TcpStream> + Threads + Wait + Clock + Eprint + Sync,
+{
+    let policy = policy_of(host, serving.files.policy)?;
+    let Served { gate, ended } = serve_on(rt, host, &policy, &serving)?;
+    let kept = keep_audit(host, &gate, serving.files.audit);
+    gate.close();
+    ended?;
+    kept
 }
 
 /// Puts behind an answer what more there is to tell of it; nothing where there is no memory for it. The first line on
@@ -238,6 +338,8 @@ fn run<'a>(rt: &HostRuntime, asked: Asked<'a>) -> Result<ExitCode, Ended<'a>> {
         Asked::Pipe(files) => pipe(rt, files)?,
         Asked::Script(files) => script(rt, files)?,
         Asked::Policy(file) => policy(rt, file)?,
+        // served by `main`, which alone may start threads
+        Asked::Serve(_) => {}
         Asked::Check(files) => return check(rt, files),
         Asked::Show(files, wanted) => return show(rt, files, wanted),
     }
@@ -256,7 +358,7 @@ fn tell_more(rt: &HostRuntime, ended: &Ended) {
                 let _ = eprintln!(rt; "{wrong}");
             }
         }
-        ProgramFault::Unread | ProgramFault::Pipe(_) => {
+        ProgramFault::Unread | ProgramFault::ListenFailed | ProgramFault::Pipe(_) => {
             if let Some((path, error)) = &ended.file {
                 let _ = eprintln!(rt; "{path}: {error}");
             }
@@ -270,6 +372,14 @@ fn tell(rt: &HostRuntime, ended: Ended) -> ExitCode {
     let _ = rt.stderr().write_all(line.as_slice());
     tell_more(rt, &ended);
     ExitCode::from(ended.fault.status())
+}
+
+/// The status of a server that has ended.
+fn status_of_server(rt: &HostRuntime, ended: Result<(), Ended>) -> ExitCode {
+    match ended {
+        Ok(()) => ExitCode::SUCCESS,
+        Err(ended) => tell(rt, ended),
+    }
 }
 
 /// Does what was asked, or tells why not: the status of either.
@@ -291,19 +401,23 @@ fn tell_usage(rt: &HostRuntime, error: &Error) -> ExitCode {
     }
 }
 
-/// Reads the arguments and does what they ask.
-fn act(rt: &HostRuntime) -> Result<ExitCode, OutOfMemory> {
-    let words = words_of(rt)?;
-    match gx_command_line::read(rt.alloc(), words.as_slice()) {
-        Ok(Some(asked)) => Ok(done(rt, asked)),
-        Ok(None) => Ok(ExitCode::SUCCESS),
-        Err(error) => Ok(tell_usage(rt, &error)),
+/// Reads the arguments: what they ask for, or the status of what was told.
+fn asked_of<'a>(rt: &HostRuntime, words: &'a [String]) -> Result<Asked<'a>, ExitCode> {
+    match gx_command_line::read(rt.alloc(), words) {
+        Ok(Some(asked)) => Ok(asked),
+        Ok(None) => Err(ExitCode::SUCCESS),
+        Err(error) => Err(tell_usage(rt, &error)),
     }
 }
 
 fn main(rt: HostRuntime) -> ExitCode {
-    match act(&rt) {
-        Ok(status) => status,
-        Err(refused) => tell(&rt, refused.into()),
+    let words = match words_of(&rt) {
+        Ok(words) => words,
+        Err(refused) => return tell(&rt, refused.into()),
+    };
+    match asked_of(&rt, words.as_slice()) {
+        Ok(Asked::Serve(serving)) => status_of_server(&rt, serve_port(&rt, &rt, serving)),
+        Ok(asked) => done(&rt, asked),
+        Err(status) => status,
     }
 }

@@ -1,7 +1,7 @@
 //! The command line of the program `gate`: what may be asked, with its help, and what a call asks for.
 #![tactic(auto)]
 
-use clap::{Arg, ArgMatches, Command, Error};
+use clap::{Arg, ArgMatches, Command, Error, value_parser};
 use std::alloc::{AllocError, Global};
 
 /// What `gate script --help` says of the lines of a script.
@@ -55,6 +55,19 @@ pub struct AuditFiles<'a> {
     pub policy: Option<&'a str>,
 }
 
+/// What a server is to do.
+#[derive(Clone, Copy, Debug, PartialEq, Eq)]
+pub struct Serving<'a> {
+    /// The files of the run.
+    pub files: RunFiles<'a>,
+    /// The port to listen on.
+    pub port: u16,
+    /// How many connections to take; without it they are taken until standard input ends.
+    pub connections: Option<u16>,
+    /// How many connections to serve at once.
+    pub at_once: u16,
+}
+
 /// Which records of an audit are wanted.
 #[derive(Clone, Copy, Debug, PartialEq, Eq)]
 pub struct Wanted<'a> {
@@ -69,6 +82,8 @@ pub struct Wanted<'a> {
 pub enum Asked<'a> {
     /// `gate pipe`: to serve one connection.
     Pipe(RunFiles<'a>),
+    /// `gate serve`: to serve connections to a port.
+    Serve(Serving<'a>),
     /// `gate script`: to run a script.
     Script(RunFiles<'a>),
     /// `gate policy`: to tell of this policy file.
@@ -101,6 +116,43 @@ fn pipe_command<'a>(alloc: Global) -> Result<Command<'a>, AllocError> {
         "Serves one SoupBinTCP connection: client packets on standard input, server packets on standard output",
     );
     Ok(pipe.arg(policy_option(alloc))?.arg(audit_option(alloc))?)
+}
+
+/// The option `--connections N`.
+fn connections_option<'a>(alloc: Global) -> Arg<'a> {
+    Arg::new(alloc, "connections")
+        .long("connections")
+        .value_name("N")
+        .value_parser(value_parser!(u16).range(1..65_535))
+        .help(
+            "End once N connections were taken and have ended; without it the server ends with its standard input",
+        )
+}
+
+/// The option `--connections-at-once N`.
+fn at_once_option<'a>(alloc: Global) -> Arg<'a> {
+    Arg::new(alloc, "at-once")
+        .long("connections-at-once")
+        .value_name("N")
+        .value_parser(value_parser!(u16).range(1..65_535))
+        .default_value("1024")
+        .help("How many connections to serve at once; further ones wait")
+}
+
+/// `gate serve`.
+fn serve_command<'a>(alloc: Global) -> Result<Command<'a>, AllocError> {
+    let port = Arg::new(alloc, "port")
+        .long("port")
+        .value_name("P")
+        .value_parser(value_parser!(u16).range(1..))
+        .required(true)
+        .help("The port of this machine's own address 127.0.0.1 to listen on");
+    let serve = Command::new(alloc, "serve").about(
+        "Serves SoupBinTCP connections over TCP, all of them on one gate, each in threads of its own",
+    );
+    let serve = serve.arg(port)?.arg(connections_option(alloc))?;
+    let serve = serve.arg(at_once_option(alloc))?;
+    Ok(serve.arg(policy_option(alloc))?.arg(audit_option(alloc))?)
 }
 
 /// `gate script`.
@@ -168,6 +220,7 @@ fn command_line<'a>(alloc: Global) -> Result<Command<'a>, AllocError> {
         .subcommand_required(true)
         .arg_required_else_help(true);
     let gate = gate.subcommand(pipe_command(alloc)?)?;
+    let gate = gate.subcommand(serve_command(alloc)?)?;
     let gate = gate.subcommand(script_command(alloc)?)?;
     let gate = gate.subcommand(policy_command(alloc)?)?;
     let gate = gate.subcommand(check_command(alloc)?)?;
@@ -180,6 +233,16 @@ fn run_files<'a>(given: &ArgMatches<'a>) -> RunFiles<'a> {
         policy: given.get_str("policy"),
         audit: given.get_str("audit"),
     }
+}
+
+/// What a server is to do.
+fn server_options<'a>(given: &ArgMatches<'a>) -> Option<Serving<'a>> {
+    Some(Serving {
+        files: run_files(given),
+        port: given.get_one::<u16>("port")?,
+        connections: given.get_one::<u16>("connections"),
+        at_once: given.get_one::<u16>("at-once")?,
+    })
 }
 
 /// An audit, and the policy of its day.
@@ -202,6 +265,7 @@ fn wanted_records<'a>(given: &ArgMatches<'a>) -> Wanted<'a> {
 fn asked_for<'a>(given: &ArgMatches<'a>) -> Option<Asked<'a>> {
     match given.subcommand()? {
         ("pipe", given) => Some(Asked::Pipe(run_files(given))),
+        ("serve", given) => Some(Asked::Serve(server_options(given)?)),
         ("script", given) => Some(Asked::Script(run_files(given))),
         ("policy", given) => Some(Asked::Policy(given.get_str("file")?)),
         ("check", given) => Some(Asked::Check(audit_files(given)?)),

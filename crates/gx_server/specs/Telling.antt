@@ -9,7 +9,7 @@ use Rattle.gx_session.specs.declared.fault.PipeFault.TheVariants as pipe_faults
 use Rattle.gx_scripting.specs.declared.script_fault.ScriptFault.{ScriptFault}
 use Rattle.gx_scripting.specs.declared.script_fault.ScriptFault.TheVariants as script_faults
 use Rattle.gx_server.specs.declared.program_fault.ProgramFault.{ProgramFault}
-use Rattle.gx_server.specs.declared.program_fault.ProgramFault.TheVariants.{Pipe, Script, Unread, Policy}
+use Rattle.gx_server.specs.declared.program_fault.ProgramFault.TheVariants.{Pipe, Script, Unread, Policy, ListenFailed}
 
 -- memory ran out
 abbrev pub out_of_memory : ProgramFault
@@ -32,6 +32,7 @@ abbrev pub words_of : ProgramFault → List ℕ
 words_of (Pipe fault) = fault_words fault
 words_of (Script explained) = script_words explained.fault
 words_of Unread = codes "read failed"
+words_of ListenFailed = codes "listen failed"
 words_of (Policy fault) = policy_words fault.kind
 
 -- a line of these words
@@ -55,4 +56,5 @@ abbrev pub status_of : ProgramFault → ℕ
 status_of (Pipe fault) = 1
 status_of (Script explained) = script_status explained.fault
 status_of Unread = 1
+status_of ListenFailed = 1
 status_of (Policy fault) = if is_memory fault.kind then 1 else 3

@@ -29,6 +29,8 @@ pub enum ProgramFault {
     Unread,
     /// The policy file has a fault.
     Policy(PolicyFault),
+    /// The port can't be listened on, or no connection to it could be accepted.
+    ListenFailed,
 }
 
 impl From<PipeFault> for ProgramFault {
@@ -84,7 +86,7 @@ impl ProgramFault {
         ensures { result ≡ status_of self.now }
     {
         match self {
-            ProgramFault::Pipe(_) | ProgramFault::Unread => 1,
+            ProgramFault::Pipe(_) | ProgramFault::Unread | ProgramFault::ListenFailed => 1,
             ProgramFault::Script(explained) => script_status(explained.fault),
             ProgramFault::Policy(fault) => { if fault.kind.is_memory() { 1 } else { 3 } }
         }
@@ -99,6 +101,7 @@ impl ProgramFault {
             ProgramFault::Script(explained) => script_line(explained.fault),
             ProgramFault::Unread => line_of(b"read failed"),
             ProgramFault::Policy(fault) => policy_line(fault.kind),
+            ProgramFault::ListenFailed => line_of(b"listen failed"),
         }
     }
 }
