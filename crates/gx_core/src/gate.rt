@@ -49,7 +49,8 @@ pub fn record_of(a: &Asked, outcome: Outcome) -> RecordData
 }
 
 /// A policy, and the records of a day under it, the oldest first; and what it keeps of these.
-#[derive(Drop)]
+///
+/// It ends by [`Gate::close`], and is never dropped.
 pub struct Gate {
     alloc: Global,
     pub(crate) policy: Policy,
@@ -86,9 +87,15 @@ impl Gate {
         })
     }
 
-    /// Lets the gate go. Crates above call this in place of a drop at the end of a block: the drop of all that the gate
-    /// keeps is proved here once, and not in each of them.
-    pub fn close(self) {}
+    /// Lets the gate go. The drop of all that it keeps is proved here once, and not in each crate that owns a gate.
+    pub fn close(self) {
+        let Gate {
+            alloc: _,
+            policy: _,
+            keepers: _,
+            history: _,
+        } = self;
+    }
 
     /// Judges the request on all earlier records, and puts its record last.
     ///

@@ -1,13 +1,13 @@
 //! A connection: its two threads.
 
 use crate::bell::Bell;
-use crate::house::House;
 use crate::link::Link;
 use crate::reading::read_on;
 use crate::stop::Stop;
 use crate::writing::write_on;
 use gx_devices::Counted;
 use gx_session::Event;
+use gx_shared::Door;
 use std::alloc::Global;
 use std::io::{Read, Write};
 use std::net::{Shutdown, TcpStream};
@@ -36,7 +36,7 @@ impl HangUp for TcpStream {
 }
 
 /// Writes until the session is over, and hangs up.
-fn speak<D: House, O: Write + Drop, H: HangUp, R: Wait + Clock>(
+fn speak<D: Door, O: Write + Drop, H: HangUp, R: Wait + Clock>(
     rt: &R,
     alloc: Global,
     door: &D,
@@ -53,7 +53,7 @@ fn speak<D: House, O: Write + Drop, H: HangUp, R: Wait + Clock>(
 }
 
 /// Reads to the end.
-fn listen<D: House, I: Read + Drop, R: Wait + Clock>(
+fn listen<D: Door, I: Read + Drop, R: Wait + Clock>(
     rt: &R,
     alloc: Global,
     door: &D,
@@ -68,7 +68,7 @@ fn listen<D: House, I: Read + Drop, R: Wait + Clock>(
 pub fn converse<
     'x,
     T: Drop + Send,
-    D: House<Ticket = T> + Sync,
+    D: Door<Ticket = T> + Sync,
     I: Read + Drop + Send,
     O: Write + Drop,
     H: HangUp + Sync,

@@ -2,8 +2,8 @@
 //!
 //! Each connection has a reader, which takes packets and asks the gate, and a writer, which alone
 //! writes. They share a [`Link`]: the session and the pass, under a lock that nobody holds while he
-//! reads or writes. A matcher makes matching steps. All of them are generic over the [`House`] that
-//! they ask, the reader and the writer; each door of a shared gate gives one by [`Through`].
+//! reads or writes. A matcher makes matching steps. All of them are generic over the [`Door`](gx_shared::Door)
+//! that they ask, the reader and the writer.
 #![tactic(auto)]
 
 mod bell;
@@ -11,7 +11,6 @@ mod clock;
 mod connection;
 mod course;
 mod fault;
-mod house;
 mod link;
 mod lobby;
 mod matching;
@@ -25,7 +24,6 @@ mod writing;
 pub use bell::Bell;
 pub use connection::{HangUp, converse};
 pub use fault::ServeFault;
-pub use house::{House, Through};
 pub use link::Link;
 pub use lobby::Lobby;
 pub use matching::match_on;

@@ -2,10 +2,10 @@
 
 use crate::clock::now;
 use crate::course::Course;
-use crate::house::House;
 use crate::seat::{Due, Seat};
 use crate::stop::Stop;
 use gx_session::Event;
+use gx_shared::Door;
 use gx_soup::ClientPacket;
 use std::sync::{Condvar, Mutex, Wait};
 use std::time::{Clock, Duration};
@@ -42,7 +42,7 @@ impl<T: Drop> Link<T> {
     }
 
     /// Takes a packet. Answers whether the session is over.
-    pub fn take<D: House<Ticket = T>, R: Wait + Clock>(
+    pub fn take<D: Door<Ticket = T>, R: Wait + Clock>(
         &self,
         rt: &R,
         door: &D,
@@ -55,13 +55,13 @@ impl<T: Drop> Link<T> {
     }
 
     /// Tells the session of an event.
-    pub fn tell<D: House<Ticket = T>, R: Wait + Clock>(&self, rt: &R, door: &D, event: Event<'_>) {
+    pub fn tell<D: Door<Ticket = T>, R: Wait + Clock>(&self, rt: &R, door: &D, event: Event<'_>) {
         self.seat.lock(rt).tell(rt, door, event, now(rt));
         self.news.notify_one();
     }
 
     /// The reader has ended: its input has no more.
-    pub fn end<D: House<Ticket = T>, R: Wait + Clock>(&self, rt: &R, door: &D) {
+    pub fn end<D: Door<Ticket = T>, R: Wait + Clock>(&self, rt: &R, door: &D) {
         let mut seat = self.seat.lock(rt);
         seat.tell(rt, door, Event::End, now(rt));
         seat.deafen();
@@ -70,7 +70,7 @@ impl<T: Drop> Link<T> {
 
     /// Waits until the writer has something to do, or the session is over, which it is soon after
     /// the server's end was asked for.
-    pub fn await_due<D: House<Ticket = T>, R: Wait + Clock>(
+    pub fn await_due<D: Door<Ticket = T>, R: Wait + Clock>(
         &self,
         rt: &R,
         door: &D,

@@ -2,12 +2,12 @@
 
 use crate::bell::Bell;
 use crate::clock::now;
-use crate::house::House;
+use gx_shared::Door;
 use std::sync::Wait;
 use std::time::Clock;
 
 /// Makes matching steps until no order waits, or one is refused.
-fn settle<D: House, R: Wait + Clock>(rt: &R, door: &D, mut pass: D::Ticket) -> D::Ticket {
+fn settle<D: Door, R: Wait + Clock>(rt: &R, door: &D, mut pass: D::Ticket) -> D::Ticket {
     for _ in rt.forever() {
         let (back, found) = door.match_one(rt, pass, now(rt));
         pass = back;
@@ -21,7 +21,7 @@ fn settle<D: House, R: Wait + Clock>(rt: &R, door: &D, mut pass: D::Ticket) -> D
 
 /// Makes matching steps whenever the bell is rung, and tries a refused one again, until the bell is
 /// closed. Gives the pass back.
-pub fn match_on<D: House, R: Wait + Clock>(
+pub fn match_on<D: Door, R: Wait + Clock>(
     rt: &R,
     door: &D,
     bell: &Bell,

@@ -1,11 +1,11 @@
 //! The reader of a connection.
 
 use crate::bell::Bell;
-use crate::house::House;
 use crate::link::Link;
 use gx_core::StepFault;
 use gx_devices::Counted;
 use gx_session::Event;
+use gx_shared::Door;
 use gx_soup::Feeder;
 use std::alloc::Global;
 use std::io::Read;
@@ -13,7 +13,7 @@ use std::sync::Wait;
 use std::time::Clock;
 
 /// Takes the packets of a piece. Answers whether the session is over.
-fn take_piece<D: House, R: Wait + Clock>(
+fn take_piece<D: Door, R: Wait + Clock>(
     rt: &R,
     door: &D,
     bell: &Bell,
@@ -40,7 +40,7 @@ fn take_piece<D: House, R: Wait + Clock>(
 
 /// Reads a connection's packets and takes each, until its input ends or fails. Once the session is
 /// over, what comes is let go.
-pub fn read_on<D: House, I: Read, R: Wait + Clock>(
+pub fn read_on<D: Door, I: Read, R: Wait + Clock>(
     rt: &R,
     alloc: Global,
     door: &D,

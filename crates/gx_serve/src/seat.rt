@@ -10,11 +10,10 @@ ghost use Rattle.gx_serve.specs.declared.seat.Due.TheVariants as dues;
 ghost use Rattle.gx_serve.specs.Seats.{left_after, WasAnswered, WasTaken, WasTold};
 
 use crate::course::Course;
-use crate::house::House;
 use gx_core::{Pulled, StepFault};
 use gx_history::record::Request;
 use gx_session::{Control, Event, Next, Phase, Session};
-use gx_shared::PullFault;
+use gx_shared::{Door, PullFault};
 use gx_soup::{ClientPacket, LoginRequest};
 use gx_units::{Moment, UserName};
 use std::sync::Wait;
@@ -96,7 +95,7 @@ impl<T: Drop> Seat<T> {
         self.deaf = true;
     }
 
-    fn act<D: House<Ticket = T>, R: Wait>(
+    fn act<D: Door<Ticket = T>, R: Wait>(
         &mut self,
         rt: &R,
         door: &D,
@@ -120,7 +119,7 @@ impl<T: Drop> Seat<T> {
 
     /// Makes a logout step. The session is over by now: where the step is refused, nothing more can
     /// be done. The gate refuses none that it grants.
-    fn log_out<D: House<Ticket = T>, R: Wait>(&mut self, rt: &R, door: &D, moment: Moment)
+    fn log_out<D: Door<Ticket = T>, R: Wait>(&mut self, rt: &R, door: &D, moment: Moment)
         ensures session { self.new.session ≡ self.old.session }
         ensures left { self.new.left ≡ self.old.left }
     {
@@ -132,7 +131,7 @@ impl<T: Drop> Seat<T> {
     }
 
     /// Tells the session that a step was refused, which ends it.
-    fn refuse<D: House<Ticket = T>, R: Wait>(
+    fn refuse<D: Door<Ticket = T>, R: Wait>(
         &mut self,
         rt: &R,
         door: &D,
@@ -161,7 +160,7 @@ impl<T: Drop> Seat<T> {
 
     /// Tells the session of an event, makes the step that it asks for, and leaves what it asks to
     /// send. Answers what it asks for.
-    pub fn tell<D: House<Ticket = T>, R: Wait>(
+    pub fn tell<D: Door<Ticket = T>, R: Wait>(
         &mut self,
         rt: &R,
         door: &D,
@@ -188,7 +187,7 @@ impl<T: Drop> Seat<T> {
         reply.next
     }
 
-    fn log_in<D: House<Ticket = T>, R: Wait>(
+    fn log_in<D: Door<Ticket = T>, R: Wait>(
         &mut self,
         rt: &R,
         door: &D,
@@ -220,7 +219,7 @@ impl<T: Drop> Seat<T> {
     }
 
     /// Takes a packet: tells the session of it, and does what it asks for.
-    pub fn take<D: House<Ticket = T>, R: Wait>(
+    pub fn take<D: Door<Ticket = T>, R: Wait>(
         &mut self,
         rt: &R,
         door: &D,
@@ -256,7 +255,7 @@ impl<T: Drop> Seat<T> {
     }
 
     /// Reports that have not been sent, where the history has grown since the last pull.
-    fn pull<D: House<Ticket = T>, R: Wait>(
+    fn pull<D: Door<Ticket = T>, R: Wait>(
         &mut self,
         rt: &R,
         door: &D,
@@ -296,7 +295,7 @@ impl<T: Drop> Seat<T> {
 
     /// What the writer does next: first what the session left to be sent, then what it asks for as
     /// time passes, then new reports.
-    pub fn due<D: House<Ticket = T>, R: Wait>(
+    pub fn due<D: Door<Ticket = T>, R: Wait>(
         &mut self,
         rt: &R,
         door: &D,

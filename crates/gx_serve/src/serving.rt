@@ -6,7 +6,6 @@ ghost use Rattle.gx_history.specs.Verdicts.{IsLegal};
 use crate::clock::now;
 use crate::connection::converse;
 use crate::fault::ServeFault;
-use crate::house::{House, Through};
 use crate::link::Link;
 use crate::lobby::Lobby;
 use crate::matching::match_on;
@@ -14,7 +13,7 @@ use crate::stop::Stop;
 use gx_core::Gate;
 use gx_history::policy::Policy;
 use gx_pass::{Blank, GateName};
-use gx_shared::SharedGate;
+use gx_shared::{Door, SharedGate};
 use std::alloc::Global;
 use std::io::ErrorKind;
 use std::marker::Brand;
@@ -80,7 +79,7 @@ fn set_up(stream: &TcpStream) -> io::Result<()> {
 }
 
 /// Serves a connection to its end, with this pass, and gives its place back.
-fn serve_stream<T: Drop + Send, D: House<Ticket = T> + Sync, R: Threads + Wait + Clock + Sync>(
+fn serve_stream<T: Drop + Send, D: Door<Ticket = T> + Sync, R: Threads + Wait + Clock + Sync>(
     rt: &R,
     alloc: Global,
     door: &D,
@@ -105,7 +104,7 @@ fn serve_stream<T: Drop + Send, D: House<Ticket = T> + Sync, R: Threads + Wait +
 fn take_connections<
     'x,
     T: Drop + Send,
-    D: House<Ticket = T> + Sync,
+    D: Door<Ticket = T> + Sync,
     R: Threads + Wait + Clock + Sync,
 >(
     rt: &'x R,
@@ -139,7 +138,7 @@ fn take_connections<
 
 /// Runs the matcher beside the connections. Gives the matcher's pass, and why no more connections were
 /// taken; `None` where no thread could be made for the matcher.
-fn run<'x, T: Drop + Send, D: House<Ticket = T> + Sync, R: Threads + Wait + Clock + Sync>(
+fn run<'x, T: Drop + Send, D: Door<Ticket = T> + Sync, R: Threads + Wait + Clock + Sync>(
     rt: &'x R,
     alloc: Global,
     door: &'x D,
@@ -158,24 +157,24 @@ fn run<'x, T: Drop + Send, D: House<Ticket = T> + Sync, R: Threads + Wait + Cloc
     })
 }
 
-/// Serves a house. Gives back a pass, and why the server gave up, if it did; `None` where memory was
+/// Serves at a door. Gives back a pass, and why the server gave up, if it did; `None` where memory was
 /// refused before any connection was taken.
-fn serve_house<T: Drop + Send, D: House<Ticket = T> + Sync, R: Threads + Wait + Clock + Sync>(
+fn serve_door<T: Drop + Send, D: Door<Ticket = T> + Sync, R: Threads + Wait + Clock + Sync>(
     rt: &R,
     alloc: Global,
-    house: &D,
+    door: &D,
     lobby: &Lobby,
     listener: TcpListener,
     connections: u64,
 ) -> Option<(T, Result<(), ServeFault>)> {
-    let Ok(pass) = house.issue(rt) else {
+    let Ok(pass) = door.issue(rt) else {
         return None;
     };
     if listener.set_nonblocking(true).is_err() {
         return Some((pass, Err(ServeFault::ListenFailed)));
     }
     lobby.bell.open(rt);
-    run(rt, alloc, house, lobby, pass, listener, connections)
+    run(rt, alloc, door, lobby, pass, listener, connections)
 }
 
 fn serve_named<N: GateName + Send + Sync, R: Threads + Wait + Clock + Sync>(
@@ -192,10 +191,8 @@ fn serve_named<N: GateName + Send + Sync, R: Threads + Wait + Clock + Sync>(
     ensures policy { IfOk result (λ served. served.gate.policy ≡ N.policy) }
     ensures legal { IfOk result (λ served. IsLegal N.policy served.gate.records) }
 {
-    let house: Through<N, SharedGate<N>> = Through::new(SharedGate::new(alloc, policy, blank)?);
-    let ran = serve_house(rt, alloc, &house, lobby, listener, connections);
-    let door = house.into_door();
-    match ran {
+    let door: SharedGate<N> = SharedGate::new(alloc, policy, blank)?;
+    match serve_door(rt, alloc, &door, lobby, listener, connections) {
         Some((pass, ended)) => Ok(Served {
             gate: door.close(pass),
             ended,

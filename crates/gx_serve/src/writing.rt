@@ -7,13 +7,13 @@ ghost use Rattle.gx_session.specs.Faults.{IsBlamed};
 ghost use Rattle.gx_serve.specs.Dues.{due_text};
 
 use crate::course::Course;
-use crate::house::House;
 use crate::link::Link;
 use crate::seat::Due;
 use crate::stop::Stop;
 use gx_core::StepFault;
 use gx_devices::Counted;
 use gx_session::{Control, Event, SendFault, send_control, send_pulled};
+use gx_shared::Door;
 use std::alloc::Global;
 use std::io::Write;
 use std::sync::Wait;
@@ -38,7 +38,7 @@ fn send<O: Write>(alloc: Global, due: &Due, writer: &mut Counted<O>) -> Result<(
 }
 
 /// Goes on behind what was sent: tells the session of reports. Answers whether the session is over.
-fn go_on<D: House, R: Wait + Clock>(
+fn go_on<D: Door, R: Wait + Clock>(
     rt: &R,
     door: &D,
     link: &Link<D::Ticket>,
@@ -69,7 +69,7 @@ fn told<'a>(fault: SendFault) -> Event<'a> {
 
 /// Writes what a connection's session asks to send and the reports of its user, until the session
 /// is over or the writer fails. Answers whether all was written.
-pub fn write_on<D: House, O: Write, R: Wait + Clock>(
+pub fn write_on<D: Door, O: Write, R: Wait + Clock>(
     rt: &R,
     alloc: Global,
     door: &D,

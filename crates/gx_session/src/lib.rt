@@ -17,6 +17,6 @@ pub use laws::{
     nothing_follows, one_login, silent_before_an_answer, silent_before_login, stream_is_sent,
     whoever_is_on_may_leave,
 };
-pub use pipe::run_pipe;
+pub use pipe::{run_pipe, run_pipe_within};
 pub use sending::{send_control, send_pulled};
 pub use session::{Phase, Session};

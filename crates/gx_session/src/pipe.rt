@@ -18,6 +18,9 @@ use gx_soup::{ClientPacket, Feeder};
 use std::alloc::Global;
 use std::io::{Read, Write};
 
+/// After so many reads the input of [`run_pipe`] is called endless.
+const READS: u64 = 1_000_000_000;
+
 /// Takes packets in order, each answered before the next.
 fn take_packets<W: Write>(
     alloc: Global,
@@ -70,7 +73,7 @@ fn exchange<W: Write>(
     Ok(fed.fault.is_some() || connection.is_over())
 }
 
-/// Runs a connection until its end or a fault.
+/// Runs a connection until its end or a fault, with so many reads at most.
 fn serve<R: Read, W: Write>(
     alloc: Global,
     gate: &mut Gate,
@@ -78,6 +81,7 @@ fn serve<R: Read, W: Write>(
     connection: &mut Connection,
     reader: &mut Counted<R>,
     writer: &mut Counted<W>,
+    reads: u64,
 ) -> Result<(), PipeFault>
     requires opened { connection.old ≡ opened_at first }
     requires reader { reader.old.failed < 2 ^ 64 - 1 }
@@ -94,13 +98,13 @@ fn serve<R: Read, W: Write>(
     ensures unfailing { OnOk result (IsUnfailing
         reader.old.failed reader.new.failed writer.old.failed writer.new.failed) }
     ensures endless { IsErrOf result PipeFault.Endless
-        → counted_on reader.old.calls 1000000000 ≤ reader.new.calls }
+        → counted_on reader.old.calls reads ≤ reader.new.calls }
     ensures told { IfErr result (IsToldRightly
         reader.old.failed reader.new.failed writer.old.failed writer.new.failed gate.new) }
 {
     let mut feeder = Feeder::new(alloc);
     let mut buffer = [0u8; 4096];
-    for _ in 0..1_000_000_000u32 {
+    for _ in 0..reads {
         let n = match reader.read(&mut buffer) {
             Ok(n) => n,
             Err(_) => return Err(PipeFault::ReadFailed),
@@ -136,6 +140,47 @@ fn told<'a>(fault: PipeFault) -> Event<'a>
 ///
 /// A refused matching step ends the run as any refused step does. After a fault a user who is on is logged
 /// out at the moment of the last packet, without exception: it wants no memory, and no room in the day.
+///
+/// The input is read at most `reads` times, and is called endless where it has not ended by then.
+pub fn run_pipe_within<R: Read, W: Write>(
+    alloc: Global,
+    gate: &mut Gate,
+    first: u64,
+    reader: &mut Counted<R>,
+    writer: &mut Counted<W>,
+    reads: u64,
+) -> Result<(), PipeFault>
+    requires reader { reader.old.failed < 2 ^ 64 - 1 }
+    requires writer { writer.old.failed < 2 ^ 64 - 1 }
+    ensures pipe { OnOk result (IsTranscript
+        (R.remaining reader.old.device) (R.remaining reader.new.device)
+        (W.contents writer.old.device) (W.contents writer.new.device) gate.old first gate.new) }
+    // Where the reader tells its bytes: the gate and the bytes written are the pipe's of all.
+    ensures all { OnOk result (IfSome (R.remaining reader.old.device) (λ input. IsPipe input
+        (W.contents writer.old.device) (W.contents writer.new.device) gate.old first gate.new)) }
+    // The first packets were taken and answered whole; at a failed read or an endless input, all.
+    ensures fault { IfErr result (λ fault. IsAfterFault
+        (R.remaining reader.old.device) (R.remaining reader.new.device)
+        (W.contents writer.old.device) (W.contents writer.new.device)
+        gate.old first gate.new fault) }
+    ensures unfailing { OnOk result (IsUnfailing
+        reader.old.failed reader.new.failed writer.old.failed writer.new.failed) }
+    ensures endless { IsErrOf result PipeFault.Endless
+        → counted_on reader.old.calls reads ≤ reader.new.calls }
+    ensures told { IfErr result (IsToldRightly
+        reader.old.failed reader.new.failed writer.old.failed writer.new.failed gate.new) }
+{
+    let mut connection = Connection::new(first);
+    match serve(alloc, gate, first, &mut connection, reader, writer, reads) {
+        Ok(()) => Ok(()),
+        Err(fault) => {
+            let _ = connection.leave(gate, told(fault));
+            Err(fault)
+        }
+    }
+}
+
+/// [`run_pipe_within`] a thousand million reads.
 pub fn run_pipe<R: Read, W: Write>(
     alloc: Global,
     gate: &mut Gate,
@@ -163,12 +208,5 @@ pub fn run_pipe<R: Read, W: Write>(
     ensures told { IfErr result (IsToldRightly
         reader.old.failed reader.new.failed writer.old.failed writer.new.failed gate.new) }
 {
-    let mut connection = Connection::new(first);
-    match serve(alloc, gate, first, &mut connection, reader, writer) {
-        Ok(()) => Ok(()),
-        Err(fault) => {
-            let _ = connection.leave(gate, told(fault));
-            Err(fault)
-        }
-    }
+    run_pipe_within(alloc, gate, first, reader, writer, READS)
 }

@@ -16,7 +16,7 @@ ghost use Rattle.gx_shared.specs.Acts.{AddsOwn, EndsWith, IsLater, IsPulled, IsT
 use crate::fault::PullFault;
 use gx_core::{LoginAnswer, Outcome, Pulled, StepFault};
 use gx_history::record::Request;
-use gx_pass::{GateName, PassFault};
+use gx_pass::PassFault;
 use gx_units::{Moment, Password, SessionName, UserName};
 use std::sync::Wait;
 
@@ -24,18 +24,22 @@ use std::sync::Wait;
 ///
 /// A step is refused as one of a full day exactly where the day is full. A granted Kill or Logout is never refused: at
 /// `Err` what was met is what the request was judged on, and it does not make it one.
-pub trait Door<N: GateName> {
+pub trait Door {
+    ghost use Rattle.gx_history.specs.declared.policy.PolicyData.{PolicyData};
     ghost use Rattle.gx_pass.specs.declared.view.Holds.{Holds};
 
     /// A pass, as its holder sees it.
     type Ticket: Drop;
+
+    // What the gate judges by.
+    ghost policy: { PolicyData };
 
     // What the pass has met.
     ghost held: { Self.Ticket → Holds };
 
     /// A pass of a new line. It has met all records, of which none is of its line.
     fn issue<R: Wait>(&self, rt: &R) -> Result<Self::Ticket, PassFault>
-        ensures legal { IfOk result (λ p. IsLegal N.policy (held p).front) }
+        ensures legal { IfOk result (λ p. IsLegal policy (held p).front) }
         ensures own { IfOk result (λ p. mine (held p) ≡ []) };
 
     /// A login on the pass's line, and what it is told.
@@ -49,11 +53,11 @@ pub trait Door<N: GateName> {
         wanted: u64,
         moment: Moment,
     ) -> (Self::Ticket, Result<LoginAnswer, StepFault>)
-        ensures later { IsLater N.policy (held pass) (held result.0) }
-        ensures done { IfOk result.1 (LogsIn N.policy (held pass) (held result.0)
-            (login_on N.policy (held pass).line user password session wanted moment) wanted) }
+        ensures later { IsLater policy (held pass) (held result.0) }
+        ensures done { IfOk result.1 (LogsIn policy (held pass) (held result.0)
+            (login_on policy (held pass).line user password session wanted moment) wanted) }
         ensures refused { OnErr result.1 (mine (held result.0) ≡ mine (held pass)) }
-        ensures full { IfErr result.1 (IsToldFull (gate_met N.policy (held result.0))) };
+        ensures full { IfErr result.1 (IsToldFull (gate_met policy (held result.0))) };
 
     /// A request on the pass's line.
     fn act<R: Wait>(
@@ -65,13 +69,13 @@ pub trait Door<N: GateName> {
         moment: Moment,
     ) -> (Self::Ticket, Result<Outcome, StepFault>)
         requires first { IsTrue (has_its_first request) }
-        ensures later { IsLater N.policy (held pass) (held result.0) }
+        ensures later { IsLater policy (held pass) (held result.0) }
         ensures done { IfOk result.1 (λ o. AddsOwn (held pass) (held result.0)
             (left_by (asked_on (held pass).line user request moment) o)) }
         ensures refused { OnErr result.1 (mine (held result.0) ≡ mine (held pass)) }
-        ensures never_refused { OnErr result.1 (MayBeRefused (gate_met N.policy (held result.0))
+        ensures never_refused { OnErr result.1 (MayBeRefused (gate_met policy (held result.0))
             (asked_on (held pass).line user request moment)) }
-        ensures full { IfErr result.1 (IsToldFull (gate_met N.policy (held result.0))) };
+        ensures full { IfErr result.1 (IsToldFull (gate_met policy (held result.0))) };
 
     /// A matching step, whose record is nobody's own. `None` where no order waits.
     fn match_one<R: Wait>(
@@ -80,15 +84,15 @@ pub trait Door<N: GateName> {
         pass: Self::Ticket,
         moment: Moment,
     ) -> (Self::Ticket, Result<Option<Outcome>, StepFault>)
-        ensures later { IsLater N.policy (held pass) (held result.0) }
+        ensures later { IsLater policy (held pass) (held result.0) }
         ensures own { mine (held result.0) ≡ mine (held pass) }
         ensures found { IfOk result.1 (λ found. IfSome found (λ o.
             EndsWith (held pass) (held result.0) (matched_by moment o))) }
         ensures idle { IfOk result.1 (λ found. IfNone found
-            (matching_of (gate_met N.policy (held result.0)) ≡ None)) }
+            (matching_of (gate_met policy (held result.0)) ≡ None)) }
         ensures waits { OnErr result.1
-            (IsTrue (is_some (matching_of (gate_met N.policy (held result.0))))) }
-        ensures full { IfErr result.1 (IsToldFull (gate_met N.policy (held result.0))) };
+            (IsTrue (is_some (matching_of (gate_met policy (held result.0))))) }
+        ensures full { IfErr result.1 (IsToldFull (gate_met policy (held result.0))) };
 
     /// The reports of a user who is logged in on the pass's line, from this number on, 0 counting as 1, and at most so
     /// many, 256 where more are asked for.
@@ -100,14 +104,14 @@ pub trait Door<N: GateName> {
         from: u64,
         most: u64,
     ) -> (Self::Ticket, Result<Pulled, PullFault>)
-        ensures later { IsLater N.policy (held pass) (held result.0) }
+        ensures later { IsLater policy (held pass) (held result.0) }
         ensures own { mine (held result.0) ≡ mine (held pass) }
         ensures on { OnOk result.1
             (line_of (held result.0).front (folded_user user) ≡ Some (held pass).line) }
         ensures not_on { IfErr result.1 (λ e. e ≡ pull_faults.NotOn
             ↔ line_of (held result.0).front (folded_user user) ≢ Some (held pass).line) }
         ensures pulled { IfOk result.1
-            (IsPulled (gate_met N.policy (held result.0)) (folded_user user) from most) };
+            (IsPulled (gate_met policy (held result.0)) (folded_user user) from most) };
 
     /// A logout on the pass's line.
     fn logout<R: Wait>(
@@ -117,13 +121,13 @@ pub trait Door<N: GateName> {
         user: UserName,
         moment: Moment,
     ) -> (Self::Ticket, Result<Outcome, StepFault>)
-        ensures later { IsLater N.policy (held pass) (held result.0) }
+        ensures later { IsLater policy (held pass) (held result.0) }
         ensures done { IfOk result.1 (λ o. AddsOwn (held pass) (held result.0)
             (left_by (asked_on (held pass).line user requests.Logout moment) o)) }
         ensures refused { OnErr result.1 (mine (held result.0) ≡ mine (held pass)) }
-        ensures never_refused { OnErr result.1 (MayBeRefused (gate_met N.policy (held result.0))
+        ensures never_refused { OnErr result.1 (MayBeRefused (gate_met policy (held result.0))
             (asked_on (held pass).line user requests.Logout moment)) }
-        ensures full { IfErr result.1 (IsToldFull (gate_met N.policy (held result.0))) };
+        ensures full { IfErr result.1 (IsToldFull (gate_met policy (held result.0))) };
 
     /// Both passes have met the same records.
     fn meet<R: Wait>(
@@ -132,8 +136,8 @@ pub trait Door<N: GateName> {
         one: Self::Ticket,
         other: Self::Ticket,
     ) -> (Self::Ticket, Self::Ticket)
-        ensures first { IsLater N.policy (held one) (held result.0) }
-        ensures second { IsLater N.policy (held other) (held result.1) }
+        ensures first { IsLater policy (held one) (held result.0) }
+        ensures second { IsLater policy (held other) (held result.1) }
         ensures first_own { mine (held result.0) ≡ mine (held one) }
         ensures second_own { mine (held result.1) ≡ mine (held other) }
         ensures front { (held result.0).front ≡ (held result.1).front }

@@ -62,15 +62,14 @@ impl<N: GateName> SharedGate<N> {
     }
 }
 
-impl<N: GateName> Door<N> for SharedGate<N> {
+impl<N: GateName> Door for SharedGate<N> {
     type Ticket = Pass<N>;
+
+    ghost policy = { N.policy };
 
     ghost held = { λ p. p };
 
-    fn issue<R: Wait>(&self, rt: &R) -> Result<Pass<N>, PassFault>
-        ensures legal { IfOk result (λ p. IsLegal N.policy p.front) }
-        ensures own { IfOk result (λ p. mine p ≡ []) }
-    {
+    fn issue<R: Wait>(&self, rt: &R) -> Result<Pass<N>, PassFault> {
         self.desk.lock(rt).issue()
     }
 
@@ -83,13 +82,7 @@ impl<N: GateName> Door<N> for SharedGate<N> {
         session: SessionName,
         wanted: u64,
         moment: Moment,
-    ) -> (Pass<N>, Result<LoginAnswer, StepFault>)
-        ensures later { IsLater N.policy pass result.0 }
-        ensures done { IfOk result.1 (LogsIn N.policy pass result.0
-            (login_on N.policy pass.line user password session wanted moment) wanted) }
-        ensures refused { OnErr result.1 (mine result.0 ≡ mine pass) }
-        ensures full { IfErr result.1 (IsToldFull (gate_met N.policy result.0)) }
-    {
+    ) -> (Pass<N>, Result<LoginAnswer, StepFault>) {
         self.desk
             .lock(rt)
             .login(pass, user, password, session, wanted, moment)
@@ -102,16 +95,7 @@ impl<N: GateName> Door<N> for SharedGate<N> {
         user: UserName,
         request: Request,
         moment: Moment,
-    ) -> (Pass<N>, Result<Outcome, StepFault>)
-        requires first { IsTrue (has_its_first request) }
-        ensures later { IsLater N.policy pass result.0 }
-        ensures done { IfOk result.1 (λ o. AddsOwn pass result.0
-            (left_by (asked_on pass.line user request moment) o)) }
-        ensures refused { OnErr result.1 (mine result.0 ≡ mine pass) }
-        ensures never_refused { OnErr result.1 (MayBeRefused (gate_met N.policy result.0)
-            (asked_on pass.line user request moment)) }
-        ensures full { IfErr result.1 (IsToldFull (gate_met N.policy result.0)) }
-    {
+    ) -> (Pass<N>, Result<Outcome, StepFault>) {
         self.desk.lock(rt).act(pass, user, request, moment)
     }
 
@@ -120,17 +104,7 @@ impl<N: GateName> Door<N> for SharedGate<N> {
         rt: &R,
         pass: Pass<N>,
         moment: Moment,
-    ) -> (Pass<N>, Result<Option<Outcome>, StepFault>)
-        ensures later { IsLater N.policy pass result.0 }
-        ensures own { mine result.0 ≡ mine pass }
-        ensures found { IfOk result.1 (λ found. IfSome found (λ o.
-            EndsWith pass result.0 (matched_by moment o))) }
-        ensures idle { IfOk result.1 (λ found. IfNone found
-            (matching_of (gate_met N.policy result.0) ≡ None)) }
-        ensures waits { OnErr result.1
-            (IsTrue (is_some (matching_of (gate_met N.policy result.0)))) }
-        ensures full { IfErr result.1 (IsToldFull (gate_met N.policy result.0)) }
-    {
+    ) -> (Pass<N>, Result<Option<Outcome>, StepFault>) {
         self.desk.lock(rt).match_one(pass, moment)
     }
 
@@ -141,16 +115,7 @@ impl<N: GateName> Door<N> for SharedGate<N> {
         user: UserName,
         from: u64,
         most: u64,
-    ) -> (Pass<N>, Result<Pulled, PullFault>)
-        ensures later { IsLater N.policy pass result.0 }
-        ensures own { mine result.0 ≡ mine pass }
-        ensures on { OnOk result.1
-            (line_of result.0.front (folded_user user) ≡ Some pass.line) }
-        ensures not_on { IfErr result.1 (λ e. e ≡ pull_faults.NotOn
-            ↔ line_of result.0.front (folded_user user) ≢ Some pass.line) }
-        ensures pulled { IfOk result.1
-            (IsPulled (gate_met N.policy result.0) (folded_user user) from most) }
-    {
+    ) -> (Pass<N>, Result<Pulled, PullFault>) {
         self.desk.lock(rt).pull(pass, user, from, most)
     }
 
@@ -160,26 +125,11 @@ impl<N: GateName> Door<N> for SharedGate<N> {
         pass: Pass<N>,
         user: UserName,
         moment: Moment,
-    ) -> (Pass<N>, Result<Outcome, StepFault>)
-        ensures later { IsLater N.policy pass result.0 }
-        ensures done { IfOk result.1 (λ o. AddsOwn pass result.0
-            (left_by (asked_on pass.line user requests.Logout moment) o)) }
-        ensures refused { OnErr result.1 (mine result.0 ≡ mine pass) }
-        ensures never_refused { OnErr result.1 (MayBeRefused (gate_met N.policy result.0)
-            (asked_on pass.line user requests.Logout moment)) }
-        ensures full { IfErr result.1 (IsToldFull (gate_met N.policy result.0)) }
-    {
+    ) -> (Pass<N>, Result<Outcome, StepFault>) {
         self.desk.lock(rt).act(pass, user, Request::Logout, moment)
     }
 
-    fn meet<R: Wait>(&self, rt: &R, one: Pass<N>, other: Pass<N>) -> (Pass<N>, Pass<N>)
-        ensures first { IsLater N.policy one result.0 }
-        ensures second { IsLater N.policy other result.1 }
-        ensures first_own { mine result.0 ≡ mine one }
-        ensures second_own { mine result.1 ≡ mine other }
-        ensures front { result.0.front ≡ result.1.front }
-        ensures apart { one.line ≢ other.line }
-    {
+    fn meet<R: Wait>(&self, rt: &R, one: Pass<N>, other: Pass<N>) -> (Pass<N>, Pass<N>) {
         self.desk.lock(rt).meet(one, other)
     }
 

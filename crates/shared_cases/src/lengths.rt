@@ -12,7 +12,7 @@ use std::fmt::Write;
 use std::sync::Wait;
 
 /// An order of a user who is not logged in; then another pass is told one record, before it has met it and after.
-fn tell_length<N: GateName, D: Door<N>, R: Wait>(
+fn tell_length<D: Door, R: Wait>(
     rt: &R,
     alloc: Global,
     door: &D,
@@ -45,7 +45,7 @@ fn put_pull(out: &mut String, pulled: Result<Pulled, PullFault>) -> Result<(), E
 }
 
 /// ALICE logs in, enters an order and logs out. Her reports are pulled on her line, on another, and after the logout.
-fn tell_pulls<N: GateName, D: Door<N>, R: Wait>(
+fn tell_pulls<D: Door, R: Wait>(
     rt: &R,
     alloc: Global,
     door: &D,
@@ -68,7 +68,7 @@ fn tell_pulls<N: GateName, D: Door<N>, R: Wait>(
 }
 
 /// Tells of lengths and of pulls, one after the other.
-fn tell_both<N: GateName, D: Door<N>, R: Wait>(
+fn tell_both<D: Door, R: Wait>(
     rt: &R,
     alloc: Global,
     door: &D,

@@ -19,7 +19,7 @@ use std::thread::{Threads, join};
 const CALLS: u16 = 100;
 
 /// Logs in and asks for one after the other.
-fn ask_all<N: GateName, D: Door<N>, R: Wait>(
+fn ask_all<D: Door, R: Wait>(
     rt: &R,
     door: &D,
     pass: D::Ticket,

@@ -16,11 +16,7 @@ use std::thread::{Threads, join};
 type Answers = (Option<LoginAnswer>, Option<LoginAnswer>);
 
 /// Logs ALICE in, and says what she is told; None where the step was refused.
-fn log_in<N: GateName, D: Door<N>, R: Wait>(
-    rt: &R,
-    door: &D,
-    pass: D::Ticket,
-) -> (D::Ticket, Option<LoginAnswer>) {
+fn log_in<D: Door, R: Wait>(rt: &R, door: &D, pass: D::Ticket) -> (D::Ticket, Option<LoginAnswer>) {
     let (pass, answer) = door.login(rt, pass, ALICE.user, ALICE.password, ANY_SESSION, 0, 1);
     (pass, answer.ok())
 }
