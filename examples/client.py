@@ -32,6 +32,9 @@ HEARTBEAT_SECONDS = 1.0
 SILENCE_SECONDS = 15.0
 LINGER_SECONDS = 1.0
 PRICE_UNIT = 10_000
+STDIN = 0
+CLOSED = "the server closed the connection"
+REFUSALS = {b"A": "not authorized", b"S": "session not available"}
 
 
 class ClientError(Exception):
@@ -282,7 +285,7 @@ class Commands:
 
     def read(self) -> None:
         """Reads what is there of standard input."""
-        piece = os.read(sys.stdin.fileno(), 4096)
+        piece = os.read(STDIN, 4096)
         self.more = bool(piece)
         *lines, self.held = (self.held + (piece or b"\n")).split(b"\n")
         self.lines.extend(line.decode("utf-8", "replace") for line in lines)
@@ -331,7 +334,10 @@ class Client:
 
     def send(self, data: bytes) -> None:
         """Sends a whole packet."""
-        self.line.sendall(data)
+        try:
+            self.line.sendall(data)
+        except (BrokenPipeError, ConnectionResetError):
+            raise ClientError(CLOSED) from None
         self.sent_at = time.monotonic()
 
     def beat(self) -> None:
@@ -346,13 +352,16 @@ class Client:
         """Takes what comes within a tenth of a second. False once the server has closed."""
         sources: list[socket.socket | int] = [self.line]
         if self.commands.wants_input():
-            sources.append(sys.stdin.fileno())
+            sources.append(STDIN)
         ready, _, _ = select.select(sources, [], [], 0.1)
-        if sys.stdin.fileno() in ready:
+        if STDIN in ready:
             self.commands.read()
         if self.line not in ready:
             return True
-        piece = self.line.recv(65536)
+        try:
+            piece = self.line.recv(65536)
+        except ConnectionResetError:
+            piece = b""
         if not piece:
             return self.end()
         self.heard_at = time.monotonic()
@@ -363,7 +372,7 @@ class Client:
     def end(self) -> bool:
         """The server has closed: that is an error where nobody asked for it."""
         if not self.leaving:
-            raise ClientError("the server closed the connection")
+            raise ClientError(CLOSED)
         print("closed", flush=True)
         return False
 
@@ -375,7 +384,8 @@ class Client:
                 session = payload[:10].decode("ascii").strip()
                 print(f"Login Accepted session {session} next {self.next_number}", flush=True)
             case b"J":
-                raise ClientError(f"Login Rejected {payload.decode('ascii', 'replace')}")
+                reason = REFUSALS.get(payload, "of no known reason")
+                raise ClientError(f"Login Rejected {payload.decode('ascii', 'replace')}, {reason}")
             case b"S":
                 print(f"{self.next_number} {show(payload)}", flush=True)
                 self.next_number = (self.next_number or 0) + 1
