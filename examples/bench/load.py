@@ -5,7 +5,12 @@
 #   examples/bench/load.py crates/gate/out/gate --window 64           64 orders in flight each
 #   examples/bench/load.py crates/gate/out/gate --never-cross         no fills
 #   examples/bench/load.py crates/gate/out/gate --hostile             1,000 idle or bad connections
-"""Starts a server, lets 64 traders enter orders, and checks each report against the audit."""
+"""Starts a server, lets 64 traders enter orders, and checks each report against the audit.
+
+Each trader's reports are compared with what the audit owes him, one by one and in order, so none
+may be lost, doubled or in another's place. Times are those of this program: from the write of an
+order to its Accepted in hand, its own work in Python included.
+"""
 
 import argparse
 import os
@@ -232,18 +237,22 @@ def hostile_lines(port: int) -> list[socket.socket]:
 
 
 def measure(port: int, asked: argparse.Namespace) -> tuple[int, list]:
-    """Makes the run that is asked for. How many faults, and what was seen where all is checked."""
+    """Makes the run that is asked for. How many faults, and what was seen."""
     if not asked.hostile:
         saw = run(port, range(TRADERS), asked)
         return tell(f"{TRADERS} traders, {asked.window} in flight each", saw), saw
+    # the idle ones are closed after 15 seconds
     asked.seconds = min(asked.seconds, 10)
-    faults = tell("one trader alone", run(port, range(1), asked))
+    asked.never_cross = True
+    alone = run(port, range(1), asked)
+    faults = tell("one trader alone", alone)
     lines = hostile_lines(port)
     # another trader: the tokens of the first are used
-    faults += tell(f"one beside {HOSTILE} hostile connections", run(port, range(1, 2), asked))
+    beside = run(port, range(1, 2), asked)
+    faults += tell(f"one beside {HOSTILE} hostile connections", beside)
     for line in lines:
         line.close()
-    return faults, []
+    return faults, alone + beside
 
 
 def main() -> int:
