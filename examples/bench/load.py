@@ -28,11 +28,12 @@ from collections.abc import Iterator
 from contextlib import contextmanager
 from multiprocessing import get_context
 from pathlib import Path
+from typing import NamedTuple
 
 TRADERS = 64
 STOCKS = 4
 HOSTILE = 1_000
-QUIET_SECONDS = 0.5
+QUIET_SECONDS = 1.0
 ENTER = struct.Struct(">HcB14scI8sII4s3sI2s")
 LOGOUT = b"\0\1O"
 
@@ -49,6 +50,16 @@ def policy_text() -> str:
     parts.append(f'[[rule]]\nname = "SIZE"\nkind = "order_shares"\n{most}')
     parts.append(f'[[rule]]\nname = "GROSS"\nkind = "gross_value"\n{most}count = "each"\n')
     return "".join(parts)
+
+
+class Seen(NamedTuple):
+    """What a trader saw: times in nanoseconds, and reports as in `expected`."""
+
+    index: int
+    took: float
+    latencies: array
+    reports: array
+    faults: list[str]
 
 
 class Trader:
@@ -151,7 +162,7 @@ def work(part: range, port: int, window: int, cross: bool, seconds: float, gate,
         while select_now(trader.line):
             trader.listen()
         trader.line.sendall(LOGOUT)
-    results.put([(t.index, took, t.latencies, t.reports, t.faults) for t in traders])
+    results.put([Seen(t.index, took, t.latencies, t.reports, t.faults) for t in traders])
 
 
 def select_now(line: socket.socket) -> bool:
@@ -175,13 +186,17 @@ def server(program: str, folder: Path) -> Iterator[int]:
                 raise RuntimeError("the server does not listen")
             yield port
             running.stdin.close()
-            print(f"server ended with status {running.wait(60)}")
+            if status := running.wait(60):
+                raise RuntimeError(f"the server ended with status {status}")
         finally:
             running.kill()
 
 
 def expected(audit: bytes) -> dict[int, array]:
-    """What each trader is to be told, by the audit's records."""
+    """What each trader is to be told, by the audit's records, in their order.
+
+    An Accepted is twice the order's number, an Executed twice the match's and one.
+    """
     owed = {index: array("Q") for index in range(TRADERS)}
     owner: dict[int, int] = {}
     record = struct.Struct(">4sQ18x6sc58xc8xQQ8x")
@@ -195,7 +210,7 @@ def expected(audit: bytes) -> dict[int, array]:
     return owed
 
 
-def run(port: int, traders: range, asked: argparse.Namespace) -> list:
+def run(port: int, traders: range, asked: argparse.Namespace) -> list[Seen]:
     """Runs the traders in processes of their own. What each saw."""
     context = get_context("fork")
     count = min(asked.processes, len(traders))
@@ -213,11 +228,11 @@ def run(port: int, traders: range, asked: argparse.Namespace) -> list:
     return saw
 
 
-def tell(title: str, saw: list) -> int:
+def tell(title: str, saw: list[Seen]) -> int:
     """Prints the figures of a run. How many faults there were."""
-    latencies = sorted(value for trader in saw for value in trader[2])
-    took = max(trader[1] for trader in saw)
-    faults = [fault for trader in saw for fault in trader[4]]
+    latencies = sorted(value for trader in saw for value in trader.latencies)
+    took = max(trader.took for trader in saw)
+    faults = [fault for trader in saw for fault in trader.faults]
     p50, p99 = (latencies[len(latencies) * share // 100] // 1000 for share in (50, 99))
     print(f"{title}: {len(latencies)} orders in {took:.2f} s, {len(latencies) / took:.0f} a second,"
           f" p50 {p50} us, p99 {p99} us, {len(faults)} faults")
@@ -236,7 +251,7 @@ def hostile_lines(port: int) -> list[socket.socket]:
     return lines
 
 
-def measure(port: int, asked: argparse.Namespace) -> tuple[int, list]:
+def measure(port: int, asked: argparse.Namespace) -> tuple[int, list[Seen]]:
     """Makes the run that is asked for. How many faults, and what was seen."""
     if not asked.hostile:
         saw = run(port, range(TRADERS), asked)
@@ -272,10 +287,11 @@ def main() -> int:
         with server(asked.gate, folder) as port:
             faults, saw = measure(port, asked)
         owed = expected((folder / "audit").read_bytes())
-        for index, _, _, reports, _ in saw:
-            if reports != owed[index]:
+        for trader in saw:
+            if trader.reports != owed[trader.index]:
                 faults += 1
-                print(f"T{index:02d} was told {len(reports)} reports, owed {len(owed[index])}")
+                told, due = len(trader.reports), len(owed[trader.index])
+                print(f"T{trader.index:02d}: told {told} reports, owed {due}, or in another order")
         files = [str(folder / "audit"), "--policy", str(folder / "policy.toml")]
         faults += subprocess.run([asked.gate, "check", *files], check=False).returncode != 0
     return int(faults > 0)
