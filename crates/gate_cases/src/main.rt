@@ -22,6 +22,8 @@
 //!   each run ended: how many bytes of that answer were written, and the verdicts of its records. Runs one after the
 //!   other that end alike are told once: `writes 4 to 6: 10 bytes`, or, where each wrote a byte more than the one before
 //!   it, `writes 4 to 6: 10 to 12 bytes`.
+//! - `-- pipe-endless READS`: the bytes of a connection, in hex, which it is sent again and again. It is read so often at
+//!   most. It is told how the run ended, how often it read, and the bytes that it was sent.
 //! - `-- pipe-in-turn`, `-- script-in-turn`: the packets of a connection, in hex, or the lines of a script, which are run
 //!   on a gate of their own. Whoever sends them waits for the whole answer to each before he sends the next, and to the
 //!   last before he ends, and gives up where he would wait for ever. It is told how the run ended.
@@ -39,6 +41,7 @@
 
 mod audits;
 mod devices;
+mod endless;
 mod patience;
 mod policies;
 mod runs;

@@ -4,6 +4,7 @@ ghost use Rattle.std.specs.Prelude.{◌-◌, ◌^◌, ◌<◌};
 
 use crate::audits::{tell_audit, tell_checks, tell_shown};
 use crate::devices::{Drips, Limits, Sips};
+use crate::endless::tell_endless;
 use crate::patience::tell_patience;
 use crate::sessions::tell_session;
 use crate::texts::{bytes_of, put, put_bytes, text_of};
@@ -273,6 +274,7 @@ fn tell_part(
             let input = bytes_of(alloc, text)?;
             tell_pipe(alloc, out, gate, limits, input.as_slice())
         }
+        ("pipe-endless", _) => tell_endless(alloc, out, gate, usual, words, text),
         ("pipe-in-turn", Some(limits)) => {
             let input = bytes_of(alloc, text)?;
             tell_patience(alloc, out, policy, Kind::Pipe, limits, input.as_slice())

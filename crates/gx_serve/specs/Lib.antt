@@ -1,2 +1,2 @@
-pub mod Dues
 pub mod Seats
+pub mod Speech

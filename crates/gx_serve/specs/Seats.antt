@@ -3,16 +3,31 @@ use Rattle.std.specs.Prelude.{◌≡◌, ℕ, ◌⊎◌, Option, Some, None, IsT
 use Rattle.gx_core.specs.declared.outcome.LoginAnswer.{LoginAnswer}
 use Rattle.gx_core.specs.declared.outcome.StepFault.{StepFault}
 use Rattle.gx_soup.specs.declared.packet.ClientPacket.{ClientPacket}
+use Rattle.gx_core.specs.declared.outcome.LoginAnswer.TheVariants as answers
 use Rattle.gx_session.specs.declared.event.Control.{Control}
+use Rattle.gx_session.specs.declared.event.Control.TheVariants as controls
+use Rattle.gx_serve.specs.declared.seat.Sign.{Sign}
+use Rattle.gx_serve.specs.declared.seat.Sign.TheVariants as signs
 use Rattle.gx_session.specs.Events.{asks_step, is_login}
 use Rattle.gx_session.specs.Happenings.{Happening}
 use Rattle.gx_session.specs.Happenings as happens
 use Rattle.gx_session.specs.Table.{SessionData, turn}
 
--- what is left to be sent, once a session has asked for this packet or for none
-abbrev pub left_after : Option Control → Option Control → Option Control
-left_after left None = left
-left_after left (Some control) = Some control
+-- the answer that is left to be sent, once a session has asked for this packet or for none
+abbrev pub answer_after : Option LoginAnswer → Option Control → Option LoginAnswer
+answer_after left None = left
+answer_after left (Some (controls.Accepted session next)) = Some (answers.Accepted session next)
+answer_after left (Some (controls.Rejected reason)) = Some (answers.Rejected reason)
+answer_after left (Some controls.Heartbeat) = left
+answer_after left (Some controls.EndOfSession) = left
+
+-- and what else is left
+abbrev pub sign_after : Option Sign → Option Control → Option Sign
+sign_after left None = left
+sign_after left (Some (controls.Accepted session next)) = left
+sign_after left (Some (controls.Rejected reason)) = left
+sign_after left (Some controls.Heartbeat) = Some signs.Heartbeat
+sign_after left (Some controls.EndOfSession) = Some signs.EndOfSession
 
 -- the session was told of an event at this moment, and, where the step that it asked for was
 -- refused, of that

@@ -9,7 +9,6 @@
 mod bell;
 mod clock;
 mod connection;
-mod course;
 mod fault;
 mod link;
 mod lobby;
@@ -19,6 +18,7 @@ mod reading;
 mod seat;
 mod serving;
 mod stop;
+mod watch;
 mod writing;
 
 pub use bell::Bell;

@@ -1,12 +1,16 @@
 //! A connection's lock.
 
+ghost use Rattle.gx_serve.specs.Speech.{IsDue};
+
 use crate::clock::now;
-use crate::course::Course;
-use crate::seat::{Due, Seat};
+use crate::seat::{Due, Greeting, Seat};
 use crate::stop::Stop;
+use crate::watch::Watch;
+use gx_core::LoginAnswer;
 use gx_session::Event;
 use gx_shared::Door;
 use gx_soup::ClientPacket;
+use gx_units::UserName;
 use std::sync::{Condvar, Mutex, Wait};
 use std::time::{Clock, Duration};
 
@@ -14,16 +18,11 @@ use std::time::{Clock, Duration};
 /// and at the time.
 const POLL: u64 = 1;
 
-/// After so many milliseconds the writer of a connection where nobody is on looks at the time.
+/// After so many milliseconds the writer of a connection whose login was not answered looks at the time.
 const REST: u64 = 100;
 
 /// So many milliseconds a connection whose session is over is read to its end, before it is cut.
 const LINGER: u64 = 1_000;
-
-/// How long a writer waits that has nothing to do and is not woken.
-fn patience(on: bool) -> Duration {
-    Duration::from_millis(if on { POLL } else { REST })
-}
 
 /// What the two threads of a connection share.
 #[derive(Drop)]
@@ -68,24 +67,57 @@ impl<T: Drop> Link<T> {
         self.news.notify_one();
     }
 
-    /// Waits until the writer has something to do, or the session is over, which it is soon after
-    /// the server's end was asked for.
-    pub fn await_due<D: Door<Ticket = T>, R: Wait + Clock>(
+    /// Waits until the login is answered, for the user and the answer; `None` once the session is over,
+    /// which it is soon after the server's end was asked for.
+    pub fn await_answer<D: Door<Ticket = T>, R: Wait + Clock>(
         &self,
         rt: &R,
         door: &D,
         stop: &Stop,
-        course: &mut Course,
-    ) -> Due {
+    ) -> Option<(UserName, LoginAnswer)> {
         let mut seat = self.seat.lock(rt);
         for _ in rt.forever() {
             if stop.is_asked() {
                 seat.tell(rt, door, Event::End, now(rt));
             }
-            match seat.due(rt, door, course, now(rt)) {
+            match seat.greet(rt, door, now(rt)) {
+                Greeting::Answer(user, answer) => return Some((user, answer)),
+                Greeting::Over => return None,
+                Greeting::Nothing => {
+                    seat = self
+                        .news
+                        .wait_timeout(rt, seat, Duration::from_millis(REST))
+                        .0;
+                }
+            }
+        }
+        unreachable!()
+    }
+
+    /// Waits until the writer has something to do for this user, whose next report has this number, or
+    /// the session is over, which it is soon after the server's end was asked for.
+    pub fn await_due<D: Door<Ticket = T>, R: Wait + Clock>(
+        &self,
+        rt: &R,
+        door: &D,
+        stop: &Stop,
+        user: UserName,
+        from: u64,
+        watch: &mut Watch,
+    ) -> Due
+        ensures { IsDue D.policy user from result }
+    {
+        let mut seat = self.seat.lock(rt);
+        for _ in rt.forever() {
+            if stop.is_asked() {
+                seat.tell(rt, door, Event::End, now(rt));
+            }
+            match seat.due(rt, door, user, from, watch, now(rt)) {
                 Due::Nothing => {
-                    let most = patience(seat.is_on());
-                    seat = self.news.wait_timeout(rt, seat, most).0;
+                    seat = self
+                        .news
+                        .wait_timeout(rt, seat, Duration::from_millis(POLL))
+                        .0;
                 }
                 due => return due,
             }

@@ -1,16 +1,18 @@
 //! What the two threads of a connection share under its lock.
 
-ghost use Rattle.std.specs.Prelude.{◌≡◌, IsTrue, is_some, None, IfNone, IfSome, if◌then◌else◌};
+ghost use Rattle.std.specs.Prelude.{◌≡◌, ◌⊎◌, IsTrue, is_some, None, IfNone, IfSome, if◌then◌else◌};
 ghost use Rattle.gx_history.specs.Showing.{has_its_first};
 ghost use Rattle.gx_session.specs.Events.{is_over};
 ghost use Rattle.gx_session.specs.Happenings.{happening};
 ghost use Rattle.gx_session.specs.Happenings as happens;
 ghost use Rattle.gx_session.specs.Table.{turn, new_session};
 ghost use Rattle.gx_serve.specs.declared.seat.Due.TheVariants as dues;
-ghost use Rattle.gx_serve.specs.Seats.{left_after, WasAnswered, WasTaken, WasTold};
+ghost use Rattle.gx_serve.specs.declared.seat.Greeting.TheVariants as greetings;
+ghost use Rattle.gx_serve.specs.Seats.{answer_after, sign_after, WasAnswered, WasTaken, WasTold};
+ghost use Rattle.gx_serve.specs.Speech.{IsDue};
 
-use crate::course::Course;
-use gx_core::{Pulled, StepFault};
+use crate::watch::Watch;
+use gx_core::{LoginAnswer, Pulled, StepFault};
 use gx_history::record::Request;
 use gx_session::{Control, Event, Next, Phase, Session};
 use gx_shared::{Door, PullFault};
@@ -21,11 +23,31 @@ use std::sync::Wait;
 /// The most reports of one pull.
 const BATCH: u64 = 256;
 
-/// What the writer does next.
+/// What a session asks to send once its login was answered, besides reports.
+#[derive(Clone, Copy)]
+pub enum Sign {
+    /// A Server Heartbeat.
+    Heartbeat,
+    /// An End of Session.
+    EndOfSession,
+}
+
+/// What the writer does before a login is answered.
+#[derive(Clone, Copy)]
+pub enum Greeting {
+    /// Sends this user the answer to his login.
+    Answer(UserName, LoginAnswer),
+    /// Nothing for now.
+    Nothing,
+    /// Nothing any more: the session is over, and its login was not answered.
+    Over,
+}
+
+/// What the writer does for a user who was logged in.
 #[derive(Drop)]
 pub enum Due {
     /// Sends a packet of the session's own.
-    Control(Control),
+    Sign(Sign),
     /// Sends reports.
     Reports(Pulled),
     /// Nothing for now.
@@ -42,8 +64,10 @@ pub struct Seat<T: Drop> {
     user: UserName,
     /// Taken out for each call of the gate.
     pass: Option<T>,
-    /// What the session asked to send, and the writer has not taken.
-    left: Option<Control>,
+    /// The answer to the login, where the writer has not taken it.
+    answer: Option<LoginAnswer>,
+    /// What else the session asked to send, and the writer has not taken.
+    sign: Option<Sign>,
     /// The reader has ended.
     deaf: bool,
     ghost has_pass: { IsTrue (is_some pass) },
@@ -53,13 +77,15 @@ impl<T: Drop> Seat<T> {
     /// A new session, with the pass that its steps are made with.
     pub fn new(pass: T, moment: Moment) -> Seat<T>
         ensures session { result.session ≡ new_session moment }
-        ensures left { result.left ≡ None }
+        ensures answer { result.answer ≡ None }
+        ensures sign { result.sign ≡ None }
     {
         Seat {
             session: Session::new(moment),
             user: UserName { bytes: *b"      " },
             pass: Some(pass),
-            left: None,
+            answer: None,
+            sign: None,
             deaf: false,
         }
     }
@@ -90,7 +116,8 @@ impl<T: Drop> Seat<T> {
     /// The reader has ended.
     pub fn deafen(&mut self)
         ensures session { self.new.session ≡ self.old.session }
-        ensures left { self.new.left ≡ self.old.left }
+        ensures answer { self.new.answer ≡ self.old.answer }
+        ensures sign { self.new.sign ≡ self.old.sign }
     {
         self.deaf = true;
     }
@@ -104,7 +131,8 @@ impl<T: Drop> Seat<T> {
     ) -> Result<(), StepFault>
         requires { IsTrue (has_its_first request) }
         ensures session { self.new.session ≡ self.old.session }
-        ensures left { self.new.left ≡ self.old.left }
+        ensures answer { self.new.answer ≡ self.old.answer }
+        ensures sign { self.new.sign ≡ self.old.sign }
     {
         let Some(pass) = self.pass.take() else {
             unreachable!()
@@ -121,7 +149,8 @@ impl<T: Drop> Seat<T> {
     /// be done. The gate refuses none that it grants.
     fn log_out<D: Door<Ticket = T>, R: Wait>(&mut self, rt: &R, door: &D, moment: Moment)
         ensures session { self.new.session ≡ self.old.session }
-        ensures left { self.new.left ≡ self.old.left }
+        ensures answer { self.new.answer ≡ self.old.answer }
+        ensures sign { self.new.sign ≡ self.old.sign }
     {
         let Some(pass) = self.pass.take() else {
             unreachable!()
@@ -140,7 +169,8 @@ impl<T: Drop> Seat<T> {
     )
         ensures session { self.new.session
             ≡ (turn self.old.session (happens.Refused fault) moment).session }
-        ensures left { self.new.left ≡ self.old.left }
+        ensures answer { self.new.answer ≡ self.old.answer }
+        ensures sign { self.new.sign ≡ self.old.sign }
     {
         let reply = self.session.on(Event::Refused(fault), moment);
         if reply.next == Next::Logout {
@@ -151,10 +181,17 @@ impl<T: Drop> Seat<T> {
     /// Leaves a packet to be sent, if there is one.
     fn leave(&mut self, send: Option<Control>)
         ensures session { self.new.session ≡ self.old.session }
-        ensures left { self.new.left ≡ left_after self.old.left send }
+        ensures answer { self.new.answer ≡ answer_after self.old.answer send }
+        ensures sign { self.new.sign ≡ sign_after self.old.sign send }
     {
-        if send.is_some() {
-            self.left = send;
+        match send {
+            Some(Control::Accepted(session, next)) => {
+                self.answer = Some(LoginAnswer::Accepted { session, next });
+            }
+            Some(Control::Rejected(reason)) => self.answer = Some(LoginAnswer::Rejected(reason)),
+            Some(Control::Heartbeat) => self.sign = Some(Sign::Heartbeat),
+            Some(Control::EndOfSession) => self.sign = Some(Sign::EndOfSession),
+            None => {}
         }
     }
 
@@ -170,7 +207,9 @@ impl<T: Drop> Seat<T> {
         ensures next { result
             ≡ (turn self.old.session (happening event.entry) moment).reply.next }
         ensures session { WasTold self.old.session (happening event.entry) moment self.new.session }
-        ensures left { self.new.left ≡ left_after self.old.left
+        ensures answer { self.new.answer ≡ answer_after self.old.answer
+            (turn self.old.session (happening event.entry) moment).reply.send }
+        ensures sign { self.new.sign ≡ sign_after self.old.sign
             (turn self.old.session (happening event.entry) moment).reply.send }
     {
         let reply = self.session.on(event, moment);
@@ -234,16 +273,55 @@ impl<T: Drop> Seat<T> {
         }
     }
 
-    /// What the session left to be sent, or that it is over.
-    fn left(&mut self) -> Due
-        ensures control { IfSome self.old.left (λ control. result ≡ dues.Control control) }
-        ensures over { IfNone self.old.left (result
-            ≡ (if is_over self.old.session.phase then dues.Over else dues.Nothing)) }
-        ensures taken { self.new.left ≡ None }
+    /// The answer to the login, or that none comes.
+    fn answer(&mut self) -> Greeting
+        ensures answer { IfSome self.old.answer (λ answer.
+            result ≡ greetings.Answer self.old.user answer) }
+        ensures over { IfNone self.old.answer (result
+            ≡ (if is_over self.old.session.phase then greetings.Over else greetings.Nothing)) }
+        ensures taken { self.new.answer ≡ None }
         ensures session { self.new.session ≡ self.old.session }
     {
-        match self.left.take() {
-            Some(control) => Due::Control(control),
+        match self.answer.take() {
+            Some(answer) => Greeting::Answer(self.user, answer),
+            None => {
+                if self.is_over() {
+                    Greeting::Over
+                } else {
+                    Greeting::Nothing
+                }
+            }
+        }
+    }
+
+    /// What the writer does before the login is answered: it answers it, or looks at the time.
+    pub fn greet<D: Door<Ticket = T>, R: Wait>(
+        &mut self,
+        rt: &R,
+        door: &D,
+        moment: Moment,
+    ) -> Greeting
+        ensures { IfSome self.old.answer (λ answer.
+            result ≡ greetings.Answer self.old.user answer) }
+    {
+        match self.answer() {
+            Greeting::Nothing => {}
+            greeting => return greeting,
+        }
+        self.tell(rt, door, Event::Tick, moment);
+        self.answer()
+    }
+
+    /// What the session asked to send besides the answer, or that it is over.
+    fn sign(&mut self) -> Due
+        ensures sign { IfSome self.old.sign (λ sign. result ≡ dues.Sign sign) }
+        ensures over { IfNone self.old.sign (result
+            ≡ (if is_over self.old.session.phase then dues.Over else dues.Nothing)) }
+        ensures taken { self.new.sign ≡ None }
+        ensures session { self.new.session ≡ self.old.session }
+    {
+        match self.sign.take() {
+            Some(sign) => Due::Sign(sign),
             None => {
                 if self.is_over() {
                     Due::Over
@@ -254,33 +332,32 @@ impl<T: Drop> Seat<T> {
         }
     }
 
-    /// Reports that have not been sent, where the history has grown since the last pull.
+    /// The user's reports from this number on, where the history has grown since the last pull.
     fn pull<D: Door<Ticket = T>, R: Wait>(
         &mut self,
         rt: &R,
         door: &D,
-        course: &mut Course,
+        user: UserName,
+        from: u64,
+        watch: &mut Watch,
         moment: Moment,
-    ) -> Due {
+    ) -> Due
+        ensures { IsDue D.policy user from result }
+    {
         let Some(mut pass) = self.pass.take() else {
             unreachable!()
         };
         let length = door.length(&mut pass);
-        if !course.has_news(length) {
+        if !watch.has_news(length) {
             self.pass = Some(pass);
             return Due::Nothing;
         }
-        let (pass, answer) = door.pull(rt, pass, self.user, course.next(), BATCH);
+        let (pass, answer) = door.pull(rt, pass, user, from, BATCH);
         self.pass = Some(pass);
         match answer {
             Ok(pulled) => {
-                let count = pulled.reports.as_slice().len() as u64;
-                course.looked(length, count >= BATCH);
-                if count == 0 && !pulled.ended {
-                    Due::Nothing
-                } else {
-                    Due::Reports(pulled)
-                }
+                watch.looked(length, pulled.reports.as_slice().len() as u64 >= BATCH);
+                due_of(pulled)
             }
             Err(PullFault::OutOfMemory) => {
                 self.refuse(rt, door, StepFault::OutOfMemory, moment);
@@ -293,30 +370,44 @@ impl<T: Drop> Seat<T> {
         }
     }
 
-    /// What the writer does next: first what the session left to be sent, then what it asks for as
-    /// time passes, then new reports.
+    /// What the writer does for this user, whose next report has this number: first what the session
+    /// asked to send, then what it asks for as time passes, then new reports.
     pub fn due<D: Door<Ticket = T>, R: Wait>(
         &mut self,
         rt: &R,
         door: &D,
-        course: &mut Course,
+        user: UserName,
+        from: u64,
+        watch: &mut Watch,
         moment: Moment,
     ) -> Due
-        ensures { IfSome self.old.left (λ control. result ≡ dues.Control control) }
+        ensures shown { IsDue D.policy user from result }
+        ensures sign { IfSome self.old.sign (λ sign. result ≡ dues.Sign sign) }
     {
-        match self.left() {
+        match self.sign() {
             Due::Nothing => {}
             due => return due,
         }
         self.tell(rt, door, Event::Tick, moment);
-        match self.left() {
+        match self.sign() {
             Due::Nothing => {}
             due => return due,
         }
         if self.is_on() {
-            self.pull(rt, door, course, moment)
+            self.pull(rt, door, user, from, watch, moment)
         } else {
             Due::Nothing
         }
+    }
+}
+
+/// Reports that were pulled; nothing where there are none, unless there will be none any more.
+fn due_of(pulled: Pulled) -> Due
+    ensures { (result ≡ dues.Nothing) ⊎ (result ≡ dues.Reports pulled) }
+{
+    if pulled.reports.as_slice().is_empty() && !pulled.ended {
+        Due::Nothing
+    } else {
+        Due::Reports(pulled)
     }
 }

@@ -1,23 +1,57 @@
 //! The writer of a connection.
 
-ghost use Rattle.std.specs.Prelude.{◌≡◌, ◌-◌, ◌^◌, ◌<◌, IfErr, OnOk, OnErr};
+ghost use Rattle.std.specs.Prelude.{◌≡◌, ◌-◌, ◌^◌, ◌<◌, IfErr, IsFalse, IsTrue, OnOk, OnErr};
 ghost use Rattle.std.specs.Io.KnownBytes.{Appends};
 ghost use Rattle.gx_devices.specs.Devices.{IsFront};
 ghost use Rattle.gx_session.specs.Faults.{IsBlamed};
-ghost use Rattle.gx_serve.specs.Dues.{due_text};
+ghost use Rattle.gx_session.specs.Transcript.{control_bytes};
+ghost use Rattle.gx_serve.specs.Speech.{answer_control, due_text, is_last, next_after, sign_control};
+ghost use Rattle.gx_serve.specs.Speech.{greeted_by, IfOn, IsGreeted, WasCut, WasCutOff, WasSaid, WasSpoken};
 
-use crate::course::Course;
 use crate::link::Link;
-use crate::seat::Due;
+use crate::seat::{Due, Sign};
 use crate::stop::Stop;
-use gx_core::StepFault;
+use crate::watch::Watch;
+use gx_core::{LoginAnswer, StepFault};
 use gx_devices::Counted;
 use gx_session::{Control, Event, SendFault, send_control, send_pulled};
 use gx_shared::Door;
+use gx_units::UserName;
 use std::alloc::Global;
 use std::io::Write;
 use std::sync::Wait;
 use std::time::Clock;
+
+/// What became of a login.
+#[derive(Clone, Copy)]
+pub enum Greeted {
+    /// This user is logged in, and the next report that he is sent has this number.
+    On(UserName, u64),
+    /// Nobody is: the session is over.
+    Over,
+    /// The answer was not sent.
+    Cut,
+}
+
+/// The packet of a login's answer.
+fn answer_control(answer: LoginAnswer) -> Control
+    ensures { result ≡ answer_control answer }
+{
+    match answer {
+        LoginAnswer::Accepted { session, next } => Control::Accepted(session, next),
+        LoginAnswer::Rejected(reason) => Control::Rejected(reason),
+    }
+}
+
+/// The packet of a sign.
+fn sign_control(sign: Sign) -> Control
+    ensures { result ≡ sign_control sign }
+{
+    match sign {
+        Sign::Heartbeat => Control::Heartbeat,
+        Sign::EndOfSession => Control::EndOfSession,
+    }
+}
 
 /// Sends what is due: a packet of the session's own, or one for each report, in order; and nothing
 /// else.
@@ -31,32 +65,41 @@ fn send<O: Write>(alloc: Global, due: &Due, writer: &mut Counted<O>) -> Result<(
     ensures told { IfErr result (IsBlamed writer.old.failed writer.new.failed) }
 {
     match due {
-        Due::Control(control) => send_control(alloc, *control, writer),
+        Due::Sign(sign) => send_control(alloc, sign_control(*sign), writer),
         Due::Reports(pulled) => send_pulled(alloc, pulled, writer),
         Due::Nothing | Due::Over => Ok(()),
     }
 }
 
-/// Goes on behind what was sent: tells the session of reports. Answers whether the session is over.
+/// Whether nothing is sent behind it.
+fn is_last(due: &Due) -> bool
+    ensures { result ≡ is_last due.now }
+{
+    match due {
+        Due::Sign(Sign::EndOfSession) | Due::Over => true,
+        Due::Sign(Sign::Heartbeat) | Due::Reports(_) | Due::Nothing => false,
+    }
+}
+
+/// Tells the session of reports that were sent. Answers the number of the next.
 fn go_on<D: Door, R: Wait + Clock>(
     rt: &R,
     door: &D,
     link: &Link<D::Ticket>,
-    course: &mut Course,
     due: &Due,
-) -> bool {
+    next: u64,
+) -> u64
+    ensures { result ≡ next_after due.now next }
+{
     match due {
-        Due::Control(Control::Accepted(_, next)) => course.go_on(*next),
         Due::Reports(pulled) => {
-            course.go_on(pulled.next);
             let count = pulled.reports.as_slice().len() as u64;
             let ended = pulled.ended;
             link.tell(rt, door, Event::Pulled { count, ended });
+            pulled.next
         }
-        Due::Control(_) | Due::Nothing => {}
-        Due::Over => return true,
+        Due::Sign(_) | Due::Nothing | Due::Over => next,
     }
-    false
 }
 
 /// What a session is told where a packet was not sent.
@@ -67,8 +110,80 @@ fn told<'a>(fault: SendFault) -> Event<'a> {
     }
 }
 
-/// Writes what a connection's session asks to send and the reports of its user, until the session
-/// is over or the writer fails. Answers whether all was written.
+/// What comes of a login that was answered so.
+fn after_answer(user: UserName, answer: LoginAnswer) -> Greeted
+    ensures { result ≡ greeted_by user answer }
+{
+    match answer {
+        LoginAnswer::Accepted { session: _, next } => Greeted::On(user, next),
+        LoginAnswer::Rejected(_) => Greeted::Over,
+    }
+}
+
+/// Waits for the answer to the login, and sends it.
+#[tactic(auto, using(crate::proofs::Speaking::is_greeted))]
+fn write_answer<D: Door, O: Write, R: Wait + Clock>(
+    rt: &R,
+    alloc: Global,
+    door: &D,
+    stop: &Stop,
+    link: &Link<D::Ticket>,
+    writer: &mut Counted<O>,
+) -> Greeted
+    requires { writer.old.failed < 2 ^ 64 - 1 }
+    ensures answered { IsGreeted
+        (O.contents writer.old.device) (O.contents writer.new.device) result }
+    ensures kept { IfOn result (writer.new.failed ≡ writer.old.failed) }
+{
+    let Some((user, answer)) = link.await_answer(rt, door, stop) else {
+        return Greeted::Over;
+    };
+    match send_control(alloc, answer_control(answer), writer) {
+        Ok(()) => after_answer(user, answer),
+        Err(fault) => {
+            link.tell(rt, door, told(fault));
+            Greeted::Cut
+        }
+    }
+}
+
+/// Writes heartbeats and a user's reports from this number on, until the session is over or the writer
+/// fails. Answers whether all was written.
+fn write_reports<D: Door, O: Write, R: Wait + Clock>(
+    rt: &R,
+    alloc: Global,
+    door: &D,
+    stop: &Stop,
+    link: &Link<D::Ticket>,
+    user: UserName,
+    from: u64,
+    writer: &mut Counted<O>,
+) -> bool
+    requires { writer.old.failed < 2 ^ 64 - 1 }
+    ensures spoken { IsTrue result → WasSpoken D.policy user from
+        (O.contents writer.old.device) (O.contents writer.new.device) }
+    ensures front { IsFalse result → WasCutOff D.policy user from
+        (O.contents writer.old.device) (O.contents writer.new.device) }
+{
+    let mut next = from;
+    let mut watch = Watch::new();
+    for _ in rt.forever() {
+        let due = link.await_due(rt, door, stop, user, next, &mut watch);
+        if let Err(fault) = send(alloc, &due, writer) {
+            link.tell(rt, door, told(fault));
+            return false;
+        }
+        if is_last(&due) {
+            return true;
+        }
+        next = go_on(rt, door, link, &due, next);
+    }
+    unreachable!()
+}
+
+/// Writes the answer to a connection's login, and then, where it was accepted, its user's reports from the
+/// number that the answer names on, each once and in order, heartbeats between them, until the
+/// session is over or the writer fails. Answers whether all was written.
 pub fn write_on<D: Door, O: Write, R: Wait + Clock>(
     rt: &R,
     alloc: Global,
@@ -78,17 +193,16 @@ pub fn write_on<D: Door, O: Write, R: Wait + Clock>(
     writer: &mut Counted<O>,
 ) -> bool
     requires { writer.old.failed < 2 ^ 64 - 1 }
+    ensures said { IsTrue result → WasSaid D.policy
+        (O.contents writer.old.device) (O.contents writer.new.device) }
+    ensures front { IsFalse result → WasCut D.policy
+        (O.contents writer.old.device) (O.contents writer.new.device) }
 {
-    let mut course = Course::new();
-    for _ in rt.forever() {
-        let due = link.await_due(rt, door, stop, &mut course);
-        if let Err(fault) = send(alloc, &due, writer) {
-            link.tell(rt, door, told(fault));
-            return false;
-        }
-        if go_on(rt, door, link, &mut course, &due) {
-            return true;
-        }
+    match write_answer(rt, alloc, door, stop, link, writer) {
+        Greeted::On(user, next) => {
+            write_reports(rt, alloc, door, stop, link, user, next, writer)
+        },
+        Greeted::Over => true,
+        Greeted::Cut => false,
     }
-    unreachable!()
 }

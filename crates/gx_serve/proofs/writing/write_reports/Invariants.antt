@@ -1,9 +1,11 @@
 use Rattle.std.proofs.Common.{◌≡◌}
-use Rattle.gx_serve.proofs.writing.write_on.Given as goal
+use Rattle.gx_serve.proofs.Speaking.{Says}
+use Rattle.gx_serve.proofs.writing.write_reports.Given as goal
 
 abbrev pub invariant-loop : goal.invariant-loop
 invariant-loop g l = record {
   next : (goal.iterator-loop g).can_next l.iterator';
   finite : (goal.iterator-loop g).is_finite l.iterator';
   kept : l.writer.failed ≡ l.fn.writer.failed;
+  says : Says g.D.Door.policy l.user l.from l.next (g.O.Write.contents l.fn.writer.device) (g.O.Write.contents l.writer.device);
 }

@@ -1,0 +1,168 @@
+-- What the writer of a connection has written, part by part.
+use Rattle.std.proofs.Common.{◌≡◌, ℕ, Bool, true, false, inl, inr, Option, List, [], ◌∷◌, ◌++◌, refl, sym, ap, ◌∙◌, subst, append-nil, append_assoc}
+use Rattle.std.specs.Prelude.{codes}
+use Rattle.std.specs.List.{flat_map}
+use Rattle.std.proofs.lemmas.Grind.{flat_map-append}
+use Rattle.std.specs.Io.KnownBytes.{Appends}
+use Rattle.std.proofs.KnownBytes.{Appends-nil, Appends-trans}
+use Rattle.gx_units.specs.declared.names.SessionName.{SessionName}
+use Rattle.gx_units.specs.declared.names.UserName.{UserName}
+use Rattle.gx_history.specs.declared.policy.PolicyData.{PolicyData}
+use Rattle.gx_core.specs.declared.outcome.LoginAnswer.{LoginAnswer}
+use Rattle.gx_core.specs.declared.outcome.LoginAnswer.TheVariants as answers
+use Rattle.gx_devices.specs.Devices.{IsFront}
+use Rattle.gx_session.specs.declared.event.Control.TheVariants as controls
+use Rattle.gx_session.specs.Transcript.{control_bytes, reports_text}
+use Rattle.gx_session.proofs.Turning.{front_behind, front_longer}
+use Rattle.gx_serve.specs.declared.seat.Due.{Due}
+use Rattle.gx_serve.specs.declared.seat.Due.TheVariants as dues
+use Rattle.gx_serve.specs.declared.seat.Sign.TheVariants as signs
+use Rattle.gx_serve.specs.declared.writing.Greeted.TheVariants as greeteds
+use Rattle.gx_serve.specs.Speech
+
+-- parts that go on where others ended
+goes_on : (policy : PolicyData) (user : UserName) (from mid to : ℕ) (parts more : List Speech.Part) → Speech.GoOn policy user from parts mid → Speech.GoOn policy user mid more to → Speech.GoOn policy user from (parts ++ more) to
+goes_on policy user from mid to [] more at next = subst (λ n. Speech.GoOn policy user n more to) at next
+goes_on policy user from mid to (Speech.Beat ∷ parts) more at next = goes_on policy user from mid to parts more at next
+goes_on policy user from mid to (Speech.Shown pulled ∷ parts) more (shown, at) next = (shown, goes_on policy user pulled.next mid to parts more at next)
+
+-- what is spoken, and more
+spoken_on : (policy : PolicyData) (user : UserName) (from mid to : ℕ) (text more : List ℕ) → Speech.IsSpoken policy user from text mid → Speech.IsSpoken policy user mid more to → Speech.IsSpoken policy user from (text ++ more) to
+spoken_on policy user from mid to text more s t = record {
+  parts = s.parts ++ t.parts;
+  go_on = goes_on policy user from mid to s.parts t.parts s.go_on t.go_on;
+  whole = ap (λ x. x ++ more) s.whole ∙ ap (λ x. flat_map Speech.part_text s.parts ++ x) t.whole ∙ sym (flat_map-append Speech.part_text s.parts t.parts);
+}
+
+pub nothing_spoken : (policy : PolicyData) (user : UserName) (from : ℕ) → Speech.IsSpoken policy user from [] from
+nothing_spoken policy user from = record { parts = []; go_on = refl; whole = refl }
+
+-- what is due and not the last is a part
+due_spoken : (policy : PolicyData) (user : UserName) (from : ℕ) (due : Due) → Speech.IsDue policy user from due → Speech.is_last due ≡ false → Speech.IsSpoken policy user from (Speech.due_text due) (Speech.next_after due from)
+due_spoken policy user from (dues.Sign signs.Heartbeat) d e = record { parts = Speech.Beat ∷ []; go_on = refl; whole = sym (append-nil (control_bytes controls.Heartbeat)) }
+due_spoken policy user from (dues.Sign signs.EndOfSession) d e = cc
+due_spoken policy user from (dues.Reports pulled) d e = record { parts = Speech.Shown pulled ∷ []; go_on = (d, refl); whole = sym (append-nil (reports_text pulled.reports)) }
+due_spoken policy user from dues.Nothing d e = record { parts = []; go_on = refl; whole = refl }
+due_spoken policy user from dues.Over d e = cc
+
+-- what is due and the last is an ending
+due_ends : (due : Due) → Speech.is_last due ≡ true → Speech.IsEnding (Speech.due_text due)
+due_ends (dues.Sign signs.Heartbeat) e = cc
+due_ends (dues.Sign signs.EndOfSession) e = inr refl
+due_ends (dues.Reports pulled) e = cc
+due_ends dues.Nothing e = cc
+due_ends dues.Over e = inl refl
+
+-- of what the writer has come to
+pub record Says (policy : PolicyData) (user : UserName) (from to : ℕ) (before after : Option (List ℕ)) : Type 0 where
+  pub spoken : List ℕ
+  pub speech : Speech.IsSpoken policy user from spoken to
+  pub written : Appends before after spoken
+
+pub says_nothing : (policy : PolicyData) (user : UserName) (from : ℕ) (output : Option (List ℕ)) → Says policy user from from output output
+says_nothing policy user from output = record { spoken = []; speech = nothing_spoken policy user from; written = Appends-nil output }
+
+says_more : (policy : PolicyData) (user : UserName) (from to : ℕ) (before mid after : Option (List ℕ)) (due : Due) → Speech.IsDue policy user to due → Speech.is_last due ≡ false → Says policy user from to before mid → Appends mid after (Speech.due_text due) → Says policy user from (Speech.next_after due to) before after
+says_more policy user from to before mid after due d e s w = record {
+  spoken = s.spoken ++ Speech.due_text due;
+  speech = spoken_on policy user from to (Speech.next_after due to) s.spoken (Speech.due_text due) s.speech (due_spoken policy user to due d e);
+  written = Appends-trans before mid after s.spoken (Speech.due_text due) s.written w;
+}
+
+says_last : (policy : PolicyData) (user : UserName) (from to : ℕ) (before mid after : Option (List ℕ)) (due : Due) → Speech.is_last due ≡ true → Says policy user from to before mid → Appends mid after (Speech.due_text due) → Speech.WasSpoken policy user from before after
+says_last policy user from to before mid after due e s w = record {
+  to = to;
+  spoken = s.spoken;
+  speech = s.speech;
+  ending = Speech.due_text due;
+  ends = due_ends due e;
+  written = Appends-trans before mid after s.spoken (Speech.due_text due) s.written w;
+}
+
+-- the same, of what the functions answered
+
+pub goes_further : (policy : PolicyData) (user : UserName) (from to next : ℕ) (before mid after : Option (List ℕ)) (due : Due) (last : Bool) → Speech.IsDue policy user to due → last ≡ Speech.is_last due → last ≡ false → next ≡ Speech.next_after due to → Says policy user from to before mid → Appends mid after (Speech.due_text due) → Says policy user from next before after
+goes_further policy user from to next before mid after due last d l e n s w = subst (λ k. Says policy user from k before after) (sym n) (says_more policy user from to before mid after due d (sym l ∙ e) s w)
+
+pub ends_there : (policy : PolicyData) (user : UserName) (from to : ℕ) (before mid after : Option (List ℕ)) (due : Due) (last : Bool) → last ≡ Speech.is_last due → last ≡ true → Says policy user from to before mid → Appends mid after (Speech.due_text due) → Speech.WasSpoken policy user from before after
+ends_there policy user from to before mid after due last l e s w = says_last policy user from to before mid after due (sym l ∙ e) s w
+
+pub is_cut_off : (policy : PolicyData) (user : UserName) (from to : ℕ) (before mid after : Option (List ℕ)) (due : Due) → Speech.IsDue policy user to due → Says policy user from to before mid → IsFront mid after (Speech.due_text due) → Speech.WasCutOff policy user from before after
+is_cut_off policy user from to before mid after due d s f = elim (Speech.is_last due) as (λ b. Speech.is_last due ≡ b → Speech.WasCutOff policy user from before after) [
+  | true ↦ λ e. record {
+    to = to;
+    spoken = s.spoken;
+    speech = s.speech;
+    ending = Speech.due_text due;
+    ends = due_ends due e;
+    front = front_behind s.spoken (Speech.due_text due) before mid after s.written f;
+  }
+  | false ↦ λ e. record {
+    to = Speech.next_after due to;
+    spoken = s.spoken ++ Speech.due_text due;
+    speech = spoken_on policy user from to (Speech.next_after due to) s.spoken (Speech.due_text due) s.speech (due_spoken policy user to due d e);
+    ending = [];
+    ends = inl refl;
+    front = front_longer (s.spoken ++ Speech.due_text due) [] before after (front_behind s.spoken (Speech.due_text due) before mid after s.written f);
+  }
+] refl
+
+-- The whole of it, by what came of the login.
+
+pub nothing_said : (policy : PolicyData) (output : Option (List ℕ)) → Speech.WasSaid policy output output
+nothing_said policy output = record { text = []; said = inl refl; written = Appends-nil output }
+
+pub is_said : (policy : PolicyData) (before after : Option (List ℕ)) → Speech.IsGreeted before after greeteds.Over → Speech.WasSaid policy before after
+is_said policy before after (inl w) = record { text = []; said = inl refl; written = w }
+is_said policy before after (inr (reason, w)) = record { text = control_bytes (controls.Rejected reason); said = inr (inl (reason, refl)); written = w }
+
+pub is_greeted : (user : UserName) (answer : LoginAnswer) (before after : Option (List ℕ)) → Appends before after (control_bytes (Speech.answer_control answer)) → Speech.IsGreeted before after (Speech.greeted_by user answer)
+is_greeted user (answers.Accepted session next) before after w = (session, w)
+is_greeted user (answers.Rejected reason) before after w = inr (reason, w)
+
+blank_user : UserName
+blank_user = record { bytes = codes "      " }
+
+answer_said : (policy : PolicyData) (answer : LoginAnswer) → Speech.IsConversation policy (control_bytes (Speech.answer_control answer))
+answer_said policy (answers.Rejected reason) = inr (inl (reason, refl))
+answer_said policy (answers.Accepted session next) = inr (inr (record {
+  user = blank_user;
+  session = session;
+  first = next;
+  to = next;
+  spoken = [];
+  speech = nothing_spoken policy blank_user next;
+  ending = [];
+  ends = inl refl;
+  whole = sym (append-nil (control_bytes (controls.Accepted session next) ++ []) ∙ append-nil (control_bytes (controls.Accepted session next)));
+}))
+
+pub answer_cut : (policy : PolicyData) (before after : Option (List ℕ)) → Speech.IsGreeted before after greeteds.Cut → Speech.WasCut policy before after
+answer_cut policy before after (answer, f) = record { text = control_bytes (Speech.answer_control answer); said = answer_said policy answer; front = f }
+
+welcome : (policy : PolicyData) (user : UserName) (session : SessionName) (first to : ℕ) (spoken ending : List ℕ) → Speech.IsSpoken policy user first spoken to → Speech.IsEnding ending → Speech.IsConversation policy (control_bytes (controls.Accepted session first) ++ (spoken ++ ending))
+welcome policy user session first to spoken ending s e = inr (inr (record {
+  user = user;
+  session = session;
+  first = first;
+  to = to;
+  spoken = spoken;
+  speech = s;
+  ending = ending;
+  ends = e;
+  whole = sym (append_assoc (control_bytes (controls.Accepted session first)) spoken ending);
+}))
+
+pub whole_said : (policy : PolicyData) (user : UserName) (first : ℕ) (before mid after : Option (List ℕ)) → ((session : SessionName) × Appends before mid (control_bytes (controls.Accepted session first))) → Speech.WasSpoken policy user first mid after → Speech.WasSaid policy before after
+whole_said policy user first before mid after (session, g) s = record {
+  text = control_bytes (controls.Accepted session first) ++ (s.spoken ++ s.ending);
+  said = welcome policy user session first s.to s.spoken s.ending s.speech s.ends;
+  written = Appends-trans before mid after _ _ g s.written;
+}
+
+pub rest_cut : (policy : PolicyData) (user : UserName) (first : ℕ) (before mid after : Option (List ℕ)) → ((session : SessionName) × Appends before mid (control_bytes (controls.Accepted session first))) → Speech.WasCutOff policy user first mid after → Speech.WasCut policy before after
+rest_cut policy user first before mid after (session, g) s = record {
+  text = control_bytes (controls.Accepted session first) ++ (s.spoken ++ s.ending);
+  said = welcome policy user session first s.to s.spoken s.ending s.speech s.ends;
+  front = front_behind (control_bytes (controls.Accepted session first)) (s.spoken ++ s.ending) before mid after g s.front;
+}

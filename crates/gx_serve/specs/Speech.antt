@@ -1,0 +1,163 @@
+-- What a connection is sent.
+use Rattle.std.specs.Prelude.{◌≡◌, ◌⊎◌, ℕ, Bool, true, false, IsTrue, is_some, Option, List, [], ◌∷◌, ◌++◌}
+use Rattle.std.specs.List.{flat_map}
+use Rattle.std.specs.Io.KnownBytes.{Appends}
+use Rattle.gx_units.specs.declared.names.LoginRejection.{LoginRejection}
+use Rattle.gx_units.specs.declared.names.SessionName.{SessionName}
+use Rattle.gx_units.specs.declared.names.UserName.{UserName}
+use Rattle.gx_units.specs.Spelling.{folded_user}
+use Rattle.gx_history.specs.declared.policy.PolicyData.{PolicyData}
+use Rattle.gx_history.specs.declared.record.RecordData.{RecordData}
+use Rattle.gx_history.specs.InForce.{line_of}
+use Rattle.gx_history.specs.Verdicts.{IsLegal}
+use Rattle.gx_core.specs.declared.outcome.LoginAnswer.{LoginAnswer}
+use Rattle.gx_core.specs.declared.outcome.LoginAnswer.TheVariants as answers
+use Rattle.gx_core.specs.declared.pulling.Pulled.{Pulled}
+use Rattle.gx_devices.specs.Devices.{IsFront}
+use Rattle.gx_session.specs.declared.event.Control.{Control}
+use Rattle.gx_session.specs.declared.event.Control.TheVariants as controls
+use Rattle.gx_session.specs.Transcript.{control_bytes, reports_text}
+use Rattle.gx_shared.specs.Acts.{gate_at, most_pulled, IsPulled}
+use Rattle.gx_serve.specs.declared.seat.Due.{Due}
+use Rattle.gx_serve.specs.declared.seat.Due.TheVariants as dues
+use Rattle.gx_serve.specs.declared.seat.Sign.{Sign}
+use Rattle.gx_serve.specs.declared.seat.Sign.TheVariants as signs
+use Rattle.gx_serve.specs.declared.writing.Greeted.{Greeted}
+use Rattle.gx_serve.specs.declared.writing.Greeted.TheVariants as greeteds
+
+-- the packet of a login's answer
+abbrev pub answer_control : LoginAnswer → Control
+answer_control (answers.Accepted session next) = controls.Accepted session next
+answer_control (answers.Rejected reason) = controls.Rejected reason
+
+-- the packet of a sign
+abbrev pub sign_control : Sign → Control
+sign_control signs.Heartbeat = controls.Heartbeat
+sign_control signs.EndOfSession = controls.EndOfSession
+
+-- what is written of what is due: a packet of the session's own, or one for each report
+abbrev pub due_text : Due → List ℕ
+due_text (dues.Sign sign) = control_bytes (sign_control sign)
+due_text (dues.Reports pulled) = reports_text pulled.reports
+due_text dues.Nothing = []
+due_text dues.Over = []
+
+-- the user's reports from this number on, as the records of a legal day owe them to him, in which he is logged in
+pub record IsShown (policy : PolicyData) (user : UserName) (from : ℕ) (pulled : Pulled) : Type 0 where
+  pub records : List RecordData
+  pub legal : IsLegal policy records
+  pub on : IsTrue (is_some (line_of records (folded_user user)))
+  pub shown : IsPulled (gate_at policy records) (folded_user user) from most_pulled pulled
+
+-- where reports are due, they are the user's from this number on
+abbrev pub IsDue : PolicyData → UserName → ℕ → Due → Type 0
+IsDue policy user from (dues.Sign sign) = Unit {0}
+IsDue policy user from (dues.Reports pulled) = IsShown policy user from pulled
+IsDue policy user from dues.Nothing = Unit {0}
+IsDue policy user from dues.Over = Unit {0}
+
+-- nothing is sent behind it
+abbrev pub is_last : Due → Bool
+is_last (dues.Sign signs.Heartbeat) = false
+is_last (dues.Sign signs.EndOfSession) = true
+is_last (dues.Reports pulled) = false
+is_last dues.Nothing = false
+is_last dues.Over = true
+
+-- the number of the next report behind it
+abbrev pub next_after : Due → ℕ → ℕ
+next_after (dues.Sign sign) next = next
+next_after (dues.Reports pulled) next = pulled.next
+next_after dues.Nothing next = next
+next_after dues.Over next = next
+
+-- a part of what a user who is on is sent: a heartbeat, or reports
+pub data Part : Type 0 where
+  Beat : Part
+  Shown : Pulled → Part
+
+abbrev pub part_text : Part → List ℕ
+part_text Beat = control_bytes controls.Heartbeat
+part_text (Shown pulled) = reports_text pulled.reports
+
+-- the parts are heartbeats, and the user's reports from this number on, each once and in order, up to that number
+abbrev pub GoOn : PolicyData → UserName → ℕ → List Part → ℕ → Type 0
+GoOn policy user from [] to = to ≡ from
+GoOn policy user from (Beat ∷ parts) to = GoOn policy user from parts to
+GoOn policy user from (Shown pulled ∷ parts) to = IsShown policy user from pulled × GoOn policy user pulled.next parts to
+
+-- to a user who is on such parts were sent
+pub record IsSpoken (policy : PolicyData) (user : UserName) (from : ℕ) (text : List ℕ) (to : ℕ) : Type 0 where
+  pub parts : List Part
+  pub go_on : GoOn policy user from parts to
+  pub whole : text ≡ flat_map part_text parts
+
+-- the end of the session was written, or nothing
+abbrev pub IsEnding : List ℕ → Type 0
+IsEnding text = (text ≡ []) ⊎ (text ≡ control_bytes controls.EndOfSession)
+
+-- a login that was accepted: its answer, its user's reports from the number that it names on, and perhaps the end of the
+-- session
+pub record IsWelcome (policy : PolicyData) (text : List ℕ) : Type 0 where
+  pub user : UserName
+  pub session : SessionName
+  pub first : ℕ
+  pub to : ℕ
+  pub spoken : List ℕ
+  pub speech : IsSpoken policy user first spoken to
+  pub ending : List ℕ
+  pub ends : IsEnding ending
+  pub whole : text ≡ (control_bytes (controls.Accepted session first) ++ spoken) ++ ending
+
+-- what a connection is sent: nothing, the rejection of its login, or its acceptance and what follows
+abbrev pub IsConversation : PolicyData → List ℕ → Type 0
+IsConversation policy text =
+    (text ≡ []) ⊎ (((reason : LoginRejection) × (text ≡ control_bytes (controls.Rejected reason))) ⊎ IsWelcome policy text)
+
+-- it was written whole
+pub record WasSaid (policy : PolicyData) (before after : Option (List ℕ)) : Type 0 where
+  pub text : List ℕ
+  pub said : IsConversation policy text
+  pub written : Appends before after text
+
+-- a front of it was written
+pub record WasCut (policy : PolicyData) (before after : Option (List ℕ)) : Type 0 where
+  pub text : List ℕ
+  pub said : IsConversation policy text
+  pub front : IsFront before after text
+
+-- to this user such parts were written, and perhaps the end of the session
+pub record WasSpoken (policy : PolicyData) (user : UserName) (from : ℕ) (before after : Option (List ℕ)) : Type 0 where
+  pub to : ℕ
+  pub spoken : List ℕ
+  pub speech : IsSpoken policy user from spoken to
+  pub ending : List ℕ
+  pub ends : IsEnding ending
+  pub written : Appends before after (spoken ++ ending)
+
+-- a front of such parts was written
+pub record WasCutOff (policy : PolicyData) (user : UserName) (from : ℕ) (before after : Option (List ℕ)) : Type 0 where
+  pub to : ℕ
+  pub spoken : List ℕ
+  pub speech : IsSpoken policy user from spoken to
+  pub ending : List ℕ
+  pub ends : IsEnding ending
+  pub front : IsFront before after (spoken ++ ending)
+
+-- the answer to a login was written, or a front of it
+abbrev pub IsGreeted : Option (List ℕ) → Option (List ℕ) → Greeted → Type 0
+IsGreeted before after (greeteds.On user next) = (session : SessionName) × Appends before after (control_bytes (controls.Accepted session next))
+IsGreeted before after greeteds.Over =
+    Appends before after [] ⊎ ((reason : LoginRejection) × Appends before after (control_bytes (controls.Rejected reason)))
+IsGreeted before after greeteds.Cut = (answer : LoginAnswer) × IsFront before after (control_bytes (answer_control answer))
+
+-- what comes of a login that this user was answered so
+abbrev pub greeted_by : UserName → LoginAnswer → Greeted
+greeted_by user (answers.Accepted session next) = greeteds.On user next
+greeted_by user (answers.Rejected reason) = greeteds.Over
+
+-- the fact, where a user is on
+abbrev pub IfOn : Greeted → Type 0 → Type 0
+IfOn (greeteds.On user next) Fact = Fact
+IfOn greeteds.Over Fact = Unit {0}
+IfOn greeteds.Cut Fact = Unit {0}
