@@ -7,6 +7,8 @@
 #include <stdio.h>
 #include <stdlib.h>
 #include <string.h>
+#include <sys/syscall.h>
+#include <unistd.h>
 
 static long calls, first, last;
 static void *(*next_malloc)(size_t);
@@ -57,4 +59,11 @@ __attribute__((destructor)) static void tell(void) {
     if (!file) return;
     fprintf(file, "%ld\n", calls);
     fclose(file);
+}
+
+/* A program that has threads ends without its destructors. */
+void _exit(int status) {
+    tell();
+    syscall(SYS_exit_group, status);
+    __builtin_unreachable();
 }
