@@ -146,7 +146,8 @@ impl Gate {
         ensures next { IfOk result (λ found.
             next_match self.old handed ≡ option_map (matched_by handed) found) }
         ensures records { IfOk result (λ found. self.new ≡ with_match self.old handed found) }
-        ensures effect { IfOk result (λ found. IfSome found (HasMatched self.old self.new handed)) }
+        ensures effect { IfOk result (λ found.
+            IfSome found (HasMatched self.old self.new handed)) }
         ensures settles { IfOk result (λ found.
             settled_gate self.new handed ≡ settled_gate self.old handed) }
         ensures fewer { IfOk result (λ found. IfSome found (λ o.
@@ -262,7 +263,8 @@ impl Gate {
     /// the fills of accounts that were his before the fill.
     #[tactic(auto, using(crate::proofs::Judged::reports_are_known, crate::proofs::Judged::end_is_known))]
     pub fn reports(&self, user: UserName, from: u64, most: u64) -> Result<Pulled, OutOfMemory>
-        ensures reports { IfOk result (λ p. p.reports ≡ slice (stream_of self.now user) from most) }
+        ensures reports { IfOk result (λ p.
+            p.reports ≡ slice (stream_of self.now user) from most) }
         ensures copies { IfOk result (λ p. IsTrue (reads self.now user)
             → p.reports ≡ slice (copies_of self.now user) from most) }
         ensures next { IfOk result (λ p. p.next ≡ max 1 from + length p.reports) }

@@ -52,7 +52,8 @@ pub fn count_of(reports: &[Report]) -> u64
 
 /// The user's reports from this number on, 0 counting as 1, and at most so many.
 pub fn pull(keepers: &Keepers, user: UserName, from: u64, most: u64) -> Result<Pulled, OutOfMemory>
-    ensures reports { IfOk result (λ p. p.reports ≡ slice (told_kept keepers.now user) from most) }
+    ensures reports { IfOk result (λ p.
+        p.reports ≡ slice (told_kept keepers.now user) from most) }
     ensures next { IfOk result (λ p. p.next ≡ max 1 from + length p.reports) }
     ensures ended { IfOk result (λ p. p.ended ≡ is_past_the_end keepers.now user p.next) }
 {

@@ -134,7 +134,8 @@ impl<D: Write> Write for Counted<D> {
         ensures called { 0 < length buf.now → self.new.calls ≡ one_more self.old.calls }
         ensures nothing { length buf.now ≡ 0 → self.new.calls ≡ self.old.calls }
         ensures kept { IfOk result (λ n. 0 < n → self.new.failed ≡ self.old.failed) }
-        ensures empty { IfOk result (λ n. length buf.now ≡ 0 → self.new.failed ≡ self.old.failed) }
+        ensures empty { IfOk result (λ n.
+            length buf.now ≡ 0 → self.new.failed ≡ self.old.failed) }
         ensures counted { IfOk result (λ n.
             n ≡ 0 → 0 < length buf.now → self.new.failed ≡ one_more self.old.failed) }
         ensures failed { OnErr result (self.new.failed ≡ one_more self.old.failed) }

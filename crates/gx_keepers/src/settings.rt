@@ -44,7 +44,8 @@ fn revoke(
     written: WrittenName,
     account: AccountName,
 ) -> Result<(), OutOfMemory>
-    ensures people { OnOk result (people.new ≡ given people.old (actions.Revoke written account)) }
+    ensures people { OnOk result (people.new
+        ≡ given people.old (actions.Revoke written account)) }
     ensures streams { OnOk result (streams.new
         ≡ sent_on policy.now people.old people.new streams.old (actions.Revoke written account)) }
     ensures people_kept { OnErr result (people.new ≡ people.old) }

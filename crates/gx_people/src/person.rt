@@ -76,7 +76,8 @@ impl Standing {
 
     /// Takes the account from a reader.
     pub(crate) fn revoke(&mut self, account: AccountName)
-        ensures { role_of_standing self.new ≡ without_account account (role_of_standing self.old) }
+        ensures { role_of_standing self.new
+            ≡ without_account account (role_of_standing self.old) }
     {
         if let Standing::Reader(accounts) = self {
             accounts.remove(account);

@@ -30,7 +30,8 @@ impl Power {
     #[tactic(auto, using(crate::proofs::Keeping::power_for_is))]
     pub fn of(action: &Action) -> Power
         ensures power { result ≡ power_of action.now }
-        ensures asked { (role : Option Role) → has_in_role role result ≡ has_power role action.now }
+        ensures asked { (role : Option Role)
+            → has_in_role role result ≡ has_power role action.now }
     {
         match action {
             Action::Kill(_) => Power::Kill,

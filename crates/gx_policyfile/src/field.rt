@@ -34,7 +34,8 @@ fn is_key(keys: &[&str], key: &str) -> bool
 }
 
 fn are_keys(entry: &Table, keys: &[&str]) -> bool
-    ensures { result ≡ list_all (λ key. list_any (λ k. bytes_eq k.now (string_bytes key)) keys.now)
+    ensures { result
+        ≡ list_all (λ key. list_any (λ k. bytes_eq k.now (string_bytes key)) keys.now)
         (tree.keys entry.now) }
 {
     entry.keys().all(|key| is_key(keys, key.as_str()))

@@ -24,7 +24,8 @@ pub fn is_bad_price(price: u32) -> bool
 
 /// Display is neither `A` nor `Y`.
 pub fn is_bad_display(display: u8) -> bool
-    ensures { result ≡ not (is_one_of (display_attributable ∷ display_anonymous ∷ []) display) }
+    ensures { result
+        ≡ not (is_one_of (display_attributable ∷ display_anonymous ∷ []) display) }
 {
     display != b'A' && display != b'Y'
 }

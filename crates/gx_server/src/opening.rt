@@ -34,7 +34,8 @@ pub fn policy_for(alloc: Global, file: Option<&[u8]>) -> Result<Policy, ProgramF
 /// A gate at the beginning of a day: under the policy that the bytes of a file mean, or, where no file is given, under
 /// the sample policy.
 pub fn open_gate(alloc: Global, file: Option<&[u8]>) -> Result<Gate, ProgramFault>
-    ensures policy { IfOk result (λ gate. policy_for (option_copied file.entry) ≡ Ok gate.policy) }
+    ensures policy { IfOk result (λ gate.
+        policy_for (option_copied file.entry) ≡ Ok gate.policy) }
     ensures records { IfOk result (λ gate. gate.records ≡ []) }
     ensures fault { IfErr result (IsFaultOf (policy_for (option_copied file.entry))) }
     ensures sample { option_copied file.entry ≡ None

@@ -61,7 +61,8 @@ pub fn silent_before_login()
 
 /// After each packet that leaves the session alive no order waits to be matched.
 pub fn no_order_waits()
-    ensures { (gate : GateData) (first : ℕ) (bytes : List ℕ) → IsLegal gate.policy gate.records
+    ensures { (gate : GateData) (first : ℕ) (bytes : List ℕ)
+        → IsLegal gate.policy gate.records
         → 0 < length (packets_of bytes).packets
         → IsFalse (is_over (run_of gate first bytes).connection.session.phase)
         → matching_of (run_of gate first bytes).gate ≡ None }

@@ -90,7 +90,8 @@ impl Readers {
         fill: usize,
     ) -> Result<(), OutOfMemory>
         requires { AllByRecursion (λ r. r.count + 2 < 2 ^ 64) self.old }
-        ensures ok { OnOk result (self.new ≡ at_first (is_named user) (entitled_from mask fill) self.old) }
+        ensures ok { OnOk result (self.new
+            ≡ at_first (is_named user) (entitled_from mask fill) self.old) }
         ensures err { OnErr result (self.new ≡ self.old) }
     {
         let Some(place) = self.place_of(user) else {

@@ -88,7 +88,8 @@ impl Told {
     ) -> Result<(), OutOfMemory>
         requires first { IsTrue (is_known self.old first) }
         requires second { IsTrue (is_known self.old second) }
-        ensures ok { OnOk result (self.new ≡ on_user second (with_last other) (on_user first (with_last one) self.old)) }
+        ensures ok { OnOk result (self.new
+            ≡ on_user second (with_last other) (on_user first (with_last one) self.old)) }
         ensures err { OnErr result (self.new ≡ self.old) }
     {
         self.append(first, one)?;

@@ -121,7 +121,8 @@ impl Window {
         current: Span,
     ) -> Result<(), OutOfMemory>
         requires { AreNumbered fills.now 1 spans.now current }
-        ensures { OnOk result (self.new ≡ after (copies_in fills.now spans.now current) self.old) }
+        ensures { OnOk result (self.new
+            ≡ after (copies_in fills.now spans.now current) self.old) }
     {
         for (i, span) in spans.iter().enumerate() {
             let next = next_span(past(spans, i + 1), current);
