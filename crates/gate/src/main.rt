@@ -1,23 +1,24 @@
 //! The program `gate`: a sponsored-access gateway on the command line.
 #![tactic(auto)]
 
+mod ending;
+
 use clap::Error;
-use clap::error::ErrorKind;
-use gx_auditing::{
-    AuditAnswer, AuditingFault, Choice, more_of_audit, show_audit, told_of_audit, write_audit,
-};
-use gx_command_line::{Asked, AuditFiles, RunFiles, Serving, Wanted};
+use clap::error::ErrorKind as UsageFault;
+use ending::{Ended, Place, tell};
+use gx_auditing::{AuditAnswer, Choice, more_of_audit, show_audit, told_of_audit, write_audit};
+use gx_command_line::{Asked, AuditFiles, LONGEST_WORD, RunFiles, Serving, Wanted, first_bad_word};
 use gx_core::Gate;
 use gx_devices::Counted;
 use gx_history::policy::Policy;
-use gx_scripting::{Explained, run_script_explained};
+use gx_scripting::run_script_explained;
 use gx_serve::{Lobby, ServeFault, Served, serve};
-use gx_server::{ProgramFault, open_gate, policy_for, told_of_policy};
-use gx_session::{PipeFault, run_pipe};
+use gx_server::{Noted, migrated_policy, open_gate, policy_for, told_of_policy};
+use gx_session::run_pipe;
 use gx_units::OutOfMemory;
 use std::alloc::Global;
 use std::fs::File;
-use std::io::{Read, Write};
+use std::io::{ErrorKind, Read, Write};
 use std::net::{Ipv4Addr, Net, SocketAddr, TcpListener, TcpStream};
 use std::process::ExitCode;
 use std::sync::{Arc, Wait};
@@ -28,61 +29,11 @@ use std::{fs, io, thread};
 /// The moment of a connection's first packet.
 const FIRST_MOMENT: u64 = 1;
 
-/// Why the program gave up, and which file can't be read or written, or where nothing can be listened to, in the
-/// system's words.
-#[derive(Drop)]
-struct Ended<'a> {
-    fault: ProgramFault,
-    file: Option<(&'a str, io::Error)>,
-}
-
-impl<'a> From<ProgramFault> for Ended<'a> {
-    fn from(fault: ProgramFault) -> Ended<'a> {
-        Ended { fault, file: None }
-    }
-}
-
-impl<'a> From<PipeFault> for Ended<'a> {
-    fn from(fault: PipeFault) -> Ended<'a> {
-        ProgramFault::from(fault).into()
-    }
-}
-
-impl<'a> From<Explained> for Ended<'a> {
-    fn from(explained: Explained) -> Ended<'a> {
-        ProgramFault::from(explained).into()
-    }
-}
-
-impl<'a> From<OutOfMemory> for Ended<'a> {
-    fn from(refused: OutOfMemory) -> Ended<'a> {
-        ProgramFault::from(refused).into()
-    }
-}
-
-impl<'a> From<ServeFault> for Ended<'a> {
-    fn from(fault: ServeFault) -> Ended<'a> {
-        match fault {
-            ServeFault::OutOfMemory => OutOfMemory.into(),
-            ServeFault::ListenFailed => ProgramFault::ListenFailed.into(),
-        }
-    }
-}
-
-impl<'a> From<AuditingFault> for Ended<'a> {
-    fn from(fault: AuditingFault) -> Ended<'a> {
-        let told = match fault {
-            AuditingFault::OutOfMemory => PipeFault::OutOfMemory,
-            AuditingFault::WriteFailed => PipeFault::WriteFailed,
-        };
-        told.into()
-    }
-}
-
-/// The words of the command line.
-fn words_of(rt: &HostRuntime) -> Result<Vec<String>, OutOfMemory> {
+/// The words of the command line; `None` where one is not UTF-8.
+fn words_of(rt: &HostRuntime) -> Result<Option<Vec<String>>, OutOfMemory> {
     match std::env::args(rt) {
-        Ok(words) => Ok(words.collect(rt.alloc())?),
+        Ok(words) => Ok(Some(words.collect(rt.alloc())?)),
+        Err(error) if error.kind() == ErrorKind::InvalidData => Ok(None),
         Err(_) => Err(OutOfMemory),
     }
 }
@@ -91,10 +42,7 @@ fn words_of(rt: &HostRuntime) -> Result<Vec<String>, OutOfMemory> {
 fn bytes_of<'a>(rt: &HostRuntime, path: &'a str) -> Result<Vec<u8>, Ended<'a>> {
     match fs::read(rt, path) {
         Ok(bytes) => Ok(bytes),
-        Err(error) => Err(Ended {
-            fault: ProgramFault::unread(error.kind()),
-            file: Some((path, error)),
-        }),
+        Err(error) => Err(Ended::unread(path, error)),
     }
 }
 
@@ -110,20 +58,31 @@ fn gate_of<'a>(rt: &HostRuntime, file: Option<&'a str>) -> Result<Gate, Ended<'a
 }
 
 /// Serves one connection on a gate.
-fn serve_one(rt: &HostRuntime, gate: &mut Gate) -> Result<(), PipeFault> {
-    let mut reader = Counted::new(rt.reader());
-    let mut writer = Counted::new(io::writer(rt));
-    run_pipe(rt.alloc(), gate, FIRST_MOMENT, &mut reader, &mut writer)
+fn serve_one<'a>(rt: &HostRuntime, gate: &mut Gate) -> Result<(), Ended<'a>> {
+    let mut reader = Counted::new(Noted::new(rt.reader()));
+    let mut writer = Counted::new(Noted::new(io::writer(rt)));
+    match run_pipe(rt.alloc(), gate, FIRST_MOMENT, &mut reader, &mut writer) {
+        Ok(()) => Ok(()),
+        Err(fault) => Err(Ended::of_run(
+            fault.into(),
+            reader.device().cause,
+            writer.device().cause,
+        )),
+    }
 }
 
-/// Writes the gate's audit to a device.
-fn write_records<W: Write + Drop>(
+/// Writes the gate's audit to the device of this place.
+fn write_records<'a, W: Write + Drop>(
     alloc: Global,
     gate: &Gate,
     device: W,
-) -> Result<(), AuditingFault> {
-    let mut writer = Counted::new(device);
-    write_audit(alloc, gate, &mut writer)
+    place: Place<'a>,
+) -> Result<(), Ended<'a>> {
+    let mut writer = Counted::new(Noted::new(device));
+    match write_audit(alloc, gate, &mut writer) {
+        Ok(()) => Ok(()),
+        Err(fault) => Err(Ended::of_writing(fault, place, writer.device().cause)),
+    }
 }
 
 /// Writes the gate's audit, where one is wanted.
@@ -132,11 +91,8 @@ fn keep_audit<'a>(rt: &HostRuntime, gate: &Gate, path: Option<&'a str>) -> Resul
         return Ok(());
     };
     match File::create(rt, path) {
-        Ok(file) => Ok(write_records(rt.alloc(), gate, file)?),
-        Err(error) => Err(Ended {
-            fault: PipeFault::WriteFailed.into(),
-            file: Some((path, error)),
-        }),
+        Ok(file) => write_records(rt.alloc(), gate, file, Place::File(path)),
+        Err(error) => Err(Ended::unwritten(Place::File(path), error)),
     }
 }
 
@@ -151,10 +107,17 @@ fn pipe<'a>(rt: &HostRuntime, files: RunFiles<'a>) -> Result<(), Ended<'a>> {
 }
 
 /// Runs a script on a gate.
-fn follow(rt: &HostRuntime, gate: &mut Gate) -> Result<(), Explained> {
-    let mut reader = Counted::new(rt.reader());
-    let mut writer = Counted::new(io::writer(rt));
-    run_script_explained(rt.alloc(), gate, &mut reader, &mut writer)
+fn follow<'a>(rt: &HostRuntime, gate: &mut Gate) -> Result<(), Ended<'a>> {
+    let mut reader = Counted::new(Noted::new(rt.reader()));
+    let mut writer = Counted::new(Noted::new(io::writer(rt)));
+    match run_script_explained(rt.alloc(), gate, &mut reader, &mut writer) {
+        Ok(()) => Ok(()),
+        Err(explained) => Err(Ended::of_run(
+            explained.into(),
+            reader.device().cause,
+            writer.device().cause,
+        )),
+    }
 }
 
 /// Runs a script, and writes the audit.
@@ -189,10 +152,7 @@ fn listen<'a, R: Net<Listener = TcpListener, Stream = TcpStream> + Eprint>(
             let _ = eprintln!(rt; "listening on {address}");
             Ok(listener)
         }
-        Err(error) => Err(Ended {
-            fault: ProgramFault::ListenFailed,
-            file: Some(("127.0.0.1", error)),
-        }),
+        Err(error) => Err(ServeFault::ListenFailed(error).into()),
     }
 }
 
@@ -250,17 +210,30 @@ where
     Ok(serve(rt, host.alloc(), policy, &lobby, listener, connections)?)
 }
 
+/// Serves connections under a policy, and writes the audit.
+fn serve_under<'a, R>(
+    rt: &R,
+    host: &HostRuntime,
+    policy: &Policy,
+    serving: &Serving<'a>,
+) -> Result<(), Ended<'a>>
+where
+    R: Net<Listener = TcpListener, Stream = TcpStream> + Threads + Wait + Clock + Eprint + Sync,
+{
+    let Served { gate, ended } = serve_on(rt, host, policy, serving)?;
+    let kept = keep_audit(host, &gate, serving.files.audit);
+    gate.close();
+    ended?;
+    kept
+}
+
 /// Serves connections, and writes the audit.
 fn serve_port<'a, R>(rt: &R, host: &HostRuntime, serving: Serving<'a>) -> Result<(), Ended<'a>>
 where
     R: Net<Listener = TcpListener, Stream = TcpStream> + Threads + Wait + Clock + Eprint + Sync,
 {
     let policy = policy_of(host, serving.files.policy)?;
-    let Served { gate, ended } = serve_on(rt, host, &policy, &serving)?;
-    let kept = keep_audit(host, &gate, serving.files.audit);
-    gate.close();
-    ended?;
-    kept
+    serve_under(rt, host, &policy, &serving)
 }
 
 /// Puts behind an answer what more there is to tell of it; nothing where there is no memory for it. The first line on
@@ -273,52 +246,83 @@ fn tell_more_of(rt: &HostRuntime, policy: &Policy, audit: &[u8], told: &AuditAns
 }
 
 /// Tells what an audit is: the status that says so.
-fn tell_audit(rt: &HostRuntime, policy: &Policy, audit: &[u8]) -> Result<ExitCode, AuditingFault> {
-    let told = told_of_audit(rt.alloc(), policy, audit)?;
+fn tell_audit<'a>(rt: &HostRuntime, policy: &Policy, audit: &[u8]) -> Result<ExitCode, Ended<'a>> {
+    let told = match told_of_audit(rt.alloc(), policy, audit) {
+        Ok(told) => told,
+        Err(fault) => return Err(Ended::of_writing(fault, Place::Output, None)),
+    };
     match io::writer(rt).write_all(told.line.as_slice()) {
         Ok(()) => {
             tell_more_of(rt, policy, audit, &told);
             Ok(ExitCode::from(told.status()))
         }
-        Err(_) => Err(AuditingFault::WriteFailed),
+        Err(error) => Err(Ended::unwritten(Place::Output, error)),
     }
+}
+
+/// Checks an audit under a policy: the status that says what it is.
+fn check_under<'a>(
+    rt: &HostRuntime,
+    policy: &Policy,
+    path: &'a str,
+) -> Result<ExitCode, Ended<'a>> {
+    let audit = bytes_of(rt, path)?;
+    tell_audit(rt, policy, audit.as_slice())
 }
 
 /// Checks an audit: the status that says what it is.
 fn check<'a>(rt: &HostRuntime, files: AuditFiles<'a>) -> Result<ExitCode, Ended<'a>> {
     let policy = policy_of(rt, files.policy)?;
-    let audit = bytes_of(rt, files.audit)?;
-    Ok(tell_audit(rt, &policy, audit.as_slice())?)
+    check_under(rt, &policy, files.audit)
 }
 
 /// Shows the records of an audit that were chosen: the status that says whether all were records.
-fn show_records(
+fn show_records<'a>(
     rt: &HostRuntime,
     policy: &Policy,
     audit: &[u8],
     choice: &Choice,
-) -> Result<ExitCode, AuditingFault> {
-    let mut writer = Counted::new(io::writer(rt));
-    match show_audit(rt.alloc(), policy, choice, audit, &mut writer)? {
-        Some(number) => {
+) -> Result<ExitCode, Ended<'a>> {
+    let mut writer = Counted::new(Noted::new(io::writer(rt)));
+    match show_audit(rt.alloc(), policy, choice, audit, &mut writer) {
+        Ok(Some(number)) => {
             let _ = eprintln!(rt; "bad record {number}");
             Ok(ExitCode::from(4))
         }
-        None => Ok(ExitCode::SUCCESS),
+        Ok(None) => Ok(ExitCode::SUCCESS),
+        Err(fault) => Err(Ended::of_writing(fault, Place::Output, writer.device().cause)),
     }
 }
 
 /// Shows the records of an audit that are wanted, none where a name can be nobody's.
+fn show_under<'a>(
+    rt: &HostRuntime,
+    policy: &Policy,
+    path: &'a str,
+    wanted: Wanted,
+) -> Result<ExitCode, Ended<'a>> {
+    let audit = bytes_of(rt, path)?;
+    match Choice::named(wanted.account, wanted.user) {
+        Some(choice) => show_records(rt, policy, audit.as_slice(), &choice),
+        None => Ok(ExitCode::SUCCESS),
+    }
+}
+
+/// Shows records of an audit: the status that says whether all were records.
 fn show<'a>(
     rt: &HostRuntime,
     files: AuditFiles<'a>,
     wanted: Wanted,
 ) -> Result<ExitCode, Ended<'a>> {
     let policy = policy_of(rt, files.policy)?;
-    let audit = bytes_of(rt, files.audit)?;
-    match Choice::named(wanted.account, wanted.user) {
-        Some(choice) => Ok(show_records(rt, &policy, audit.as_slice(), &choice)?),
-        None => Ok(ExitCode::SUCCESS),
+    show_under(rt, &policy, files.audit, wanted)
+}
+
+/// Prints a text.
+fn print<'a>(rt: &HostRuntime, text: &[u8]) -> Result<(), Ended<'a>> {
+    match io::writer(rt).write_all(text) {
+        Ok(()) => Ok(()),
+        Err(error) => Err(Ended::unwritten(Place::Output, error)),
     }
 }
 
@@ -326,10 +330,14 @@ fn show<'a>(
 fn policy<'a>(rt: &HostRuntime, path: &'a str) -> Result<(), Ended<'a>> {
     let bytes = bytes_of(rt, path)?;
     let line = told_of_policy(rt.alloc(), bytes.as_slice())?;
-    match io::writer(rt).write_all(line.as_slice()) {
-        Ok(()) => Ok(()),
-        Err(_) => Err(PipeFault::WriteFailed.into()),
-    }
+    print(rt, line.as_slice())
+}
+
+/// Prints a policy file in the newest version.
+fn migrate<'a>(rt: &HostRuntime, path: &'a str) -> Result<(), Ended<'a>> {
+    let bytes = bytes_of(rt, path)?;
+    let text = migrated_policy(rt.alloc(), bytes.as_slice())?;
+    print(rt, text.as_slice())
 }
 
 /// Does what was asked: the status of what was found.
@@ -338,40 +346,13 @@ fn run<'a>(rt: &HostRuntime, asked: Asked<'a>) -> Result<ExitCode, Ended<'a>> {
         Asked::Pipe(files) => pipe(rt, files)?,
         Asked::Script(files) => script(rt, files)?,
         Asked::Policy(file) => policy(rt, file)?,
+        Asked::Migrate(file) => migrate(rt, file)?,
         // served by `main`, which alone may start threads
         Asked::Serve(_) => {}
         Asked::Check(files) => return check(rt, files),
         Asked::Show(files, wanted) => return show(rt, files, wanted),
     }
     Ok(ExitCode::SUCCESS)
-}
-
-/// Puts a line more on standard error, where there is more to tell of the fault.
-fn tell_more(rt: &HostRuntime, ended: &Ended) {
-    match &ended.fault {
-        ProgramFault::Policy(fault) => {
-            let place = fault.place();
-            let _ = eprintln!(rt; "{place}");
-        }
-        ProgramFault::Script(explained) => {
-            if let Some(wrong) = explained.wrong {
-                let _ = eprintln!(rt; "{wrong}");
-            }
-        }
-        ProgramFault::Unread | ProgramFault::ListenFailed | ProgramFault::Pipe(_) => {
-            if let Some((path, error)) = &ended.file {
-                let _ = eprintln!(rt; "{path}: {error}");
-            }
-        }
-    }
-}
-
-/// Tells why the program gave up: the status that says so.
-fn tell(rt: &HostRuntime, ended: Ended) -> ExitCode {
-    let line = ended.fault.line();
-    let _ = rt.stderr().write_all(line.as_slice());
-    tell_more(rt, &ended);
-    ExitCode::from(ended.fault.status())
 }
 
 /// The status of a server that has ended.
@@ -392,13 +373,25 @@ fn done(rt: &HostRuntime, asked: Asked) -> ExitCode {
 
 /// Tells what is wrong with the arguments, or gives the help or the version that was asked for.
 fn tell_usage(rt: &HostRuntime, error: &Error) -> ExitCode {
-    if error.kind() == ErrorKind::OutOfMemory {
+    if error.kind() == UsageFault::OutOfMemory {
         return tell(rt, OutOfMemory.into());
     }
     match error.print(rt) {
         Ok(()) => ExitCode::from(error.exit_code() as u8),
-        Err(_) => tell(rt, PipeFault::WriteFailed.into()),
+        Err(error) => tell(rt, Ended::unwritten(Place::Output, error)),
     }
+}
+
+/// Tells which argument is not UTF-8.
+fn tell_bad_word(rt: &HostRuntime) -> ExitCode {
+    let mut room = Vec::new(rt.alloc());
+    if room.resize(LONGEST_WORD, 0u8).is_err() {
+        return tell(rt, OutOfMemory.into());
+    }
+    if let Some(word) = first_bad_word(rt, room.as_mut_slice()) {
+        let _ = eprint!(rt; "{word}");
+    }
+    ExitCode::from(2)
 }
 
 /// Reads the arguments: what they ask for, or the status of what was told.
@@ -412,7 +405,8 @@ fn asked_of<'a>(rt: &HostRuntime, words: &'a [String]) -> Result<Asked<'a>, Exit
 
 fn main(rt: HostRuntime) -> ExitCode {
     let words = match words_of(&rt) {
-        Ok(words) => words,
+        Ok(Some(words)) => words,
+        Ok(None) => return tell_bad_word(&rt),
         Err(refused) => return tell(&rt, refused.into()),
     };
     match asked_of(&rt, words.as_slice()) {

@@ -7,6 +7,7 @@
 //!   `-- sample`: the sample policy's file, with the text behind `old:` replaced by the one behind `new:`. It is told
 //!   how much the policy holds, and its rules, or what is wrong with the file. Without such a part the case runs under
 //!   the sample policy less its rules that ask for figures.
+//! - `-- migrate`, alone: a policy file. It is told in version 2, or what is wrong with it.
 //! - `-- pipe`: the bytes of a connection, in hex. The verdicts of its records are told, and the bytes that it was sent.
 //! - `-- script`: a script; `-- script-in-hex`: its bytes in hex. What it prints is told.
 //! - `-- again`: the lines of a script, each a run of its own, and run again where its step was refused, as for want of
@@ -54,7 +55,7 @@ use gx_history::policy::Policy;
 use gx_policyfile::{SAMPLE, read_policy};
 use gx_server::{open_gate, sample_policy, told_of_policy};
 use gx_units::OutOfMemory;
-use policies::{put_fault, put_rules};
+use policies::{put_fault, put_migrated, put_rules};
 use runs::tell_parts;
 use std::alloc::Global;
 use std::fmt::Write as _;
@@ -161,6 +162,7 @@ fn answer(
             let file = bytes_of(alloc, text)?;
             tell_file(alloc, out, file.as_slice(), rest)
         }
+        "migrate" => put_migrated(alloc, out, text.as_bytes()),
         "sample" => {
             let file = changed_sample(alloc, text)?;
             tell_file(alloc, out, file.as_bytes(), rest)

@@ -1,9 +1,10 @@
 //! What a policy says: its rules, and what is wrong with its file.
 
-use crate::texts::{put, text_of};
+use crate::texts::{put, put_bytes, text_of};
 use gx_history::policy::{Count, FileRule, Policy, RuleKind, Scope};
-use gx_server::ProgramFault;
+use gx_server::{ProgramFault, migrated_policy};
 use gx_units::{AccountName, OutOfMemory, Symbol};
+use std::alloc::Global;
 use std::fmt::Write;
 
 fn kind_text(kind: &RuleKind) -> &'static str {
@@ -100,5 +101,17 @@ pub(crate) fn put_fault(out: &mut String, fault: &ProgramFault) -> Result<(), Ou
             Ok(())
         }
         _ => Err(OutOfMemory),
+    }
+}
+
+/// Puts a policy file in version 2, or what is wrong with it.
+pub(crate) fn put_migrated(
+    alloc: Global,
+    out: &mut String,
+    file: &[u8],
+) -> Result<(), OutOfMemory> {
+    match migrated_policy(alloc, file) {
+        Ok(text) => put_bytes(out, text.as_slice()),
+        Err(fault) => put_fault(out, &fault),
     }
 }

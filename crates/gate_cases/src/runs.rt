@@ -14,6 +14,7 @@ use gx_devices::Counted;
 use gx_history::policy::Policy;
 use gx_script::outcome_line;
 use gx_scripting::{Explained, run_script_explained};
+use gx_server::Noted;
 use gx_session::{PipeFault, run_pipe};
 use gx_units::OutOfMemory;
 use std::alloc::Global;
@@ -71,12 +72,13 @@ impl fmt::Display for End {
     }
 }
 
-/// What a run did: how it ended, how often a device failed, and what was written.
+/// What a run did: how it ended, how often a device failed and why it last did, and what was written.
 #[derive(Drop)]
 pub(crate) struct Ended {
     end: End,
     failed_reads: u64,
     failed_writes: u64,
+    cause: Option<io::Error>,
     pub(crate) written: Vec<u8>,
 }
 
@@ -98,14 +100,15 @@ pub(crate) fn run_on(
     limits: Limits,
     input: &[u8],
 ) -> Ended {
-    let mut reader = Counted::new(Drips::new(input, limits));
-    let mut writer = Counted::new(Sips::new(alloc, limits));
+    let mut reader = Counted::new(Noted::new(Drips::new(input, limits)));
+    let mut writer = Counted::new(Noted::new(Sips::new(alloc, limits)));
     let end = kind.run(alloc, gate, &mut reader, &mut writer);
     Ended {
         end,
         failed_reads: reader.failed(),
         failed_writes: writer.failed(),
-        written: writer.into_inner().taken,
+        cause: reader.device().cause.or(writer.device().cause),
+        written: writer.into_inner().device.taken,
     }
 }
 
@@ -124,13 +127,16 @@ pub(crate) fn put_verdicts(
     Ok(())
 }
 
-/// Puts how a run ended, and how often its devices failed, where they did.
+/// Puts how a run ended, and how often its devices failed and why they last did, where they did.
 pub(crate) fn put_end(out: &mut String, ended: &Ended) -> Result<(), OutOfMemory> {
     let end = &ended.end;
     let (reads, writes) = (ended.failed_reads, ended.failed_writes);
     write!(out, "{end}")?;
     if reads > 0 || writes > 0 {
         write!(out, "; {reads} reads and {writes} writes failed")?;
+    }
+    if let Some(cause) = ended.cause {
+        write!(out, ": {cause}")?;
     }
     put(out, "\n")
 }

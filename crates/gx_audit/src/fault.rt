@@ -1,31 +1,21 @@
 //! Why an audit is no legal day's.
 
-use std::error::Error;
-use std::fmt;
+use thiserror::Error;
 
 /// Why an audit is no legal day's.
-#[derive(Clone, Copy, Debug, PartialEq, Eq)]
+#[derive(Clone, Copy, Debug, PartialEq, Eq, Error)]
 pub enum AuditFault {
     /// Behind the last whole record there are bytes.
+    #[error("truncated")]
     Truncated,
     /// The bytes of this record are no record's, or its number is not this one.
+    #[error("bad record {0}")]
     BadRecord(u64),
     /// The moment or the verdict of this record is not what its step leaves after those before, or the day has no room
     /// for it.
+    #[error("illegal verdict {0}")]
     IllegalVerdict(u64),
     /// A growth was refused.
+    #[error("out of memory")]
     OutOfMemory,
 }
-
-impl fmt::Display for AuditFault {
-    fn fmt<W: fmt::Write>(&self, f: &mut fmt::Formatter<W>) -> fmt::Result {
-        match self {
-            AuditFault::Truncated => write!(f, "truncated"),
-            AuditFault::BadRecord(number) => write!(f, "bad record {number}"),
-            AuditFault::IllegalVerdict(number) => write!(f, "illegal verdict {number}"),
-            AuditFault::OutOfMemory => write!(f, "out of memory"),
-        }
-    }
-}
-
-impl Error for AuditFault {}

@@ -5,28 +5,18 @@ ghost use Rattle.gx_auditing.specs.declared.fault.AuditingFault.TheVariants as f
 
 use gx_devices::WriteFailed;
 use gx_units::OutOfMemory;
-use std::error::Error;
-use std::fmt;
+use thiserror::Error;
 
 /// Why an audit was not written, told of or shown. What was written by then stands.
-#[derive(Clone, Copy, Debug, PartialEq, Eq)]
+#[derive(Clone, Copy, Debug, PartialEq, Eq, Error)]
 pub enum AuditingFault {
     /// A growth was refused.
+    #[error("out of memory")]
     OutOfMemory,
     /// The writer failed, or took none of some bytes.
+    #[error("write failed")]
     WriteFailed,
 }
-
-impl fmt::Display for AuditingFault {
-    fn fmt<W: fmt::Write>(&self, f: &mut fmt::Formatter<W>) -> fmt::Result {
-        match self {
-            AuditingFault::OutOfMemory => write!(f, "out of memory"),
-            AuditingFault::WriteFailed => write!(f, "write failed"),
-        }
-    }
-}
-
-impl Error for AuditingFault {}
 
 impl From<OutOfMemory> for AuditingFault {
     ghost from_gives = { λ _ e. e ≡ faults.OutOfMemory };

@@ -1,8 +1,17 @@
 //! The command line of the program `gate`: what may be asked, with its help, and what a call asks for.
 #![tactic(auto)]
 
+mod words;
+
 use clap::{Arg, ArgMatches, Command, Error, value_parser};
 use std::alloc::{AllocError, Global};
+pub use words::{BadWord, LONGEST_WORD, first_bad_word};
+
+/// What `gate --help` says of the policy.
+const SAMPLE_POLICY: &str =
+    "Without --policy the sample policy holds: accounts ALFA and BETA, stock TEST, users ALICE, BOB, OLGA, OTTO and RITA,
+no order of more than 500000 shares, and no account with more than $1,000 open and executed. The file is
+examples/policies/sample.toml of the repository, where its passwords stand: run nothing real under it.";
 
 /// What `gate script --help` says of the lines of a script.
 const SCRIPT_LINES: &str = "Lines:
@@ -88,18 +97,36 @@ pub enum Asked<'a> {
     Script(RunFiles<'a>),
     /// `gate policy`: to tell of this policy file.
     Policy(&'a str),
+    /// `gate migrate`: to print this policy file in the newest version.
+    Migrate(&'a str),
     /// `gate check`: to check an audit.
     Check(AuditFiles<'a>),
     /// `gate show`: to show records of an audit.
     Show(AuditFiles<'a>, Wanted<'a>),
 }
 
-/// The option `--policy FILE` of a run.
-fn policy_option<'a>(alloc: Global) -> Arg<'a> {
+/// The option `--policy FILE`.
+fn policy_option<'a>(alloc: Global, help: &'static str) -> Arg<'a> {
     Arg::new(alloc, "policy")
         .long("policy")
         .value_name("FILE")
-        .help("The policy file to run under; without it the sample policy holds")
+        .help(help)
+}
+
+/// The option `--policy FILE` of a run.
+fn run_policy_option<'a>(alloc: Global) -> Arg<'a> {
+    policy_option(
+        alloc,
+        "The policy file to run under; without it the sample policy holds (see `gate --help`)",
+    )
+}
+
+/// The option `--policy FILE` of an audit.
+fn day_policy_option<'a>(alloc: Global) -> Arg<'a> {
+    policy_option(
+        alloc,
+        "The policy file of the audit's day; without it the sample policy holds (see `gate --help`)",
+    )
 }
 
 /// The option `--audit FILE` of a run.
@@ -115,7 +142,10 @@ fn pipe_command<'a>(alloc: Global) -> Result<Command<'a>, AllocError> {
     let pipe = Command::new(alloc, "pipe").about(
         "Serves one SoupBinTCP connection: client packets on standard input, server packets on standard output",
     );
-    Ok(pipe.arg(policy_option(alloc))?.arg(audit_option(alloc))?)
+    Ok(
+        pipe.arg(run_policy_option(alloc))?
+            .arg(audit_option(alloc))?,
+    )
 }
 
 /// The option `--connections N`.
@@ -152,7 +182,11 @@ fn serve_command<'a>(alloc: Global) -> Result<Command<'a>, AllocError> {
     );
     let serve = serve.arg(port)?.arg(connections_option(alloc))?;
     let serve = serve.arg(at_once_option(alloc))?;
-    Ok(serve.arg(policy_option(alloc))?.arg(audit_option(alloc))?)
+    Ok(
+        serve
+            .arg(run_policy_option(alloc))?
+            .arg(audit_option(alloc))?,
+    )
 }
 
 /// `gate script`.
@@ -160,19 +194,35 @@ fn script_command<'a>(alloc: Global) -> Result<Command<'a>, AllocError> {
     let script = Command::new(alloc, "script")
         .about("Runs a script of steps from standard input, and prints what becomes of each")
         .after_help(SCRIPT_LINES);
-    Ok(script.arg(policy_option(alloc))?.arg(audit_option(alloc))?)
+    Ok(
+        script
+            .arg(run_policy_option(alloc))?
+            .arg(audit_option(alloc))?,
+    )
+}
+
+/// The argument FILE.
+fn file_argument<'a>(alloc: Global) -> Arg<'a> {
+    Arg::new(alloc, "file")
+        .value_name("FILE")
+        .required(true)
+        .help("The policy file to read")
 }
 
 /// `gate policy`.
 fn policy_command<'a>(alloc: Global) -> Result<Command<'a>, AllocError> {
-    let file = Arg::new(alloc, "file")
-        .value_name("FILE")
-        .required(true)
-        .help("The policy file to read");
     let policy = Command::new(alloc, "policy").about(
         "Reads a policy file, and tells how much it holds or what is wrong with it",
     );
-    Ok(policy.arg(file)?)
+    Ok(policy.arg(file_argument(alloc))?)
+}
+
+/// `gate migrate`.
+fn migrate_command<'a>(alloc: Global) -> Result<Command<'a>, AllocError> {
+    let migrate = Command::new(alloc, "migrate").about(
+        "Reads a policy file, and prints it in version 2, with the same meaning",
+    );
+    Ok(migrate.arg(file_argument(alloc))?)
 }
 
 /// The argument AUDIT.
@@ -189,7 +239,7 @@ fn check_command<'a>(alloc: Global) -> Result<Command<'a>, AllocError> {
         "Checks that an audit is that of a legal day under the policy",
     );
     let check = check.arg(audit_argument(alloc, "The audit to check"))?;
-    Ok(check.arg(policy_option(alloc))?)
+    Ok(check.arg(day_policy_option(alloc))?)
 }
 
 /// `gate show`.
@@ -207,7 +257,7 @@ fn show_command<'a>(alloc: Global) -> Result<Command<'a>, AllocError> {
         .about("Shows the records of an audit, each as a line of a script and what became of it")
         .after_help(SHOWN_LINES);
     let show = show.arg(audit_argument(alloc, "The audit to show"))?;
-    Ok(show.arg(account)?.arg(user)?.arg(policy_option(alloc))?)
+    Ok(show.arg(account)?.arg(user)?.arg(day_policy_option(alloc))?)
 }
 
 /// The command line: what may be asked, with its help.
@@ -217,12 +267,14 @@ fn command_line<'a>(alloc: Global) -> Result<Command<'a>, AllocError> {
         .about(
             "A sponsored-access gateway: OUCH 4.2 orders in SoupBinTCP 3.00 packets, judged by a written policy",
         )
+        .after_help(SAMPLE_POLICY)
         .subcommand_required(true)
         .arg_required_else_help(true);
     let gate = gate.subcommand(pipe_command(alloc)?)?;
     let gate = gate.subcommand(serve_command(alloc)?)?;
     let gate = gate.subcommand(script_command(alloc)?)?;
     let gate = gate.subcommand(policy_command(alloc)?)?;
+    let gate = gate.subcommand(migrate_command(alloc)?)?;
     let gate = gate.subcommand(check_command(alloc)?)?;
     Ok(gate.subcommand(show_command(alloc)?)?)
 }
@@ -268,6 +320,7 @@ fn asked_for<'a>(given: &ArgMatches<'a>) -> Option<Asked<'a>> {
         ("serve", given) => Some(Asked::Serve(server_options(given)?)),
         ("script", given) => Some(Asked::Script(run_files(given))),
         ("policy", given) => Some(Asked::Policy(given.get_str("file")?)),
+        ("migrate", given) => Some(Asked::Migrate(given.get_str("file")?)),
         ("check", given) => Some(Asked::Check(audit_files(given)?)),
         ("show", given) => Some(Asked::Show(audit_files(given)?, wanted_records(given))),
         _ => None,

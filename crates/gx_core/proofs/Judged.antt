@@ -16,13 +16,13 @@ use Rattle.gx_history.specs.declared.record.Request.{Request}
 use Rattle.gx_history.specs.declared.report.Report.{Report}
 use Rattle.gx_history.specs.Asking.{has_power, live_named, named_order, takes_nothing}
 use Rattle.gx_history.specs.Executions.{executions}
-use Rattle.gx_history.specs.InForce.{is_closed, is_killed, line_of}
+use Rattle.gx_history.specs.InForce.{is_closed, is_killed, kill_in_force, line_of}
 use Rattle.gx_history.specs.Logins.{password_is}
 use Rattle.gx_history.specs.Orders.{is_token_used}
 use Rattle.gx_history.specs.People.{account_of, account_of_role, is_officer, is_reader, is_trader, role_in, user_in}
 use Rattle.gx_history.specs.Streams.{copies, stream}
 use Rattle.gx_history.specs.Verdicts.{last_moment}
-use Rattle.gx_day.specs.DayData.{DayData, killed_in, line_in}
+use Rattle.gx_day.specs.DayData.{DayData, kill_in, killed_in, line_in}
 use Rattle.gx_day.proofs.Answering.{ends_are_kept, kills_are_kept, lines_are_kept, moments_are_kept}
 use Rattle.gx_orders.specs.InForce.{cuts_nothing, named, order_named, orders_in_force}
 use Rattle.gx_orders.specs.LiveOrders.{OrdersData, is_used}
@@ -68,9 +68,13 @@ scopes_are_known policy history k user account kept = ap (λ (users : List User)
 pub line_is_known : (policy : PolicyData) (history : List RecordData) (k : Keepers) (user : UserName) → IsKept policy history k → line_in k.day user ≡ line_of history user
 line_is_known policy history k user kept = ap (λ (day : DayData). line_in day user) kept.in_force.day ∙ lines_are_kept policy history user kept.legal
 
+pub the_kill_is_known : (policy : PolicyData) (history : List RecordData) (k : Keepers) (account : AccountName) → IsKept policy history k
+    → kill_in k.day account ≡ kill_in_force policy history account
+the_kill_is_known policy history k account kept = ap (λ (day : DayData). kill_in day account) kept.in_force.day ∙ kills_are_kept policy history account kept.legal
+
 pub kill_is_known : (policy : PolicyData) (history : List RecordData) (k : Keepers) (account : AccountName) → IsKept policy history k
     → killed_in k.day account ≡ is_killed policy history account
-kill_is_known policy history k account kept = ap (λ (day : DayData). killed_in day account) kept.in_force.day ∙ kills_are_kept policy history account kept.legal
+kill_is_known policy history k account kept = ap is_some (the_kill_is_known policy history k account kept)
 
 pub end_is_known : (policy : PolicyData) (history : List RecordData) (k : Keepers) → IsKept policy history k → k.day.closed ≡ is_closed history
 end_is_known policy history k kept = ap (λ (day : DayData). day.closed) kept.in_force.day ∙ ends_are_kept policy history

@@ -15,7 +15,8 @@ use Rattle.gx_history.specs.declared.record.Step.TheVariants as steps
 use Rattle.gx_history.specs.declared.record.Verdict.{Verdict}
 use Rattle.gx_history.specs.declared.record.Verdict.TheVariants as verdicts
 use Rattle.gx_history.specs.Commanded.{ChangesRule, ChangesSight, ClosesDay}
-use Rattle.gx_history.specs.Effects.{ChangesLine, CutsOrder, DeniesRequest, IsGrantedLift, KillsAccount, LiftsAccount, ReplacesOrder, TakesEffect}
+use Rattle.gx_history.specs.Effects.{ChangesLine, CutsOrder, DeniesRequest, KillsAccount, LiftsAccount, ReplacesOrder, TakesEffect}
+use Rattle.gx_effects.specs.Lifts.{EndsKill}
 use Rattle.gx_history.specs.InForce.{is_killed, adding, removing, with_limit, with_stocks}
 use Rattle.gx_history.specs.Rules.{first_forbidding, IsFirstForbidding}
 use Rattle.gx_history.specs.Verdicts.{day_limit, facts_now, next, rules_now, verdict}
@@ -87,10 +88,11 @@ VerdictEffect policy before after r a (verdicts.Expired number) = ⊥
 abbrev pub HasEffect : GateData → GateData → Asked → Outcome → Type 0
 HasEffect old new a o = VerdictEffect old.policy old.records new.records (left_by a o) a o.verdict
 
--- each account that was killed and is not any more was lifted by the record, by an officer entitled to it
+-- each account that was killed and is not any more was lifted by the record, by the last of as many different officers as the policy asks for, each
+-- of them entitled to lift it
 abbrev pub EndsKills : GateData → GateData → RecordData → Type 0
 EndsKills old new r = (account : AccountName) →
-    IsTrue (is_killed old.policy old.records account) → IsFalse (is_killed new.policy new.records account) → IsGrantedLift old.policy account r
+    IsTrue (is_killed old.policy old.records account) → IsFalse (is_killed new.policy new.records account) → EndsKill old.policy old.records account r
 
 -- accounts that were granted no order have nothing open and nothing executed
 abbrev pub NoneHeldWhereNoneAsked : GateData → Type 0

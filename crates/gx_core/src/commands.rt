@@ -140,14 +140,15 @@ impl Gate {
     }
 
     /// Whether a command would change anything.
-    #[tactic(auto, using(crate::proofs::Commanding::stock_is_listed))]
+    #[tactic(auto, using(crate::proofs::Commanding::stock_is_listed, crate::proofs::Judged::the_kill_is_known))]
     fn would_change(&self, officer: UserName, action: &Action) -> bool
         ensures { result ≡ changes self.now.policy self.now.records officer action.now }
     {
         let rules = &self.keepers.rules;
+        let day = &self.keepers.day;
         match *action {
-            Action::Kill(account) => !self.is_killed(account),
-            Action::Lift(account) => self.is_killed(account),
+            Action::Kill(account) => day.kill_changes(account),
+            Action::Lift(account) => day.lift_changes(account, officer),
             Action::SetLimit(rule, limit) => !self.has_limit(rule, limit),
             Action::Restrict(rule, stock) => !rules.lists(rule, stock),
             Action::Unrestrict(rule, stock) => rules.lists(rule, stock),

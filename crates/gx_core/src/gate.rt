@@ -18,7 +18,6 @@ ghost use Rattle.gx_core.specs.Told.{copies_of, ends_before, login_of, reads, st
 ghost use Rattle.gx_core.specs.Steps.{has_its_places, next_of, verdict_of, with_record, EndsKills, HasEffect};
 ghost use Rattle.gx_core.specs.Steps.{IsFull, IsJudged, NoneHeldWhereNoneAsked};
 
-use crate::copies::copied;
 use crate::login::{login_answered, login_asked};
 use crate::matching::record_of_match;
 use crate::outcome::{LoginAnswer, Outcome, StepFault};
@@ -75,7 +74,7 @@ impl Gate {
         ensures policy { IfOk result (λ gate. gate.policy ≡ policy.now) }
         ensures records { IfOk result (λ gate. gate.records ≡ []) }
     {
-        let policy = copied(alloc, policy)?;
+        let policy = policy.copied(alloc)?;
         let keepers = Keepers::new(alloc, &policy)?;
         let mut history = History::new(alloc);
         keep_first(&mut history, &policy)?;
@@ -203,7 +202,8 @@ impl Gate {
         let _ = &self.history;
     }
 
-    /// Whether the account is killed: the last granted Kill or Lift of it is a Kill. None of its orders is live then.
+    /// Whether the account is killed: since its last granted Kill, fewer different officers were granted a Lift of it
+    /// than the policy asks for. None of its orders is live then.
     #[tactic(auto, using(crate::proofs::Judged::kill_is_known))]
     pub fn is_killed(&self, account: AccountName) -> bool
         ensures killed { result ≡ is_killed self.now.policy self.now.records account }

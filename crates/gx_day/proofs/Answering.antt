@@ -24,7 +24,7 @@ use Rattle.gx_history.specs.declared.record.Step.TheVariants as steps
 use Rattle.gx_history.specs.declared.record.Verdict.{Verdict}
 use Rattle.gx_history.specs.declared.record.Verdict.TheVariants as verdicts
 use Rattle.gx_history.specs.Asking.{facts, knows_names, knows_user, of_command}
-use Rattle.gx_history.specs.InForce.{is_closed, is_killed, kill_or_lift_of, line_by, line_of}
+use Rattle.gx_history.specs.InForce.{is_closed, kill_after, kill_in_force, kill_or_lift_of, line_by, line_of}
 use Rattle.gx_history.specs.Lists.{where_true}
 use Rattle.gx_history.specs.People.{account_named, user_in}
 use Rattle.gx_history.specs.Requests.{action_of, asked, granted, is_granted}
@@ -32,9 +32,10 @@ use Rattle.gx_history.specs.RuleNames.{rules_before, rules_behind}
 use Rattle.gx_history.specs.Rules.{forbids}
 use Rattle.gx_history.specs.Verdicts.{Follows, IsLegal, facts_now, last_moment, next, rules_now}
 use Rattle.gx_history_laws.proofs.Granting.{granted_passes, granted_passes_before, legal_keeps, none_behind}
-use Rattle.gx_history_laws.proofs.NextInForce.{is_killed_next, is_killed_none, line_of_next, line_of_none}
+use Rattle.gx_history_laws.proofs.KillsNext.{kill_in_force_next, kill_in_force_none}
+use Rattle.gx_history_laws.proofs.NextInForce.{line_of_next, line_of_none}
 use Rattle.gx_history_laws.proofs.Order.{none_among, some_same}
-use Rattle.gx_day.specs.DayData.{AccountKill, DayData, UserLine, killed_in, line_in}
+use Rattle.gx_day.specs.DayData.{AccountKill, DayData, UserLine, kill_in, line_in}
 use Rattle.gx_day.specs.InForce.{day_in_force, kill_now, line_now}
 use Rattle.gx_history_laws.proofs.Adding.{user_is}
 use Rattle.gx_history_laws.proofs.Judging.{both}
@@ -129,27 +130,27 @@ unknown_on_no_line policy history legal = legal_keeps policy (OnNoLine policy) (
 
 -- an account that is not known is not killed
 abbrev Unkilled : PolicyData → List RecordData → Type 0
-Unkilled policy history = (account : AccountName) → is_some (account_named policy account) ≡ false → is_killed policy history account ≡ false
+Unkilled policy history = (account : AccountName) → is_some (account_named policy account) ≡ false → kill_in_force policy history account ≡ None
 
 unkilled_next : (policy : PolicyData) (history : List RecordData) (r : RecordData) → Unkilled policy history → Follows policy (history, r) → Unkilled policy (history ++ r ∷ [])
-unkilled_next policy history r before follows account unknown = is_killed_next policy history r account ∙ by_grant (granted r) refl
+unkilled_next policy history r before follows account unknown = kill_in_force_next policy history r account ∙ by_grant (granted r) refl
   where
-    was_not : is_killed policy history account ≡ false
+    was_not : kill_in_force policy history account ≡ None
     was_not = before account unknown
 
-    by_kill : (named : AccountName) → is_some (account_named policy named) ≡ true → (b : Bool) → same_account named account ≡ b → unwrap_or (where_true b true) (is_killed policy history account) ≡ false
+    by_kill : (named : AccountName) → is_some (account_named policy named) ≡ true → (b : Bool) → same_account named account ≡ b → kill_after policy.lifters (where_true b None) (kill_in_force policy history account) ≡ None
     by_kill named known true is =
         let clash : true ≡ false = sym known ∙ ap (λ (name : AccountName). is_some (account_named policy name)) (account_is named account is) ∙ unknown in
         cc
     by_kill named known false is = was_not
 
-    by_lift : (b : Bool) → unwrap_or (where_true b false) (is_killed policy history account) ≡ false
-    by_lift true = refl
-    by_lift false = was_not
+    by_lift : (officer : UserName) (b : Bool) → kill_after policy.lifters (where_true b (Some officer)) (kill_in_force policy history account) ≡ None
+    by_lift officer true = ap (kill_after policy.lifters (Some (Some officer))) was_not
+    by_lift officer false = was_not
 
-    by_action : (officer : UserName) (action : Action) → knows_names policy history action ≡ true → unwrap_or (kill_or_lift_of account officer action) (is_killed policy history account) ≡ false
+    by_action : (officer : UserName) (action : Action) → knows_names policy history action ≡ true → kill_after policy.lifters (kill_or_lift_of account officer action) (kill_in_force policy history account) ≡ None
     by_action officer (actions.Kill named) known = by_kill named known (same_account named account) refl
-    by_action officer (actions.Lift named) known = by_lift (same_account named account)
+    by_action officer (actions.Lift named) known = by_lift officer (same_account named account)
     by_action officer (actions.SetLimit rule limit) known = was_not
     by_action officer (actions.Restrict rule stock) known = was_not
     by_action officer (actions.Unrestrict rule stock) known = was_not
@@ -158,7 +159,7 @@ unkilled_next policy history r before follows account unknown = is_killed_next p
     by_action officer actions.CloseDay known = was_not
 
     by_request : (a : Asked) → next policy history (steps.Asked a) ≡ Some r → r.verdict ≡ verdicts.Granted → (q : Request) → a.request ≡ q
-        → unwrap_or (option_and_then (kill_or_lift_of account a.user) (action_of q)) (is_killed policy history account) ≡ false
+        → kill_after policy.lifters (option_and_then (kill_or_lift_of account a.user) (action_of q)) (kill_in_force policy history account) ≡ None
     by_request a left v (requests.Login m) asks = was_not
     by_request a left v requests.Logout asks = was_not
     by_request a left v (requests.Unreadable m) asks = was_not
@@ -168,16 +169,16 @@ unkilled_next policy history r before follows account unknown = is_killed_next p
     by_request a left v (requests.Command c) asks = by_action a.user c.action (command_is_known policy history a r c left v asks)
 
     by_grant : (found : Option Asked) → granted r ≡ found
-        → unwrap_or (option_and_then (λ (a : Asked). option_and_then (kill_or_lift_of account a.user) (action_of a.request)) (granted r)) (is_killed policy history account) ≡ false
+        → kill_after policy.lifters (option_and_then (λ (a : Asked). option_and_then (kill_or_lift_of account a.user) (action_of a.request)) (granted r)) (kill_in_force policy history account) ≡ None
     by_grant None g =
-        ap (λ (x : Option Asked). unwrap_or (option_and_then (λ (a : Asked). option_and_then (kill_or_lift_of account a.user) (action_of a.request)) x) (is_killed policy history account)) g ∙ was_not
+        ap (λ (x : Option Asked). kill_after policy.lifters (option_and_then (λ (a : Asked). option_and_then (kill_or_lift_of account a.user) (action_of a.request)) x) (kill_in_force policy history account)) g ∙ was_not
     by_grant (Some a) g =
         let was : (r.step ≡ steps.Asked a) × (r.verdict ≡ verdicts.Granted) = was_granted r.verdict r.step a g in
-        ap (λ (x : Option Asked). unwrap_or (option_and_then (λ (y : Asked). option_and_then (kill_or_lift_of account y.user) (action_of y.request)) x) (is_killed policy history account)) g
+        ap (λ (x : Option Asked). kill_after policy.lifters (option_and_then (λ (y : Asked). option_and_then (kill_or_lift_of account y.user) (action_of y.request)) x) (kill_in_force policy history account)) g
         ∙ by_request a (sym (ap (next policy history) was.0) ∙ follows.is_next) was.1 a.request refl
 
 unknown_is_unkilled : (policy : PolicyData) (history : List RecordData) → IsLegal policy history → Unkilled policy history
-unknown_is_unkilled policy history legal = legal_keeps policy (Unkilled policy) (λ account unknown. is_killed_none policy account) (unkilled_next policy) history legal
+unknown_is_unkilled policy history legal = legal_keeps policy (Unkilled policy) (λ account unknown. kill_in_force_none policy account) (unkilled_next policy) history legal
 
 -- what the list says of a user, the records say of him
 line_listed : (history : List RecordData) (user : UserName) (users : List User)
@@ -194,17 +195,17 @@ line_listed history user (u ∷ users) = by (same_user u.name user) refl (line_l
 
 -- what the list says of an account, the records say of it
 kill_listed : (policy : PolicyData) (history : List RecordData) (account : AccountName) (accounts : List Account)
-    → option_map_or (λ (k : AccountKill). k.killed) (find (λ (k : AccountKill). same_account k.account account) (map (kill_now policy history) accounts)) false
-    ≡ cond (is_some (find (λ (a : Account). same_account a.name account) accounts)) (is_killed policy history account) false
+    → option_and_then (λ (k : AccountKill). k.kill) (find (λ (k : AccountKill). same_account k.account account) (map (kill_now policy history) accounts))
+    ≡ cond (is_some (find (λ (a : Account). same_account a.name account) accounts)) (kill_in_force policy history account) None
 kill_listed policy history account [] = refl
 kill_listed policy history account (a ∷ accounts) = by (same_account a.name account) refl (kill_listed policy history account accounts)
   where
     by : (b : Bool) → same_account a.name account ≡ b
-        → option_map_or (λ (k : AccountKill). k.killed) (find (λ (k : AccountKill). same_account k.account account) (map (kill_now policy history) accounts)) false
-        ≡ cond (is_some (find (λ (x : Account). same_account x.name account) accounts)) (is_killed policy history account) false
-        → option_map_or (λ (k : AccountKill). k.killed) (cond b (Some (kill_now policy history a)) (find (λ (k : AccountKill). same_account k.account account) (map (kill_now policy history) accounts))) false
-        ≡ cond (is_some (cond b (Some a) (find (λ (x : Account). same_account x.name account) accounts))) (is_killed policy history account) false
-    by true is deeper = ap (is_killed policy history) (account_is a.name account is)
+        → option_and_then (λ (k : AccountKill). k.kill) (find (λ (k : AccountKill). same_account k.account account) (map (kill_now policy history) accounts))
+        ≡ cond (is_some (find (λ (x : Account). same_account x.name account) accounts)) (kill_in_force policy history account) None
+        → option_and_then (λ (k : AccountKill). k.kill) (cond b (Some (kill_now policy history a)) (find (λ (k : AccountKill). same_account k.account account) (map (kill_now policy history) accounts)))
+        ≡ cond (is_some (cond b (Some a) (find (λ (x : Account). same_account x.name account) accounts))) (kill_in_force policy history account) None
+    by true is deeper = ap (kill_in_force policy history) (account_is a.name account is)
     by false is deeper = deeper
 
 either_way : {X : Type 0} (b : Bool) (x y : X) → (b ≡ false → x ≡ y) → cond b x y ≡ x
@@ -217,12 +218,19 @@ lines_are_kept policy history user legal =
     line_listed history user policy.users
     ∙ either_way (is_some (user_in policy.users user)) (line_of history user) None (unknown_on_no_line policy history legal user)
 
+-- of a known account, in any history
+pub known_kill_is_kept : (policy : PolicyData) (history : List RecordData) (account : AccountName)
+    → is_some (account_named policy account) ≡ true → kill_in (day_in_force policy history) account ≡ kill_in_force policy history account
+unfolding day_in_force
+known_kill_is_kept policy history account known =
+    kill_listed policy history account policy.accounts ∙ ap (λ (b : Bool). cond b (kill_in_force policy history account) None) known
+
 pub kills_are_kept : (policy : PolicyData) (history : List RecordData) (account : AccountName)
-    → IsLegal policy history → killed_in (day_in_force policy history) account ≡ is_killed policy history account
+    → IsLegal policy history → kill_in (day_in_force policy history) account ≡ kill_in_force policy history account
 unfolding day_in_force
 kills_are_kept policy history account legal =
     kill_listed policy history account policy.accounts
-    ∙ either_way (is_some (account_named policy account)) (is_killed policy history account) false (unknown_is_unkilled policy history legal account)
+    ∙ either_way (is_some (account_named policy account)) (kill_in_force policy history account) None (unknown_is_unkilled policy history legal account)
 
 pub ends_are_kept : (policy : PolicyData) (history : List RecordData) → (day_in_force policy history).closed ≡ is_closed history
 unfolding day_in_force
@@ -238,8 +246,8 @@ pub line_answers : (policy : PolicyData) (history : List RecordData) (day : DayD
 line_answers policy history day user is legal = ap (λ (d : DayData). line_in d user) is ∙ lines_are_kept policy history user legal
 
 pub kill_answers : (policy : PolicyData) (history : List RecordData) (day : DayData) (account : AccountName) → day ≡ day_in_force policy history → IsLegal policy history
-    → killed_in day account ≡ is_killed policy history account
-kill_answers policy history day account is legal = ap (λ (d : DayData). killed_in d account) is ∙ kills_are_kept policy history account legal
+    → kill_in day account ≡ kill_in_force policy history account
+kill_answers policy history day account is legal = ap (λ (d : DayData). kill_in d account) is ∙ kills_are_kept policy history account legal
 
 pub end_answers : (policy : PolicyData) (history : List RecordData) (day : DayData) → day ≡ day_in_force policy history → day.closed ≡ is_closed history
 end_answers policy history day is = ap (λ (d : DayData). d.closed) is ∙ ends_are_kept policy history

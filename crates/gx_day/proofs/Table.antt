@@ -1,7 +1,6 @@
 -- What the gate's tables say of the lists that they stand for.
 use Rattle.std.proofs.Common.{◌≡◌, Bool, true, false, cond, List, [], ◌∷◌, ◌++◌, map, refl, ◌∙◌, sym, ap, subst, ℕ, ◌+◌, ◌<◌, length, take, get_or}
-use Rattle.std.specs.Option.{option_map_or}
-use Rattle.std.specs.Prelude.{if◌then◌else◌, Option, Some, None, option_and_then, unwrap_or, find}
+use Rattle.std.specs.Prelude.{if◌then◌else◌, Option, Some, None, option_and_then, option_map, unwrap_or, find}
 use Rattle.std.specs.List.{AllByRecursion, IsDistinct}
 use Rattle.std.specs.Map.{keys_of, lookup, set_value}
 use Rattle.std.proofs.lemmas.List.{map-append, take_more}
@@ -12,26 +11,31 @@ use Rattle.gx_units.specs.Names.{same_account, same_user}
 use Rattle.gx_units.specs.declared.names.AccountName.{AccountName}
 use Rattle.gx_units.specs.declared.names.UserName.{UserName}
 use Rattle.gx_history.specs.declared.policy.Account.{Account}
+use Rattle.gx_history.specs.declared.policy.Lifters.{Lifters}
 use Rattle.gx_history.specs.declared.policy.User.{User}
+use Rattle.gx_history.specs.InForce.{kill_after}
 use Rattle.gx_history.specs.Lists.{are_distinct}
 use Rattle.gx_history_laws.proofs.Adding.{user_is}
 use Rattle.gx_history_laws.proofs.Names.{account_is, same_account_flip, same_user_flip}
 use Rattle.gx_history_laws.proofs.Tables.{changed_in_place, new_next, none_changed, none_found}
 use Rattle.gx_day.specs.DayData.{AccountKill, UserLine, marked, put_on}
 use Rattle.gx_day.specs.InForce.{off_line, unkilled}
-use Rattle.gx_day.specs.View.{kill_entry, kills_of, line_entry, lines_of}
+use Rattle.gx_day.specs.declared.day.Kill.{Kill}
+use Rattle.gx_day.specs.View.{kill_entry, kills_of, lifted_by, line_entry, lines_of}
 
 abbrev line_put : UserName → Option ℕ → Option ℕ → Bool → UserLine
 line_put user line before b = record { user = user; line = if b then line else before }
 
-abbrev mark_put : AccountName → Bool → Bool → Bool → AccountKill
-mark_put account killed before b = record { account = account; killed = if b then killed else before }
+abbrev kill_put : AccountName → Option (List UserName) → Option (List UserName) → Bool → AccountKill
+kill_put account kill before b = record { account = account; kill = if b then kill else before }
 
 line_kept : (user : UserName) (line : Option ℕ) (e : UserName × Option ℕ) → same_user user e.0 ≡ false → put_on user line (line_entry e) ≡ line_entry e
 line_kept user line e apart = ap (line_put e.0 line e.1) (same_user_flip e.0 user ∙ apart)
 
-mark_kept : (account : AccountName) (killed : Bool) (e : AccountName × Bool) → same_account account e.0 ≡ false → marked account killed (kill_entry e) ≡ kill_entry e
-mark_kept account killed e apart = ap (mark_put e.0 killed e.1) (same_account_flip e.0 account ∙ apart)
+mark_kept : (lifters : Lifters) (account : AccountName) (mark : Option UserName) (e : AccountName × Option Kill) → same_account account e.0 ≡ false
+    → marked lifters account mark (kill_entry e) ≡ kill_entry e
+mark_kept lifters account mark e apart =
+    ap (kill_put e.0 (kill_after lifters (Some mark) (option_map lifted_by e.1)) (option_map lifted_by e.1)) (same_account_flip e.0 account ∙ apart)
 
 -- a write to the line of a user who is found
 pub line_written : (user : UserName) (line : Option ℕ) (entries : List (UserName × Option ℕ)) → IsDistinct same_user (keys_of entries)
@@ -45,17 +49,22 @@ pub line_unknown : (user : UserName) (line : Option ℕ) (entries : List (UserNa
     → lines_of entries ≡ map (put_on user line) (lines_of entries)
 line_unknown user line entries none = sym (none_changed same_user line_entry (put_on user line) user (line_kept user line) entries (none_found same_user user entries none))
 
--- a write to the mark of an account that is found
-pub kill_written : (account : AccountName) (killed : Bool) (entries : List (AccountName × Bool)) → IsDistinct same_account (keys_of entries)
-    → kills_of (set_value (same_account account) entries killed) ≡ map (marked account killed) (kills_of entries)
-kill_written account killed entries distinct =
-    changed_in_place same_account account_is kill_entry (marked account killed) account killed (mark_kept account killed) entries distinct
-    (λ e found is. ap (mark_put e.0 killed e.1) (same_account_flip e.0 account ∙ is))
+-- a write to the Kill of an account that is found
+pub kill_written : (lifters : Lifters) (account : AccountName) (mark : Option UserName) (before after : Option Kill) (entries : List (AccountName × Option Kill)) → IsDistinct same_account (keys_of entries)
+    → Some before ≡ lookup (same_account account) entries → option_map lifted_by after ≡ kill_after lifters (Some mark) (option_map lifted_by before)
+    → kills_of (set_value (same_account account) entries after) ≡ map (marked lifters account mark) (kills_of entries)
+kill_written lifters account mark before after entries distinct there is =
+    changed_in_place same_account account_is kill_entry (marked lifters account mark) account after (mark_kept lifters account mark) entries distinct
+    (λ (e : AccountName × Option Kill) found at.
+    ap (kill_put e.0 (kill_after lifters (Some mark) (option_map lifted_by e.1)) (option_map lifted_by e.1)) (same_account_flip e.0 account ∙ at)
+    ∙ ap (λ (kill : Option (List UserName)). kill_put e.0 kill None true) (
+    ap (λ (old : Option (Option Kill)). kill_after lifters (Some mark) (option_map lifted_by (unwrap_or old None))) (sym (there ∙ found)) ∙ sym is))
 
 -- no account has this name
-pub kill_unknown : (account : AccountName) (killed : Bool) (entries : List (AccountName × Bool)) → None ≡ lookup (same_account account) entries
-    → kills_of entries ≡ map (marked account killed) (kills_of entries)
-kill_unknown account killed entries none = sym (none_changed same_account kill_entry (marked account killed) account (mark_kept account killed) entries (none_found same_account account entries none))
+pub kill_unknown : (lifters : Lifters) (account : AccountName) (mark : Option UserName) (entries : List (AccountName × Option Kill)) → None ≡ lookup (same_account account) entries
+    → kills_of entries ≡ map (marked lifters account mark) (kills_of entries)
+kill_unknown lifters account mark entries none =
+    sym (none_changed same_account kill_entry (marked lifters account mark) account (mark_kept lifters account mark) entries (none_found same_account account entries none))
 
 -- the line found of a user is what the list says of him
 pub line_found : (entries : List (UserName × Option ℕ)) (user : UserName)
@@ -67,15 +76,17 @@ line_found (e ∷ es) user =
     [ true ↦ refl | false ↦ line_found es user ]
     ∙ ap (λ b. option_and_then (λ (line : Option ℕ). line) (cond b (Some e.1) (lookup (same_user user) es))) (same_user_flip e.0 user)
 
--- the mark found of an account is what the list says of it
-pub kill_found : (entries : List (AccountName × Bool)) (account : AccountName)
-    → option_map_or (λ (k : AccountKill). k.killed) (find (λ (k : AccountKill). same_account k.account account) (kills_of entries)) false ≡ unwrap_or (lookup (same_account account) entries) false
+-- the Kill found of an account is what the list says of it
+pub kill_found : (entries : List (AccountName × Option Kill)) (account : AccountName)
+    → option_and_then (λ (k : AccountKill). k.kill) (find (λ (k : AccountKill). same_account k.account account) (kills_of entries))
+    ≡ option_map lifted_by (option_and_then (λ (kill : Option Kill). kill) (lookup (same_account account) entries))
 kill_found [] account = refl
 kill_found (e ∷ es) account =
     let rest : Option AccountKill = find (λ (k : AccountKill). same_account k.account account) (kills_of es) in
-    elim (same_account e.0 account) as (λ b. option_map_or (λ (k : AccountKill). k.killed) (cond b (Some (kill_entry e)) rest) false ≡ unwrap_or (cond b (Some e.1) (lookup (same_account account) es)) false)
+    elim (same_account e.0 account) as (λ b. option_and_then (λ (k : AccountKill). k.kill) (cond b (Some (kill_entry e)) rest)
+    ≡ option_map lifted_by (option_and_then (λ (kill : Option Kill). kill) (cond b (Some e.1) (lookup (same_account account) es))))
     [ true ↦ refl | false ↦ kill_found es account ]
-    ∙ ap (λ b. unwrap_or (cond b (Some e.1) (lookup (same_account account) es)) false) (same_account_flip e.0 account)
+    ∙ ap (λ b. option_map lifted_by (option_and_then (λ (kill : Option Kill). kill) (cond b (Some e.1) (lookup (same_account account) es)))) (same_account_flip e.0 account)
 
 -- one more of the policy's
 pub added_next : {X K V : Type 0} (same : K → K → Bool) (flip : (a b : K) → same a b ≡ same b a) (name : X → K) (value : V) (entries : List (K × V)) (items : List X) (i : ℕ) (x other : X)
@@ -93,8 +104,8 @@ added_next {X} {K} {V} same flip name value entries items i x other differ are w
 abbrev pub entry_off : User → UserName × Option ℕ
 entry_off u = (u.name, None)
 
-abbrev pub entry_unkilled : Account → AccountName × Bool
-entry_unkilled a = (a.name, false)
+abbrev pub entry_unkilled : Account → AccountName × Option Kill
+entry_unkilled a = (a.name, None)
 
 -- the lists of the tables as they begin
 pub lines_begin : (users : List User) → lines_of (map entry_off users) ≡ map off_line users

@@ -1,23 +1,26 @@
 -- What is kept of a day: lines, kills, its end and the clock.
-use Rattle.std.specs.Option.{option_map_or}
-use Rattle.std.specs.Prelude.{ℕ, Bool, true, false, List, map, if◌then◌else◌, Option, option_and_then}
+use Rattle.std.specs.Prelude.{ℕ, Bool, true, List, map, if◌then◌else◌, Option, Some, is_some, option_and_then}
 use Rattle.std.specs.List.{find}
 use Rattle.gx_units.specs.Names.{same_account, same_user}
 use Rattle.gx_units.specs.declared.names.AccountName.{AccountName}
 use Rattle.gx_units.specs.declared.names.UserName.{UserName}
+use Rattle.gx_history.specs.declared.policy.Lifters.{Lifters}
+use Rattle.gx_history.specs.InForce.{kill_after}
 
 -- a user, and the line that he is logged in on, if he is on one
 pub record UserLine : Type 0 where
   pub user : UserName
   pub line : Option ℕ
 
--- an account, and whether it is killed
+-- an account, and the Kill of it that is in force: who has lifted it since, if it is killed
 pub record AccountKill : Type 0 where
   pub account : AccountName
-  pub killed : Bool
+  pub kill : Option (List UserName)
 
 -- what is kept of a day
 pub record DayData : Type 0 where
+  -- how many officers have to lift an account
+  pub lifters : Lifters
   -- in the policy's order of users
   pub lines : List UserLine
   -- in the policy's order of accounts
@@ -31,9 +34,13 @@ pub record DayData : Type 0 where
 abbrev pub line_in : DayData → UserName → Option ℕ
 line_in day user = option_and_then (λ (u : UserLine). u.line) (find (λ (u : UserLine). same_user u.user user) day.lines)
 
+-- the Kill of the account that is in force; none where it is not known
+abbrev pub kill_in : DayData → AccountName → Option (List UserName)
+kill_in day account = option_and_then (λ (k : AccountKill). k.kill) (find (λ (k : AccountKill). same_account k.account account) day.kills)
+
 -- the account is killed; false where it is not known
 abbrev pub killed_in : DayData → AccountName → Bool
-killed_in day account = option_map_or (λ (k : AccountKill). k.killed) (find (λ (k : AccountKill). same_account k.account account) day.kills) false
+killed_in day account = is_some (kill_in day account)
 
 -- the entry on this line in place of its own, if it is this user's
 abbrev pub put_on : UserName → Option ℕ → UserLine → UserLine
@@ -41,20 +48,20 @@ put_on user line u = record { user = u.user; line = if same_user u.user user the
 
 -- the day with the user on this line, or on none
 abbrev pub with_line : UserName → Option ℕ → DayData → DayData
-with_line user line day = record { lines = map (put_on user line) day.lines; kills = day.kills; closed = day.closed; moment = day.moment }
+with_line user line day = record { lifters = day.lifters; lines = map (put_on user line) day.lines; kills = day.kills; closed = day.closed; moment = day.moment }
 
--- the entry with this mark in place of its own, if it is this account's
-abbrev pub marked : AccountName → Bool → AccountKill → AccountKill
-marked account killed k = record { account = k.account; killed = if same_account k.account account then killed else k.killed }
+-- the entry after one more Kill (None) of the account, or Lift of it by this officer
+abbrev pub marked : Lifters → AccountName → Option UserName → AccountKill → AccountKill
+marked lifters account mark k = record { account = k.account; kill = if same_account k.account account then kill_after lifters (Some mark) k.kill else k.kill }
 
--- the day with the account killed, or lifted
-abbrev pub with_kill : AccountName → Bool → DayData → DayData
-with_kill account killed day = record { lines = day.lines; kills = map (marked account killed) day.kills; closed = day.closed; moment = day.moment }
+-- the day after one more Kill (None) of the account, or Lift of it by this officer
+abbrev pub with_mark : AccountName → Option UserName → DayData → DayData
+with_mark account mark day = record { lifters = day.lifters; lines = day.lines; kills = map (marked day.lifters account mark) day.kills; closed = day.closed; moment = day.moment }
 
 -- the day, closed
 abbrev pub closed_day : DayData → DayData
-closed_day day = record { lines = day.lines; kills = day.kills; closed = true; moment = day.moment }
+closed_day day = record { lifters = day.lifters; lines = day.lines; kills = day.kills; closed = true; moment = day.moment }
 
 -- the day at this moment
 abbrev pub at_moment : ℕ → DayData → DayData
-at_moment moment day = record { lines = day.lines; kills = day.kills; closed = day.closed; moment = moment }
+at_moment moment day = record { lifters = day.lifters; lines = day.lines; kills = day.kills; closed = day.closed; moment = moment }

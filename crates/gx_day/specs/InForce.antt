@@ -1,6 +1,7 @@
 -- What the records say of a day, and what one more of them changes.
 use Rattle.std.specs.Option.{option_map_or}
-use Rattle.std.specs.Prelude.{List, map, true, false, Some, None}
+use Rattle.std.specs.Prelude.{List, map, false, Some, None}
+use Rattle.gx_units.specs.declared.names.UserName.{UserName}
 use Rattle.gx_desk.specs.declared.Action.{Action}
 use Rattle.gx_desk.specs.declared.Action.TheVariants as actions
 use Rattle.gx_history.specs.declared.policy.Account.{Account}
@@ -10,10 +11,10 @@ use Rattle.gx_history.specs.declared.record.Asked.{Asked}
 use Rattle.gx_history.specs.declared.record.RecordData.{RecordData}
 use Rattle.gx_history.specs.declared.record.Request.{Request}
 use Rattle.gx_history.specs.declared.record.Request.TheVariants as requests
-use Rattle.gx_history.specs.InForce.{is_closed, is_killed, line_of}
+use Rattle.gx_history.specs.InForce.{is_closed, kill_in_force, line_of}
 use Rattle.gx_history.specs.Requests.{granted}
 use Rattle.gx_history.specs.Verdicts.{last_moment}
-use Rattle.gx_day.specs.DayData.{AccountKill, DayData, UserLine, at_moment, closed_day, with_kill, with_line}
+use Rattle.gx_day.specs.DayData.{AccountKill, DayData, UserLine, at_moment, closed_day, with_line, with_mark}
 
 -- the user on no line
 abbrev pub off_line : User → UserLine
@@ -25,7 +26,7 @@ fresh_lines policy = map off_line policy.users
 
 -- the account without a kill
 abbrev pub unkilled : Account → AccountKill
-unkilled a = record { account = a.name; killed = false }
+unkilled a = record { account = a.name; kill = None }
 
 -- no account killed
 abbrev pub fresh_kills : PolicyData → List AccountKill
@@ -33,37 +34,38 @@ fresh_kills policy = map unkilled policy.accounts
 
 -- the day before any record
 abbrev pub fresh_day : PolicyData → DayData
-fresh_day policy = record { lines = fresh_lines policy; kills = fresh_kills policy; closed = false; moment = 0 }
+fresh_day policy = record { lifters = policy.lifters; lines = fresh_lines policy; kills = fresh_kills policy; closed = false; moment = 0 }
 
 -- the user, on the line that the records say
 abbrev pub line_now : List RecordData → User → UserLine
 line_now history u = record { user = u.name; line = line_of history u.name }
 
--- the account, killed if the records say so
+-- the account, with the Kill of it that is in force by the records
 abbrev pub kill_now : PolicyData → List RecordData → Account → AccountKill
-kill_now policy history a = record { account = a.name; killed = is_killed policy history a.name }
+kill_now policy history a = record { account = a.name; kill = kill_in_force policy history a.name }
 
 -- what the records say of the day, for each of the policy's users and accounts
 unfoldable pub day_in_force : PolicyData → List RecordData → DayData
 day_in_force policy history = record {
+  lifters = policy.lifters;
   lines = map (line_now history) policy.users;
   kills = map (kill_now policy history) policy.accounts;
   closed = is_closed history;
   moment = last_moment history;
 }
 
--- the day after the command was granted
-abbrev pub day_commanded : Action → DayData → DayData
-day_commanded (actions.Kill account) day = with_kill account true day
-day_commanded (actions.Lift account) day = with_kill account false day
-day_commanded actions.CloseDay day = closed_day day
-day_commanded other day = day
+-- the day after the officer was granted the command
+abbrev pub day_commanded : UserName → Action → DayData → DayData
+day_commanded officer (actions.Kill account) day = with_mark account None day
+day_commanded officer (actions.Lift account) day = with_mark account (Some officer) day
+day_commanded officer actions.CloseDay day = closed_day day
+day_commanded officer other day = day
 
 -- the day after the request was granted
 abbrev pub day_asked : Asked → Request → DayData → DayData
 day_asked a (requests.Login m) day = with_line a.user (Some a.line) day
 day_asked a requests.Logout day = with_line a.user None day
-day_asked a (requests.Command c) day = day_commanded c.action day
+day_asked a (requests.Command c) day = day_commanded a.user c.action day
 day_asked a other day = day
 
 -- the day after one more record: changed by what it grants, and at its moment

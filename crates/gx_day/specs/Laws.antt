@@ -11,10 +11,10 @@ use Rattle.gx_history.specs.declared.record.Request.{Request}
 use Rattle.gx_history.specs.declared.record.Request.TheVariants as requests
 use Rattle.gx_history.specs.declared.record.Step.TheVariants as steps
 use Rattle.gx_history.specs.declared.record.Verdict.TheVariants as verdicts
-use Rattle.gx_history.specs.InForce.{is_closed, is_killed, line_of}
+use Rattle.gx_history.specs.InForce.{is_closed, kill_in_force, line_of}
 use Rattle.gx_history.specs.Requests.{is_granted}
 use Rattle.gx_history.specs.Verdicts.{IsLegal, last_moment}
-use Rattle.gx_day.specs.DayData.{at_moment, killed_in, line_in}
+use Rattle.gx_day.specs.DayData.{at_moment, kill_in, line_in}
 use Rattle.gx_day.specs.InForce.{day_asked, day_commanded, day_in_force, day_with, fresh_day}
 
 -- before any record the day is fresh
@@ -36,7 +36,7 @@ GrantsGoOn = (policy : PolicyData) (history : List RecordData) (r : RecordData) 
 abbrev pub CommandsGoOn : Type 0
 CommandsGoOn = (policy : PolicyData) (history : List RecordData) (r : RecordData) (a : Asked) (c : Command) (action : Action)
     → r.verdict ≡ verdicts.Granted → r.step ≡ steps.Asked a → a.request ≡ requests.Command c → c.action ≡ action
-    → day_in_force policy (history ++ r ∷ []) ≡ at_moment r.moment (day_commanded action (day_in_force policy history))
+    → day_in_force policy (history ++ r ∷ []) ≡ at_moment r.moment (day_commanded a.user action (day_in_force policy history))
 
 -- a record that grants nothing changes the moment alone
 abbrev pub DenialsGoOn : Type 0
@@ -53,10 +53,10 @@ abbrev pub LinesAreKept : Type 0
 LinesAreKept = (policy : PolicyData) (history : List RecordData) (user : UserName)
     → IsLegal policy history → line_in (day_in_force policy history) user ≡ line_of history user
 
--- every account is killed where it is kept so; one that is not known is not
+-- the Kill that is in force of an account is the one kept of it; of one that is not known there is none
 abbrev pub KillsAreKept : Type 0
 KillsAreKept = (policy : PolicyData) (history : List RecordData) (account : AccountName)
-    → IsLegal policy history → killed_in (day_in_force policy history) account ≡ is_killed policy history account
+    → IsLegal policy history → kill_in (day_in_force policy history) account ≡ kill_in_force policy history account
 
 -- the day is closed where it is kept so
 abbrev pub EndsAreKept : Type 0

@@ -1,7 +1,10 @@
 -- The day that the gate's tables stand for.
-use Rattle.std.specs.Prelude.{ℕ, Bool, List, map, Option}
+use Rattle.std.specs.Prelude.{ℕ, Bool, List, [], ◌∷◌, map, Option, option_map}
 use Rattle.gx_units.specs.declared.names.AccountName.{AccountName}
 use Rattle.gx_units.specs.declared.names.UserName.{UserName}
+use Rattle.gx_history.specs.declared.policy.Lifters.{Lifters}
+use Rattle.gx_day.specs.declared.day.Kill.{Kill}
+use Rattle.gx_day.specs.declared.day.Kill.TheVariants as kills
 use Rattle.gx_day.specs.DayData.{AccountKill, DayData, UserLine}
 
 -- the user and the line of an entry
@@ -12,14 +15,19 @@ line_entry entry = record { user = entry.0; line = entry.1 }
 abbrev pub lines_of : List (UserName × Option ℕ) → List UserLine
 lines_of entries = map line_entry entries
 
--- the account and the mark of an entry
-abbrev pub kill_entry : AccountName × Bool → AccountKill
-kill_entry entry = record { account = entry.0; killed = entry.1 }
+-- who has lifted the account since
+abbrev pub lifted_by : Kill → List UserName
+lifted_by kills.Whole = []
+lifted_by (kills.LiftedBy officer) = officer ∷ []
 
--- the accounts and the marks of the entries
-abbrev pub kills_of : List (AccountName × Bool) → List AccountKill
+-- the account and the Kill of an entry
+abbrev pub kill_entry : AccountName × Option Kill → AccountKill
+kill_entry entry = record { account = entry.0; kill = option_map lifted_by entry.1 }
+
+-- the accounts and the Kills of the entries
+abbrev pub kills_of : List (AccountName × Option Kill) → List AccountKill
 kills_of entries = map kill_entry entries
 
 -- the day of these tables, closed or not, at this moment
-abbrev pub day_of : List (UserName × Option ℕ) → List (AccountName × Bool) → Bool → ℕ → DayData
-day_of lines kills closed moment = record { lines = lines_of lines; kills = kills_of kills; closed = closed; moment = moment }
+abbrev pub day_of : Lifters → List (UserName × Option ℕ) → List (AccountName × Option Kill) → Bool → ℕ → DayData
+day_of lifters lines kills closed moment = record { lifters = lifters; lines = lines_of lines; kills = kills_of kills; closed = closed; moment = moment }

@@ -1,22 +1,59 @@
 //! Lines, kills, the day's end and the clock, as they are now.
 
-ghost use Rattle.std.specs.Prelude.{◌≡◌, IfOk, Some, None, true, false};
-ghost use Rattle.gx_day.specs.DayData.{at_moment, closed_day, killed_in, line_in, with_kill, with_line};
+ghost use Rattle.std.specs.Option.{option_map_or};
+ghost use Rattle.std.specs.Prelude.{◌≡◌, IfOk, Some, None, false, not, option_map};
+ghost use Rattle.gx_history.specs.declared.policy.Lifters.TheVariants.{Two};
+ghost use Rattle.gx_history.specs.InForce.{has_lifted, is_untouched, kill_after};
+ghost use Rattle.gx_day.specs.DayData.{at_moment, closed_day, kill_in, killed_in, line_in, with_line, with_mark};
 ghost use Rattle.gx_day.specs.InForce.{fresh_day, fresh_kills, fresh_lines};
-ghost use Rattle.gx_day.specs.View.{kills_of, lines_of};
+ghost use Rattle.gx_day.specs.View.{kills_of, lifted_by, lines_of};
 
-use gx_history::policy::Policy;
+use gx_history::policy::{Lifters, Policy};
 use gx_units::{AccountName, Moment, OutOfMemory, UserName};
 use indexmap::IndexMap;
 use std::alloc::Global;
 use std::marker::Model;
 
+/// A Kill that is in force.
+#[derive(Clone, Copy, PartialEq, Eq)]
+pub enum Kill {
+    /// Nobody has lifted the account since.
+    Whole,
+    /// This officer has lifted it since, and another has to.
+    LiftedBy(UserName),
+}
+
+impl Kill {
+    /// What a Lift by the officer leaves of it.
+    fn lifted(self, lifters: Lifters, officer: UserName) -> Option<Kill>
+        ensures { option_map lifted_by result
+            ≡ kill_after lifters (Some (Some officer)) (Some (lifted_by self)) }
+    {
+        match lifters {
+            Lifters::One => None,
+            Lifters::Two => self.lifted_by_one_of_two(officer),
+        }
+    }
+
+    fn lifted_by_one_of_two(self, officer: UserName) -> Option<Kill>
+        ensures { option_map lifted_by result
+            ≡ kill_after Two (Some (Some officer)) (Some (lifted_by self)) }
+    {
+        match self {
+            Kill::Whole => Some(Kill::LiftedBy(officer)),
+            Kill::LiftedBy(other) if other == officer => Some(self),
+            Kill::LiftedBy(_) => None,
+        }
+    }
+}
+
 /// Who is logged in on which line, which accounts are killed, whether the day is closed, and the moment of the last
 /// record. It knows the users and the accounts of one policy, and takes memory only when it is made.
 #[derive(Drop)]
 pub struct Day {
+    lifters: Lifters,
     lines: IndexMap<UserName, Option<u16>>,
-    kills: IndexMap<AccountName, bool>,
+    kills: IndexMap<AccountName, Option<Kill>>,
     closed: bool,
     moment: Moment,
 }
@@ -27,7 +64,7 @@ impl Model for Day {
 
     ghost Value = { DayData };
 
-    ghost view = { λ day. day_of day.lines.entries day.kills.entries day.closed day.moment };
+    ghost view = { λ day. day_of day.lifters day.lines.entries day.kills.entries day.closed day.moment };
 }
 
 fn no_lines(alloc: Global, policy: &Policy) -> Result<IndexMap<UserName, Option<u16>>, OutOfMemory>
@@ -42,16 +79,29 @@ fn no_lines(alloc: Global, policy: &Policy) -> Result<IndexMap<UserName, Option<
     Ok(lines)
 }
 
-fn no_kills(alloc: Global, policy: &Policy) -> Result<IndexMap<AccountName, bool>, OutOfMemory>
+fn no_kills(
+    alloc: Global,
+    policy: &Policy,
+) -> Result<IndexMap<AccountName, Option<Kill>>, OutOfMemory>
     ensures { IfOk result (λ kills. kills_of kills.entries ≡ fresh_kills policy.now) }
 {
     // What this ensures: no two accounts have one name.
     let _ = policy.rules();
     let mut kills = IndexMap::with_capacity(alloc, policy.accounts().len())?;
     for account in policy.accounts() {
-        kills.insert(account.name, false)?;
+        kills.insert(account.name, None)?;
     }
     Ok(kills)
+}
+
+fn marked(lifters: Lifters, mark: Option<UserName>, kill: Option<Kill>) -> Option<Kill>
+    ensures { option_map lifted_by result
+        ≡ kill_after lifters (Some mark) (option_map lifted_by kill) }
+{
+    match mark {
+        None => Some(Kill::Whole),
+        Some(officer) => kill?.lifted(lifters, officer),
+    }
 }
 
 impl Day {
@@ -64,6 +114,7 @@ impl Day {
         let lines = no_lines(alloc, policy)?;
         let kills = no_kills(alloc, policy)?;
         Ok(Day {
+            lifters: policy.lifters(),
             lines,
             kills,
             closed: false,
@@ -78,12 +129,40 @@ impl Day {
         *self.lines.get(&user)?
     }
 
+    fn kill_of(&self, account: AccountName) -> Option<Kill>
+        ensures { option_map lifted_by result ≡ kill_in self.now account }
+    {
+        *self.kills.get(&account)?
+    }
+
     /// Whether the account is killed; false where it is not known. Takes no memory.
     pub fn is_killed(&self, account: AccountName) -> bool
         ensures { result ≡ killed_in self.now account }
     {
-        match self.kills.get(&account) {
-            Some(killed) => *killed,
+        self.kill_of(account).is_some()
+    }
+
+    /// Whether a Kill of the account would change anything: it is not killed, or somebody has lifted it since. Takes
+    /// no memory.
+    pub fn kill_changes(&self, account: AccountName) -> bool
+        ensures { result ≡ not (is_untouched (kill_in self.now account)) }
+    {
+        match self.kill_of(account) {
+            Some(Kill::Whole) => false,
+            Some(Kill::LiftedBy(_)) => true,
+            None => true,
+        }
+    }
+
+    /// Whether a Lift of the account by the officer would change anything: it is killed, and he has not lifted it
+    /// since. Takes no memory.
+    pub fn lift_changes(&self, account: AccountName, officer: UserName) -> bool
+        ensures { result ≡ option_map_or (λ officers. not (has_lifted officer officers))
+            (kill_in self.now account) false }
+    {
+        match self.kill_of(account) {
+            Some(Kill::Whole) => true,
+            Some(Kill::LiftedBy(other)) => other != officer,
             None => false,
         }
     }
@@ -111,13 +190,15 @@ impl Day {
         *place = line;
     }
 
-    fn mark(&mut self, account: AccountName, killed: bool)
-        ensures { self.new ≡ with_kill account killed self.old }
+    /// Records a Kill, or a Lift by this officer.
+    fn mark(&mut self, account: AccountName, mark: Option<UserName>)
+        ensures { self.new ≡ with_mark account mark self.old }
     {
+        let lifters = self.lifters;
         let Some(place) = self.kills.get_mut(&account) else {
             return;
         };
-        *place = killed;
+        *place = marked(lifters, mark, *place);
     }
 
     /// Puts the user on the line. A user who is not known changes nothing. Takes no memory.
@@ -134,18 +215,20 @@ impl Day {
         self.put_on(user, None);
     }
 
-    /// Kills the account. One that is not known changes nothing. Takes no memory.
+    /// Kills the account: whoever has lifted it before does not count any more. One that is not known changes
+    /// nothing. Takes no memory.
     pub fn kill(&mut self, account: AccountName)
-        ensures { self.new ≡ with_kill account true self.old }
+        ensures { self.new ≡ with_mark account None self.old }
     {
-        self.mark(account, true);
+        self.mark(account, None);
     }
 
-    /// Lifts the account's kill. An account that is not known changes nothing. Takes no memory.
-    pub fn lift(&mut self, account: AccountName)
-        ensures { self.new ≡ with_kill account false self.old }
+    /// Counts the officer among those who have lifted the account: it is killed no longer once they are as many as the
+    /// policy asks for. An account that is not known changes nothing. Takes no memory.
+    pub fn lift(&mut self, account: AccountName, officer: UserName)
+        ensures { self.new ≡ with_mark account (Some officer) self.old }
     {
-        self.mark(account, false);
+        self.mark(account, Some(officer));
     }
 
     /// Closes the day. Takes no memory.

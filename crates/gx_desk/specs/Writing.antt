@@ -13,6 +13,7 @@ use Rattle.gx_desk.specs.Messages.{answer, drop_copy}
 -- the code of an answer
 abbrev pub answer_code : AnswerCode → List ℕ
 answer_code answers.Done = codes "OK"
+answer_code answers.PartlyLifted = codes "PL"
 answer_code answers.UnknownName = codes "Q1"
 answer_code answers.NoPower = codes "Q2"
 answer_code answers.NotHisAccount = codes "Q3"

@@ -26,7 +26,7 @@ pub struct WrittenName {
 pub enum Action {
     /// Kill, `K`: every live order of the account ends, and it may place no more.
     Kill(AccountName),
-    /// Lift, `L`: the account is killed no longer.
+    /// Lift, `L`: the account is killed no longer, once as many officers as the policy asks for have lifted it.
     Lift(AccountName),
     /// Set Limit, `M`: the rule's limit from now on.
     SetLimit(RuleId, u64),
@@ -54,6 +54,8 @@ pub struct Command {
 pub enum AnswerCode {
     /// `OK`: it is granted.
     Done,
+    /// `PL`, partly lifted: a Lift is granted, and the account is still killed until another officer lifts it too.
+    PartlyLifted,
     /// `Q1`: an account, a reader, a stock or a rule is unknown, or the rule has no such setting.
     UnknownName,
     /// `Q2`: the officer lacks the power.

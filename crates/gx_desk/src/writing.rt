@@ -10,12 +10,13 @@ use crate::{Answer, AnswerCode, DropCopy};
 use gx_ouch::{Draft, MESSAGE_ROOM, Outbound};
 
 impl AnswerCode {
-    /// The code's two bytes: `OK`, or `Q` and the number of the rule that denies.
+    /// The code's two bytes: `OK`, `PL`, or `Q` and the number of the rule that denies.
     pub fn code(self) -> [u8; 2]
         ensures { result ≡ answer_code self }
     {
         match self {
             AnswerCode::Done => *b"OK",
+            AnswerCode::PartlyLifted => *b"PL",
             AnswerCode::UnknownName => *b"Q1",
             AnswerCode::NoPower => *b"Q2",
             AnswerCode::NotHisAccount => *b"Q3",

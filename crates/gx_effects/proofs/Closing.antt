@@ -22,7 +22,7 @@ use Rattle.gx_history.specs.Verdicts.{next, IsLegal}
 use Rattle.gx_history_laws.proofs.Keeping.{AddsNothing, orders_kept, executions_kept}
 use Rattle.gx_history_laws.proofs.Numbers.{number_left}
 use Rattle.gx_effects.specs.OneMore.{not_ended}
-use Rattle.gx_effects.proofs.Commanding.{GrantsCommand, grants_the_command, command_adds_nothing, rules_by_command, killed_by_command, closed_by_command, line_kept, sight_kept, told_by_command}
+use Rattle.gx_effects.proofs.Commanding.{GrantsCommand, grants_the_command, command_adds_nothing, rules_by_command, kill_by_command, closed_by_command, line_kept, sight_kept, told_by_command}
 use Rattle.gx_effects.proofs.Killing.{struck, standings_struck, live_left, incoming_left, resting_left}
 
 -- it is for every order
@@ -47,7 +47,7 @@ close_takes_effect policy history a r c legal left asks closes granted =
       orders_kept = orders_kept policy history r nothing;
       executions_kept = executions_kept policy history r nothing;
       rules_kept = rules_by_command policy history r a close g;
-      killed_kept = λ (account : AccountName). killed_by_command policy history r a close account None g refl;
+      kills_kept = λ (account : AccountName). kill_by_command policy history r a close account None g refl;
       lines_kept = λ (user : UserName). line_kept history r a close user g;
       entitled_kept = λ (reader : UserName) (account : AccountName). sight_kept policy history r a close reader account g refl;
       told = λ (user : UserName). told_by_command policy history r a c close user g asks closes;

@@ -9,8 +9,8 @@ use Rattle.gx_units.specs.declared.names.AccountName.{AccountName}
 use Rattle.gx_units.specs.declared.names.UserName.{UserName}
 use Rattle.gx_ouch.specs.declared.letters.CancelReason.TheVariants as cancels
 use Rattle.gx_desk.specs.declared.Action.{Action}
-use Rattle.gx_desk.specs.declared.AnswerCode.TheVariants as codes
 use Rattle.gx_desk.specs.declared.Command.{Command}
+use Rattle.gx_history_laws.proofs.KillsNext.{kill_in_force_next}
 use Rattle.gx_history.specs.declared.policy.FileRule.{FileRule}
 use Rattle.gx_history.specs.declared.policy.PolicyData.{PolicyData}
 use Rattle.gx_history.specs.declared.record.Asked.{Asked}
@@ -26,15 +26,15 @@ use Rattle.gx_history.specs.declared.report.Report.{Report}
 use Rattle.gx_history.specs.Book.{rested_of}
 use Rattle.gx_history.specs.Effects.{OnlyKillChanges}
 use Rattle.gx_history.specs.Executions.{Standing, sides, live_orders}
-use Rattle.gx_history.specs.InForce.{is_killed, kill_or_lift_of, is_closed, is_close, is_entitled, rules_in_force, changed, line_of, line_by, grant_or_revoke_of}
+use Rattle.gx_history.specs.InForce.{kill_or_lift_of, is_closed, is_close, is_entitled, rules_in_force, changed, line_of, line_by, grant_or_revoke_of, kill_after, kill_in_force}
 use Rattle.gx_history.specs.Orders.{Order, orders, size_asked, size_set, ends, ends_account, ends_by_request, expires}
 use Rattle.gx_history.specs.Requests.{granted, granted_action, granted_mark, action_of, is_granted, asked}
-use Rattle.gx_history.specs.Streams.{stream, answer, canceled, reports_of_verdict, reports_of_grant, reported, drop_copy, ended, day_end, to_user}
+use Rattle.gx_history.specs.Streams.{stream, answer, canceled, granted_code, reports_of_verdict, reports_of_grant, reported, drop_copy, ended, day_end, to_user}
 use Rattle.gx_history.specs.Verdicts.{next}
 use Rattle.gx_history_laws.proofs.Adding.{granted_is}
 use Rattle.gx_history_laws.proofs.Ends.{none_added}
 use Rattle.gx_history_laws.proofs.Keeping.{AddsNothing, EndsNone, entitled_kept}
-use Rattle.gx_history_laws.proofs.NextInForce.{is_killed_next, is_closed_next, rules_in_force_next, rules_with, line_of_next}
+use Rattle.gx_history_laws.proofs.NextInForce.{is_closed_next, rules_in_force_next, rules_with, line_of_next}
 use Rattle.gx_history_laws.proofs.NextOrders.{or_not}
 use Rattle.gx_history_laws.proofs.NextReports.{stream_next}
 use Rattle.gx_history_laws.proofs.Runs.{step_left}
@@ -113,11 +113,11 @@ pub rules_by_command : (policy : PolicyData) (history : List RecordData) (r : Re
     → rules_in_force policy (history ++ r ∷ []) ≡ changed (rules_in_force policy history) action
 rules_by_command policy history r a action g = rules_in_force_next policy history r ∙ ap (rules_with (rules_in_force policy history)) (action_granted r a action g)
 
-pub killed_by_command : (policy : PolicyData) (history : List RecordData) (r : RecordData) (a : Asked) (action : Action) (account : AccountName) (mark : Option Bool) → GrantsCommand r a action
-    → kill_or_lift_of account a.user action ≡ mark → is_killed policy (history ++ r ∷ []) account ≡ unwrap_or mark (is_killed policy history account)
-killed_by_command policy history r a action account mark g marks =
-    is_killed_next policy history r account
-    ∙ ap (λ (m : Option Bool). unwrap_or m (is_killed policy history account)) (mark_granted (kill_or_lift_of account) r a action g ∙ marks)
+pub kill_by_command : (policy : PolicyData) (history : List RecordData) (r : RecordData) (a : Asked) (action : Action) (account : AccountName) (mark : Option (Option UserName)) → GrantsCommand r a action
+    → kill_or_lift_of account a.user action ≡ mark → kill_in_force policy (history ++ r ∷ []) account ≡ kill_after policy.lifters mark (kill_in_force policy history account)
+kill_by_command policy history r a action account mark g marks =
+    kill_in_force_next policy history r account
+    ∙ ap (λ (m : Option (Option UserName)). kill_after policy.lifters m (kill_in_force policy history account)) (mark_granted (kill_or_lift_of account) r a action g ∙ marks)
 
 pub closed_by_command : (history : List RecordData) (r : RecordData) (a : Asked) (action : Action) → GrantsCommand r a action → is_closed (history ++ r ∷ []) ≡ (is_closed history || is_close action)
 closed_by_command history r a action g =
@@ -144,7 +144,7 @@ pub record IsKillOrLift (account : AccountName) (action : Action) : Type 0 where
 pub only_kill_changes : (policy : PolicyData) (history : List RecordData) (r : RecordData) (a : Asked) (action : Action) (account : AccountName)
     → GrantsCommand r a action → IsKillOrLift account action → OnlyKillChanges policy history (history ++ r ∷ []) account
 only_kill_changes policy history r a action account g only = record {
-  others_kept = λ (other : AccountName) (differs : same_account account other ≡ false). killed_by_command policy history r a action other None g (only.marks_no_other other a.user differs);
+  others_kept = λ (other : AccountName) (differs : same_account account other ≡ false). kill_by_command policy history r a action other None g (only.marks_no_other other a.user differs);
   rules_kept = rules_by_command policy history r a action g ∙ only.changes_not (rules_in_force policy history);
   closed_kept = closed_by_command history r a action g ∙ or_not (is_closed history) (is_close action) only.closes_not;
   lines_kept = λ (user : UserName). line_kept history r a action user g;
@@ -158,25 +158,24 @@ tells policy history r user v s = map (reported r) (reports_of_verdict policy hi
 pub told_by_command : (policy : PolicyData) (history : List RecordData) (r : RecordData) (a : Asked) (c : Command) (action : Action) (user : UserName)
     → GrantsCommand r a action → a.request ≡ requests.Command c → c.action ≡ action
     → stream policy (history ++ r ∷ []) user
-    ≡ stream policy history user ++ map (reported r) (ended policy history action user ++ day_end policy action user ++ to_user a.user user (answer r c codes.Done))
+    ≡ stream policy history user ++ map (reported r) (ended policy history action user ++ day_end policy action user ++ to_user a.user user (answer r c (granted_code policy (history ++ r ∷ []) action)))
 told_by_command policy history r a c action user g asks is =
-    let answered : List Message = to_user a.user user (answer r c codes.Done) in
     stream_next policy history r user
     ∙ ap (λ (more : List Report). stream policy history user ++ more)
     (ap (λ (v : Verdict). tells policy history r user v r.step) g.grants
     ∙ ap (λ (s : Step). tells policy history r user verdicts.Granted s) g.asks
     ∙ ap (λ (q : Request). map (reported r) (reports_of_grant policy history r a.user q user) ++ []) asks
     ∙ append-nil (map (reported r) (reports_of_grant policy history r a.user (requests.Command c) user))
-    ∙ ap (λ (x : Action). map (reported r) (ended policy history x user ++ day_end policy x user ++ answered)) is)
+    ∙ ap (λ (x : Action). map (reported r) (ended policy history x user ++ day_end policy x user ++ to_user a.user user (answer r c (granted_code policy (history ++ r ∷ []) x)))) is)
 
 -- and of one that does not end the day
 pub told_without_end : (policy : PolicyData) (history : List RecordData) (r : RecordData) (a : Asked) (c : Command) (action : Action) (user : UserName)
     → GrantsCommand r a action → a.request ≡ requests.Command c → c.action ≡ action → day_end policy action user ≡ []
     → stream policy (history ++ r ∷ []) user
-    ≡ stream policy history user ++ map (reported r) (ended policy history action user ++ to_user a.user user (answer r c codes.Done))
+    ≡ stream policy history user ++ map (reported r) (ended policy history action user ++ to_user a.user user (answer r c (granted_code policy (history ++ r ∷ []) action)))
 told_without_end policy history r a c action user g asks is no_end =
     told_by_command policy history r a c action user g asks is
-    ∙ ap (λ (ms : List Message). stream policy history user ++ map (reported r) (ms ++ to_user a.user user (answer r c codes.Done)))
+    ∙ ap (λ (ms : List Message). stream policy history user ++ map (reported r) (ms ++ to_user a.user user (answer r c (granted_code policy (history ++ r ∷ []) action))))
     (ap (λ (ms : List Message). ended policy history action user ++ ms) no_end ∙ append-nil (ended policy history action user))
 
 -- a command that is for nobody's orders ends none
@@ -205,7 +204,7 @@ none_ended policy history action user stays = ap (flat_map (λ (s : Standing). c
 -- the officer alone is told of a command that ends no order and no day
 pub answered_alone : (policy : PolicyData) (history : List RecordData) (r : RecordData) (a : Asked) (c : Command) (action : Action) (user : UserName)
     → GrantsCommand r a action → a.request ≡ requests.Command c → c.action ≡ action → ((account : AccountName) → ends_account account action ≡ false) → day_end policy action user ≡ []
-    → stream policy (history ++ r ∷ []) user ≡ stream policy history user ++ map (reported r) (to_user a.user user (answer r c codes.Done))
+    → stream policy (history ++ r ∷ []) user ≡ stream policy history user ++ map (reported r) (to_user a.user user (answer r c (granted_code policy (history ++ r ∷ []) action)))
 answered_alone policy history r a c action user g asks is stays no_end =
     told_without_end policy history r a c action user g asks is no_end
-    ∙ ap (λ (ms : List Message). stream policy history user ++ map (reported r) (ms ++ to_user a.user user (answer r c codes.Done))) (none_ended policy history action user stays)
+    ∙ ap (λ (ms : List Message). stream policy history user ++ map (reported r) (ms ++ to_user a.user user (answer r c (granted_code policy (history ++ r ∷ []) action)))) (none_ended policy history action user stays)

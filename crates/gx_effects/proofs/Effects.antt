@@ -21,7 +21,7 @@ use Rattle.gx_history_laws.proofs.Keeping.{AddsNothing, EndsNone, positions_kept
 use Rattle.gx_history_laws.proofs.NextReports.{stream_next}
 use Rattle.gx_history_laws.proofs.Runs.{step_left}
 use Rattle.gx_effects.proofs.Commanding.{tells}
-use Rattle.gx_effects.proofs.Denials.{IsDenial, denial_adds_nothing, denial_ends_none, rules_in_force_denied, is_killed_denied, is_closed_denied, line_of_denied, is_entitled_denied}
+use Rattle.gx_effects.proofs.Denials.{IsDenial, denial_adds_nothing, denial_ends_none, rules_in_force_denied, kill_denied, is_closed_denied, line_of_denied, is_entitled_denied}
 
 -- a denial changes nothing but the records
 pub as_before : (policy : PolicyData) (history : List RecordData) (r : RecordData) (rule : RuleName) → r.verdict ≡ verdicts.Denied rule → IsAsBefore policy history (history ++ r ∷ [])
@@ -35,7 +35,7 @@ as_before policy history r rule denied =
       incoming_kept = incoming_kept policy history r nothing stay;
       resting_kept = λ (stock : Symbol) (buy : Bool). resting_kept policy history r stock buy nothing stay;
       rules_kept = rules_in_force_denied policy history r d;
-      killed_kept = λ (account : AccountName). is_killed_denied policy history r account d;
+      kills_kept = λ (account : AccountName). kill_denied policy history r account d;
       closed_kept = is_closed_denied history r d;
       lines_kept = λ (user : UserName). line_of_denied history r user d;
       entitled_kept = λ (reader : UserName) (account : AccountName). is_entitled_denied policy history r reader account d;

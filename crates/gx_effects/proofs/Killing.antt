@@ -1,6 +1,6 @@
 -- A granted Kill takes effect: the account's orders are live no more, and the others keep their places.
 use Rattle.std.proofs.Common.{◌≡◌, ℕ, ◌+◌, ◌<◌, Bool, true, false, not, List, [], ◌∷◌, ◌++◌, refl, ◌∙◌, ap, sym, map, cond, length}
-use Rattle.std.specs.Prelude.{Some, ◌&&◌, nat_lt}
+use Rattle.std.specs.Prelude.{Some, ◌&&◌, nat_lt, Option, None}
 use Rattle.std.specs.List.{filter, filter_map, AllByRecursion}
 use Rattle.gx_units.specs.Names.{same_account, same_stock}
 use Rattle.gx_units.specs.declared.names.AccountName.{AccountName}
@@ -28,7 +28,7 @@ use Rattle.gx_history_laws.proofs.NextOrders.{standing_after, rests}
 use Rattle.gx_history_laws.proofs.Numbers.{number_left, numbers_are_within}
 use Rattle.gx_history_laws.proofs.Names.{account_is_itself}
 use Rattle.gx_effects.specs.OneMore.{not_ended}
-use Rattle.gx_effects.proofs.Commanding.{GrantsCommand, grants_the_command, action_granted, command_adds_nothing, ends_by_command, killed_by_command, IsKillOrLift, only_kill_changes, told_without_end}
+use Rattle.gx_effects.proofs.Commanding.{GrantsCommand, grants_the_command, action_granted, command_adds_nothing, ends_by_command, kill_by_command, IsKillOrLift, only_kill_changes, told_without_end}
 use Rattle.gx_effects.proofs.Lessening.{all_found_changed, rest_on_side}
 use Rattle.gx_effects.proofs.Placing.{filter_swap}
 use Rattle.gx_effects.proofs.Priority.{by_price_filter}
@@ -40,7 +40,7 @@ kill_marks_one account = record {
   closes_not = refl;
   changes_not = λ (rules : List FileRule). refl;
   entitles_not = λ (reader : UserName) (other : AccountName) (officer : UserName). refl;
-  marks_no_other = λ (other : AccountName) (officer : UserName) (differs : same_account account other ≡ false). ap (λ (b : Bool). where_true b true) differs;
+  marks_no_other = λ (other : AccountName) (officer : UserName) (differs : same_account account other ≡ false). ap (λ (b : Bool). where_true b None) differs;
 }
 
 -- the order with nothing open, if the action ends the orders of its account
@@ -148,8 +148,8 @@ kill_takes_effect policy history a r c account legal left asks kills granted =
     let strikes : standings policy (history ++ r ∷ []) ≡ map (struck (actions.Kill account)) (standings policy history) =
     standings_struck policy history r a (actions.Kill account) g legal (number_left policy history (steps.Asked a) r left) in
     record {
-      is_killed_now =
-          killed_by_command policy history r a (actions.Kill account) account (Some true) g (ap (λ (b : Bool). where_true b true) (account_is_itself account));
+      kill_now =
+          kill_by_command policy history r a (actions.Kill account) account (Some None) g (ap (λ (b : Bool). where_true b None) (account_is_itself account));
       live_left = live_left policy history r (actions.Kill account) strikes;
       incoming_left = incoming_left policy history r (actions.Kill account) nothing strikes;
       resting_left = λ (stock : Symbol) (buy : Bool). resting_left policy history r (actions.Kill account) stock buy nothing strikes;

@@ -8,6 +8,7 @@ use Rattle.gx_units.specs.declared.names.AccountName.{AccountName}
 use Rattle.gx_units.specs.declared.names.Symbol.{Symbol}
 use Rattle.gx_units.specs.declared.names.UserName.{UserName}
 use Rattle.gx_desk.specs.declared.Action.{Action}
+use Rattle.gx_history_laws.proofs.KillsNext.{kill_in_force_next}
 use Rattle.gx_history.specs.declared.policy.PolicyData.{PolicyData}
 use Rattle.gx_history.specs.declared.record.Asked.{Asked}
 use Rattle.gx_history.specs.declared.record.Login.{Login}
@@ -18,14 +19,14 @@ use Rattle.gx_history.specs.declared.record.Step.TheVariants as steps
 use Rattle.gx_history.specs.declared.record.Verdict.TheVariants as verdicts
 use Rattle.gx_history.specs.declared.report.Message.{Message}
 use Rattle.gx_history.specs.Effects.{ChangesLine}
-use Rattle.gx_history.specs.InForce.{is_killed, kill_or_lift_of, is_closed, is_close, rules_in_force, line_of, line_by, grant_or_revoke_of}
+use Rattle.gx_history.specs.InForce.{kill_or_lift_of, is_closed, is_close, rules_in_force, line_of, line_by, grant_or_revoke_of, kill_after, kill_in_force}
 use Rattle.gx_history.specs.Lists.{where_true}
 use Rattle.gx_history.specs.Requests.{granted_action, action_of}
 use Rattle.gx_history.specs.Streams.{stream, reported, reports_of_grant}
 use Rattle.gx_history.specs.Verdicts.{next}
 use Rattle.gx_history_laws.proofs.Adding.{granted_is, user_is_itself}
 use Rattle.gx_history_laws.proofs.Keeping.{AddsNothing, EndsNone, positions_kept, live_kept, incoming_kept, resting_kept, entitled_kept}
-use Rattle.gx_history_laws.proofs.NextInForce.{is_killed_next, is_closed_next, rules_in_force_next, rules_with, line_of_next}
+use Rattle.gx_history_laws.proofs.NextInForce.{is_closed_next, rules_in_force_next, rules_with, line_of_next}
 use Rattle.gx_history_laws.proofs.NextOrders.{or_not}
 use Rattle.gx_effects.proofs.OrderRequests.{Grants, it_grants, told_by, action_none, mark_none, IsQuiet, quiet_adds_nothing, quiet_ends_none}
 
@@ -59,9 +60,9 @@ changes_line policy history r a q on g p =
       incoming_kept = incoming_kept policy history r nothing stay;
       resting_kept = λ (stock : Symbol) (buy : Bool). resting_kept policy history r stock buy nothing stay;
       rules_kept = rules_in_force_next policy history r ∙ ap (rules_with (rules_in_force policy history)) (action_none r a q g p.no_action);
-      killed_kept = λ (account : AccountName).
-          is_killed_next policy history r account
-          ∙ ap (λ (m : Option Bool). unwrap_or m (is_killed policy history account)) (mark_none (kill_or_lift_of account) r a q g p.no_action);
+      kills_kept = λ (account : AccountName).
+          kill_in_force_next policy history r account
+          ∙ ap (λ (m : Option (Option UserName)). kill_after policy.lifters m (kill_in_force policy history account)) (mark_none (kill_or_lift_of account) r a q g p.no_action);
       closed_kept =
           is_closed_next history r
           ∙ or_not (is_closed history) (option_map_or is_close (granted_action r) false) (ap (λ (x : Option Action). option_map_or is_close x false) (action_none r a q g p.no_action));

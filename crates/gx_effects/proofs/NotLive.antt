@@ -1,7 +1,7 @@
 -- In a legal history no order of a killed account has open shares.
 use Rattle.std.proofs.Common.{◌≡◌, ℕ, ◌+◌, ◌-◌, ◌<◌, ◌≤◌, length, Bool, true, false, List, [], ◌∷◌, ◌++◌, refl, ◌∙◌, ap, sym, map, cond, arith, inl, inr}
 use Rattle.std.proofs.Math.Path.{subst}
-use Rattle.std.specs.Prelude.{Option, Some, None, option_map, option_and_then, is_none, ◌&&◌, ◌||◌, nat_lt, unwrap_or, filter}
+use Rattle.std.specs.Prelude.{Option, Some, None, option_map, option_and_then, is_none, is_some, ◌&&◌, ◌||◌, nat_lt, unwrap_or, filter}
 use Rattle.std.specs.List.{AllByRecursion}
 use Rattle.std.proofs.lemmas.List.{append-nil}
 use Rattle.gx_units.specs.Names.{same_user, same_token, same_account}
@@ -20,7 +20,7 @@ use Rattle.gx_history.specs.declared.record.Verdict.{Verdict}
 use Rattle.gx_history.specs.declared.record.Verdict.TheVariants as verdicts
 use Rattle.gx_history.specs.Asking.{facts, live_named, named_order}
 use Rattle.gx_history.specs.Executions.{Standing, standing, standings, standing_under, executions, done, sides, open_shares, is_live, live_orders}
-use Rattle.gx_history.specs.InForce.{is_killed, kill_or_lift_of}
+use Rattle.gx_history.specs.InForce.{is_killed, kill_after, kill_in_force, kill_or_lift_of}
 use Rattle.gx_history.specs.Lists.{where_true}
 use Rattle.gx_history.specs.Orders.{Order, orders, total, is_dead, ends, ends_account, size_set, size_asked}
 use Rattle.gx_history.specs.People.{account_of}
@@ -31,7 +31,7 @@ use Rattle.gx_history.specs.Verdicts.{next, facts_now, Follows, IsLegal}
 use Rattle.gx_history_laws.proofs.Adding.{AddsNone, AddsOne, what_is_added, granted_is, user_is, found_passes, all_pass, name_is_no_bar, not_none}
 use Rattle.gx_history_laws.proofs.Ends.{ended, nothing_open}
 use Rattle.gx_history_laws.proofs.Granting.{legal_keeps}
-use Rattle.gx_history_laws.proofs.NextInForce.{is_killed_next}
+use Rattle.gx_history_laws.proofs.KillsNext.{is_killed_next}
 use Rattle.gx_history_laws.proofs.NextOrders.{orders_none, orders_next, open_shares_next}
 use Rattle.gx_history_laws.proofs.Numbers.{NumbersAreWithin, none_within, one_more_within, next_number, all_weaker}
 use Rattle.gx_history_laws.proofs.Order.{some_same}
@@ -160,18 +160,18 @@ stays_down policy history r o nothing no_more =
     at false false all gone more h = omega arith
 
 -- a record that kills the account ends its orders
-killed_by : (o : Order) (r : RecordData) → granted_mark (kill_or_lift_of o.account) r ≡ Some true → (action : Action) × (granted_action r ≡ Some action) × (ends_account o.account action ≡ true)
+killed_by : (o : Order) (r : RecordData) → granted_mark (kill_or_lift_of o.account) r ≡ Some None → (action : Action) × (granted_action r ≡ Some action) × (ends_account o.account action ≡ true)
 killed_by o r h = of_asked (granted r) h
   where
-    of_action : (action : Action) (officer : UserName) → kill_or_lift_of o.account officer action ≡ Some true → ends_account o.account action ≡ true
+    of_action : (action : Action) (officer : UserName) → kill_or_lift_of o.account officer action ≡ Some None → ends_account o.account action ≡ true
     of_action (actions.Kill named) officer k = at (same_account named o.account) k
       where
-        at : (b : Bool) → where_true b true ≡ Some true → b ≡ true
+        at : (b : Bool) → where_true {X = Option UserName} b None ≡ Some None → b ≡ true
         at true e = refl
         at false e = cc
     of_action (actions.Lift named) officer k = at (same_account named o.account) k
       where
-        at : (b : Bool) → where_true b false ≡ Some true → ends_account o.account (actions.Lift named) ≡ true
+        at : (b : Bool) → where_true b (Some officer) ≡ Some None → ends_account o.account (actions.Lift named) ≡ true
         at true e = cc
         at false e = cc
     of_action (actions.SetLimit rule limit) officer k = cc
@@ -181,11 +181,11 @@ killed_by o r h = of_asked (granted r) h
     of_action (actions.Revoke reader account) officer k = cc
     of_action actions.CloseDay officer k = cc
 
-    of_found : (officer : UserName) (found : Option Action) → option_and_then (kill_or_lift_of o.account officer) found ≡ Some true → (action : Action) × (found ≡ Some action) × (ends_account o.account action ≡ true)
+    of_found : (officer : UserName) (found : Option Action) → option_and_then (kill_or_lift_of o.account officer) found ≡ Some None → (action : Action) × (found ≡ Some action) × (ends_account o.account action ≡ true)
     of_found officer None k = cc
     of_found officer (Some action) k = (action, refl, of_action action officer k)
 
-    of_asked : (found : Option Asked) → option_and_then (λ (a : Asked). option_and_then (kill_or_lift_of o.account a.user) (action_of a.request)) found ≡ Some true
+    of_asked : (found : Option Asked) → option_and_then (λ (a : Asked). option_and_then (kill_or_lift_of o.account a.user) (action_of a.request)) found ≡ Some None
         → (action : Action) × (option_and_then (λ (a : Asked). action_of a.request) found ≡ Some action) × (ends_account o.account action ≡ true)
     of_asked None k = cc
     of_asked (Some a) k = of_found a.user (action_of a.request) k
@@ -194,16 +194,22 @@ old_order : (policy : PolicyData) (history : List RecordData) (r : RecordData) (
     → StandsDown policy history o → IsHisAccounts policy o → o.number < r.number → StandsDown policy (history ++ r ∷ []) o
 old_order policy history r o follows down was his early killed_now = at (granted_mark (kill_or_lift_of o.account) r) refl
   where
-    at : (mark : Option Bool) → granted_mark (kill_or_lift_of o.account) r ≡ mark → open_shares (executions policy (history ++ r ∷ [])) (history ++ r ∷ []) o ≡ 0
-    at None e =
-        let killed : is_killed policy history o.account ≡ true = sym (is_killed_next policy history r o.account ∙ ap (λ (m : Option Bool). unwrap_or m (is_killed policy history o.account)) e) ∙ killed_now in
-        stays_down policy history r o (was killed) (no_size policy history r o follows down killed his)
-    at (Some true) e =
+    now : (mark : Option (Option UserName)) → granted_mark (kill_or_lift_of o.account) r ≡ mark → is_some (kill_after policy.lifters mark (kill_in_force policy history o.account)) ≡ true
+    now mark e = sym (is_killed_next policy history r o.account ∙ ap (λ (m : Option (Option UserName)). is_some (kill_after policy.lifters m (kill_in_force policy history o.account))) e) ∙ killed_now
+
+    still : is_killed policy history o.account ≡ true → open_shares (executions policy (history ++ r ∷ [])) (history ++ r ∷ []) o ≡ 0
+    still killed = stays_down policy history r o (was killed) (no_size policy history r o follows down killed his)
+
+    lifts_killed : (officer : UserName) (before : Option (List UserName)) → is_some (kill_after policy.lifters (Some (Some officer)) before) ≡ true → is_some before ≡ true
+    lifts_killed officer None h = h
+    lifts_killed officer (Some officers) h = refl
+
+    at : (mark : Option (Option UserName)) → granted_mark (kill_or_lift_of o.account) r ≡ mark → open_shares (executions policy (history ++ r ∷ [])) (history ++ r ∷ []) o ≡ 0
+    at None e = still (now None e)
+    at (Some None) e =
         let by : (action : Action) × (granted_action r ≡ Some action) × (ends_account o.account action ≡ true) = killed_by o r e in
         nothing_open policy history r o (ended o r by.0 by.1 early by.2)
-    at (Some false) e =
-        let lifted : is_killed policy (history ++ r ∷ []) o.account ≡ false = is_killed_next policy history r o.account ∙ ap (λ (m : Option Bool). unwrap_or m (is_killed policy history o.account)) e in
-        cc
+    at (Some (Some officer)) e = still (lifts_killed officer (kill_in_force policy history o.account) (now (Some (Some officer)) e))
 
 -- an order that is added is of an account that is not killed
 no_command : (q : Request) → is_order q ≡ true → action_of q ≡ None
@@ -221,7 +227,7 @@ new_order policy history r one follows his killed_now =
     ap (λ (g : Option Asked). option_and_then (λ (a : Asked). option_and_then (kill_or_lift_of one.o.account a.user) (action_of a.request)) g) (granted_is r one.a one.asks one.grants)
     ∙ ap (λ (action : Option Action). option_and_then (kill_or_lift_of one.o.account one.a.user) action) (no_command one.a.request one.is_for_order) in
     let killed : is_killed policy history one.o.account ≡ true =
-    sym (is_killed_next policy history r one.o.account ∙ ap (λ (m : Option Bool). unwrap_or m (is_killed policy history one.o.account)) no_mark) ∙ killed_now in
+    sym (is_killed_next policy history r one.o.account ∙ ap (λ (m : Option (Option UserName)). is_some (kill_after policy.lifters m (kill_in_force policy history one.o.account))) no_mark) ∙ killed_now in
     let not_killed : is_killed policy history one.o.account ≡ false =
     granted_is_not_killed policy history one.a r one.o.account (ap (next policy history) (sym one.asks) ∙ follows.is_next) one.grants one.is_for_order (ap (account_of policy) (sym one.his) ∙ his) in
     cc

@@ -6,6 +6,7 @@ use Rattle.std.proofs.lemmas.List.{append-nil}
 use Rattle.gx_units.specs.declared.names.AccountName.{AccountName}
 use Rattle.gx_units.specs.declared.names.UserName.{UserName}
 use Rattle.gx_desk.specs.declared.Action.{Action}
+use Rattle.gx_history_laws.proofs.KillsNext.{kill_in_force_next}
 use Rattle.gx_history.specs.declared.policy.PolicyData.{PolicyData}
 use Rattle.gx_history.specs.declared.record.Asked.{Asked}
 use Rattle.gx_history.specs.declared.record.RecordData.{RecordData}
@@ -18,14 +19,14 @@ use Rattle.gx_history.specs.declared.report.Report.{Report}
 use Rattle.gx_history.specs.Book.{rested, rested_of}
 use Rattle.gx_history.specs.Effects.{KeepsInForce}
 use Rattle.gx_history.specs.Executions.{Execution, executions, sides}
-use Rattle.gx_history.specs.InForce.{is_killed, kill_or_lift_of, is_closed, is_close, rules_in_force, line_of, line_by, grant_or_revoke_of}
+use Rattle.gx_history.specs.InForce.{kill_or_lift_of, is_closed, is_close, rules_in_force, line_of, line_by, grant_or_revoke_of, kill_after, kill_in_force}
 use Rattle.gx_history.specs.Orders.{Order, orders, orders_added, orders_made, size_asked, size_set, ends, ends_by_request, expires}
 use Rattle.gx_history.specs.Requests.{granted, granted_action, granted_mark, action_of}
 use Rattle.gx_history.specs.Streams.{stream, reports_of_grant, reported}
 use Rattle.gx_history.specs.Verdicts.{next}
 use Rattle.gx_history_laws.proofs.Adding.{granted_is}
 use Rattle.gx_history_laws.proofs.Keeping.{AddsNothing, EndsNone, entitled_kept}
-use Rattle.gx_history_laws.proofs.NextInForce.{is_killed_next, is_closed_next, rules_in_force_next, rules_with, line_of_next}
+use Rattle.gx_history_laws.proofs.NextInForce.{is_closed_next, rules_in_force_next, rules_with, line_of_next}
 use Rattle.gx_history_laws.proofs.NextOrders.{or_not, executions_next, rested_next}
 use Rattle.gx_history_laws.proofs.NextReports.{stream_next}
 use Rattle.gx_history_laws.proofs.Runs.{step_left}
@@ -88,9 +89,9 @@ pub record IsForOrders (q : Request) : Type 0 where
 pub in_force_kept : (policy : PolicyData) (history : List RecordData) (r : RecordData) (a : Asked) (q : Request) → Grants r a q → IsForOrders q → KeepsInForce policy history (history ++ r ∷ [])
 in_force_kept policy history r a q g plain = record {
   rules_kept = rules_in_force_next policy history r ∙ ap (rules_with (rules_in_force policy history)) (action_none r a q g plain.no_action);
-  killed_kept = λ (account : AccountName).
-      is_killed_next policy history r account
-      ∙ ap (λ (m : Option Bool). unwrap_or m (is_killed policy history account)) (mark_none (kill_or_lift_of account) r a q g plain.no_action);
+  kills_kept = λ (account : AccountName).
+      kill_in_force_next policy history r account
+      ∙ ap (λ (m : Option (Option UserName)). kill_after policy.lifters m (kill_in_force policy history account)) (mark_none (kill_or_lift_of account) r a q g plain.no_action);
   closed_kept =
       is_closed_next history r
       ∙ or_not (is_closed history) (option_map_or is_close (granted_action r) false) (ap (λ (x : Option Action). option_map_or is_close x false) (action_none r a q g plain.no_action));

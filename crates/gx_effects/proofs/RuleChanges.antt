@@ -113,7 +113,7 @@ limit_takes_effect policy history a r c name limit left asks is granted =
     let g : GrantsCommand r a action = grants_the_command policy history a r c action left asks is granted in
     changes_rule policy history r a c action name (with_limit limit) g asks is
     (record {
-      sets = record { ends_none = λ account. refl; kills_none = λ account officer. refl; closes_not = refl; tells_no_end = λ policy user. refl };
+      sets = record { ends_none = λ account. refl; kills_none = λ account officer. refl; closes_not = refl; is_answered_done = λ policy history. refl; tells_no_end = λ policy user. refl };
       changes = λ rules. refl;
       entitles_not = λ reader account officer. refl;
     })
@@ -135,7 +135,7 @@ pub restrict_takes_effect : (policy : PolicyData) (history : List RecordData) (a
 restrict_takes_effect policy history a r c name stock left asks is granted =
     stocks_take_effect policy history a r c (actions.Restrict name stock) name stock (adding stock) left asks is granted
     (record {
-      sets = record { ends_none = λ account. refl; kills_none = λ account officer. refl; closes_not = refl; tells_no_end = λ policy user. refl };
+      sets = record { ends_none = λ account. refl; kills_none = λ account officer. refl; closes_not = refl; is_answered_done = λ policy history. refl; tells_no_end = λ policy user. refl };
       changes = λ rules. refl;
       entitles_not = λ reader account officer. refl;
     })
@@ -147,7 +147,7 @@ pub unrestrict_takes_effect : (policy : PolicyData) (history : List RecordData) 
 unrestrict_takes_effect policy history a r c name stock left asks is granted =
     stocks_take_effect policy history a r c (actions.Unrestrict name stock) name stock (removing stock) left asks is granted
     (record {
-      sets = record { ends_none = λ account. refl; kills_none = λ account officer. refl; closes_not = refl; tells_no_end = λ policy user. refl };
+      sets = record { ends_none = λ account. refl; kills_none = λ account officer. refl; closes_not = refl; is_answered_done = λ policy history. refl; tells_no_end = λ policy user. refl };
       changes = λ rules. refl;
       entitles_not = λ reader account officer. refl;
     })

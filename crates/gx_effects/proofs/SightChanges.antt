@@ -58,7 +58,7 @@ grant_takes_effect policy history a r c written account left asks is granted =
     let action : Action = actions.Grant written account in
     changes_sight policy history r a c action written account true (grants_the_command policy history a r c action left asks is granted) asks is
     (record {
-      sets = record { ends_none = λ other. refl; kills_none = λ other officer. refl; closes_not = refl; tells_no_end = λ policy user. refl };
+      sets = record { ends_none = λ other. refl; kills_none = λ other officer. refl; closes_not = refl; is_answered_done = λ policy history. refl; tells_no_end = λ policy user. refl };
       changes_not = λ rules. refl;
       marks = λ reader other officer. refl;
     })
@@ -70,7 +70,7 @@ revoke_takes_effect policy history a r c written account left asks is granted =
     let action : Action = actions.Revoke written account in
     changes_sight policy history r a c action written account false (grants_the_command policy history a r c action left asks is granted) asks is
     (record {
-      sets = record { ends_none = λ other. refl; kills_none = λ other officer. refl; closes_not = refl; tells_no_end = λ policy user. refl };
+      sets = record { ends_none = λ other. refl; kills_none = λ other officer. refl; closes_not = refl; is_answered_done = λ policy history. refl; tells_no_end = λ policy user. refl };
       changes_not = λ rules. refl;
       marks = λ reader other officer. refl;
     })

@@ -25,7 +25,8 @@ use Rattle.gx_history.specs.declared.record.Step.TheVariants as steps
 use Rattle.gx_history.specs.declared.record.Verdict.TheVariants as verdicts
 use Rattle.gx_history.specs.Book.{IsAtRest, by_time, has_price, has_rested, incoming, is_ahead, is_on_side, resting}
 use Rattle.gx_history.specs.Commanded.{ChangesRule, ChangesSight, ClosesDay}
-use Rattle.gx_history.specs.Effects.{IsAsBefore, DeniesRequest, ChangesLine, TakesEffect, CutsOrder, ReplacesOrder, KillsAccount, LiftsAccount, IsGrantedLift, HasNoOrders}
+use Rattle.gx_effects.specs.Lifts.{EndsKill}
+use Rattle.gx_history.specs.Effects.{IsAsBefore, DeniesRequest, ChangesLine, TakesEffect, CutsOrder, ReplacesOrder, KillsAccount, LiftsAccount, HasNoOrders}
 use Rattle.gx_history.specs.Executions.{Standing, standing_numbered, standing_under, executions, done, live_orders, open_shares}
 use Rattle.gx_history.specs.Orders.{Order, orders, order_under, total}
 use Rattle.gx_history.specs.Requests.{is_order}
@@ -158,11 +159,11 @@ abbrev pub KilledHaveNoOrders : Type 0
 KilledHaveNoOrders = (policy : PolicyData) (history : List RecordData) (account : AccountName)
     → IsLegal policy history → IsTrue (is_killed policy history account) → HasNoOrders policy history account
 
--- a killed account is killed no longer only by a Lift, granted to an officer with the power and the account
+-- a killed account is killed no longer only by the Lift of the last of as many different officers as the policy asks for, each entitled to it
 abbrev pub KillsEndByLifts : Type 0
 KillsEndByLifts = (policy : PolicyData) (history : List RecordData) (r : RecordData) (account : AccountName)
-    → Follows policy (history, r) → IsTrue (is_killed policy history account) → IsFalse (is_killed policy (history ++ r ∷ []) account)
-    → IsGrantedLift policy account r
+    → IsLegal policy history → Follows policy (history, r) → IsTrue (is_killed policy history account) → IsFalse (is_killed policy (history ++ r ∷ []) account)
+    → EndsKill policy history account r
 
 -- a matching step leaves no record exactly where no order waits to be matched
 abbrev pub IdleWhereNoneWaits : Type 0

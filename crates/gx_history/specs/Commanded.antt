@@ -18,7 +18,7 @@ use Rattle.gx_history.specs.Asking.{rule_in_force}
 use Rattle.gx_history.specs.Book.{incoming, resting}
 use Rattle.gx_history.specs.Executions.{executions, live_orders}
 use Rattle.gx_history.specs.Figures.{positions}
-use Rattle.gx_history.specs.InForce.{is_killed, is_closed, is_entitled, line_of, rules_in_force, change_rule}
+use Rattle.gx_history.specs.InForce.{kill_in_force, is_closed, is_entitled, line_of, rules_in_force, change_rule}
 use Rattle.gx_history.specs.Orders.{orders}
 use Rattle.gx_history.specs.People.{role_in, is_reader}
 use Rattle.gx_history.specs.Streams.{stream, answer, ended, day_end, reported, to_user}
@@ -30,9 +30,9 @@ pub record KeepsOrders (policy : PolicyData) (before after : List RecordData) : 
   pub incoming_kept : incoming policy after ≡ incoming policy before
   pub resting_kept : (stock : Symbol) (buy : Bool) → resting policy after stock buy ≡ resting policy before stock buy
 
--- who is killed, who is logged in and whether the day is over are the same as before
+-- which kills are in force, who is logged in and whether the day is over are the same as before
 pub record KeepsDay (policy : PolicyData) (before after : List RecordData) : Type 0 where
-  pub killed_kept : (account : AccountName) → is_killed policy after account ≡ is_killed policy before account
+  pub kills_kept : (account : AccountName) → kill_in_force policy after account ≡ kill_in_force policy before account
   pub closed_kept : is_closed after ≡ is_closed before
   pub lines_kept : (user : UserName) → line_of after user ≡ line_of before user
 
@@ -73,7 +73,7 @@ pub record ClosesDay (policy : PolicyData) (before after : List RecordData) (r :
   pub orders_kept : orders policy after ≡ orders policy before
   pub executions_kept : executions policy after ≡ executions policy before
   pub rules_kept : rules_in_force policy after ≡ rules_in_force policy before
-  pub killed_kept : (account : AccountName) → is_killed policy after account ≡ is_killed policy before account
+  pub kills_kept : (account : AccountName) → kill_in_force policy after account ≡ kill_in_force policy before account
   pub lines_kept : (user : UserName) → line_of after user ≡ line_of before user
   pub entitled_kept : (reader : UserName) (account : AccountName) → is_entitled policy after reader account ≡ is_entitled policy before reader account
   pub told : (user : UserName) → stream policy after user

@@ -24,11 +24,11 @@ use Rattle.gx_history.specs.declared.record.Verdict.TheVariants as verdicts
 use Rattle.gx_history.specs.Book.{incoming, resting}
 use Rattle.gx_history.specs.Executions.{Standing, executions, done, standings, standing_under, is_live, live_orders}
 use Rattle.gx_history.specs.Figures.{positions}
-use Rattle.gx_history.specs.InForce.{is_killed, is_closed, is_entitled, line_of, rules_in_force}
+use Rattle.gx_history.specs.InForce.{is_killed, kill_in_force, kill_after, is_closed, is_entitled, line_of, rules_in_force}
 use Rattle.gx_history.specs.Orders.{Order, orders, entered, replacing, total, is_dead}
 use Rattle.gx_history.specs.People.{account_of, role_in, covers}
 use Rattle.gx_history.specs.Requests.{action_of}
-use Rattle.gx_history.specs.Streams.{stream, accepted, answer, ended, reported, reports_of_denial, to_user, canceled, replaced}
+use Rattle.gx_history.specs.Streams.{stream, accepted, answer, lift_code, ended, reported, reports_of_denial, to_user, canceled, replaced}
 
 -- orders, fills and so all figures, the book, and what is in force are the same as before
 pub record IsAsBefore (policy : PolicyData) (before after : List RecordData) : Type 0 where
@@ -37,7 +37,7 @@ pub record IsAsBefore (policy : PolicyData) (before after : List RecordData) : T
   pub incoming_kept : incoming policy after ≡ incoming policy before
   pub resting_kept : (stock : Symbol) (buy : Bool) → resting policy after stock buy ≡ resting policy before stock buy
   pub rules_kept : rules_in_force policy after ≡ rules_in_force policy before
-  pub killed_kept : (account : AccountName) → is_killed policy after account ≡ is_killed policy before account
+  pub kills_kept : (account : AccountName) → kill_in_force policy after account ≡ kill_in_force policy before account
   pub closed_kept : is_closed after ≡ is_closed before
   pub lines_kept : (user : UserName) → line_of after user ≡ line_of before user
   pub entitled_kept : (reader : UserName) (account : AccountName) → is_entitled policy after reader account ≡ is_entitled policy before reader account
@@ -49,7 +49,7 @@ whole_order policy r user account m = record { order = entered policy r user acc
 -- limits, lists, entitlements, logins, kills and the day's end are the same as before
 pub record KeepsInForce (policy : PolicyData) (before after : List RecordData) : Type 0 where
   pub rules_kept : rules_in_force policy after ≡ rules_in_force policy before
-  pub killed_kept : (account : AccountName) → is_killed policy after account ≡ is_killed policy before account
+  pub kills_kept : (account : AccountName) → kill_in_force policy after account ≡ kill_in_force policy before account
   pub closed_kept : is_closed after ≡ is_closed before
   pub lines_kept : (user : UserName) → line_of after user ≡ line_of before user
   pub entitled_kept : (reader : UserName) (account : AccountName) → is_entitled policy after reader account ≡ is_entitled policy before reader account
@@ -68,7 +68,7 @@ pub record ChangesLine (policy : PolicyData) (before after : List RecordData) (u
   pub incoming_kept : incoming policy after ≡ incoming policy before
   pub resting_kept : (stock : Symbol) (buy : Bool) → resting policy after stock buy ≡ resting policy before stock buy
   pub rules_kept : rules_in_force policy after ≡ rules_in_force policy before
-  pub killed_kept : (account : AccountName) → is_killed policy after account ≡ is_killed policy before account
+  pub kills_kept : (account : AccountName) → kill_in_force policy after account ≡ kill_in_force policy before account
   pub closed_kept : is_closed after ≡ is_closed before
   pub entitled_kept : (reader : UserName) (account : AccountName) → is_entitled policy after reader account ≡ is_entitled policy before reader account
   pub told_nothing : (reader : UserName) → stream policy after reader ≡ stream policy before reader
@@ -97,16 +97,16 @@ of_others account found = filter (λ (s : Standing). not (is_of account s)) foun
 
 -- limits, lists, entitlements, logins and the day's end are the same as before, and so is what is killed but for this account
 pub record OnlyKillChanges (policy : PolicyData) (before after : List RecordData) (account : AccountName) : Type 0 where
-  pub others_kept : (other : AccountName) → IsFalse (same_account account other) → is_killed policy after other ≡ is_killed policy before other
+  pub others_kept : (other : AccountName) → IsFalse (same_account account other) → kill_in_force policy after other ≡ kill_in_force policy before other
   pub rules_kept : rules_in_force policy after ≡ rules_in_force policy before
   pub closed_kept : is_closed after ≡ is_closed before
   pub lines_kept : (user : UserName) → line_of after user ≡ line_of before user
   pub entitled_kept : (reader : UserName) (other : AccountName) → is_entitled policy after reader other ≡ is_entitled policy before reader other
 
--- Kill: the account is killed, and none of its orders is live any more; the others are untouched and keep their places.
+-- Kill: the account is killed, nobody has lifted it since, and none of its orders is live any more; the others are untouched and keep their places.
 -- Each user is told of his orders that ended, by number, with the shares that were open; then the officer has his answer, and nobody is told anything else.
 pub record KillsAccount (policy : PolicyData) (before after : List RecordData) (r : RecordData) (officer : UserName) (c : Command) (account : AccountName) : Type 0 where
-  pub is_killed_now : is_killed policy after account ≡ true
+  pub kill_now : kill_in_force policy after account ≡ Some []
   pub live_left : live_orders policy after ≡ of_others account (live_orders policy before)
   pub incoming_left : incoming policy after ≡ of_others account (incoming policy before)
   pub resting_left : (stock : Symbol) (buy : Bool) → resting policy after stock buy ≡ of_others account (resting policy before stock buy)
@@ -116,15 +116,16 @@ pub record KillsAccount (policy : PolicyData) (before after : List RecordData) (
   pub told : (user : UserName) → stream policy after user
       ≡ stream policy before user ++ map (reported r) (ended policy before (actions.Kill account) user ++ to_user officer user (answer r c codes.Done))
 
--- Lift: the account is killed no longer. No order comes back. The officer has his answer, and nobody is told anything else.
+-- Lift: the officer counts among those who have lifted the account since its last Kill; it is killed no longer once these are as many as the policy
+-- asks for. No order comes back. The officer has his answer, which tells whether the account is killed still, and nobody is told anything else.
 pub record LiftsAccount (policy : PolicyData) (before after : List RecordData) (r : RecordData) (officer : UserName) (c : Command) (account : AccountName) : Type 0 where
-  pub is_lifted_now : is_killed policy after account ≡ false
+  pub kill_now : kill_in_force policy after account ≡ kill_after policy.lifters (Some (Some officer)) (kill_in_force policy before account)
   pub positions_kept : positions policy after ≡ positions policy before
   pub live_kept : live_orders policy after ≡ live_orders policy before
   pub incoming_kept : incoming policy after ≡ incoming policy before
   pub resting_kept : (stock : Symbol) (buy : Bool) → resting policy after stock buy ≡ resting policy before stock buy
   pub in_force : OnlyKillChanges policy before after account
-  pub told : (user : UserName) → stream policy after user ≡ stream policy before user ++ map (reported r) (to_user officer user (answer r c codes.Done))
+  pub told : (user : UserName) → stream policy after user ≡ stream policy before user ++ map (reported r) (to_user officer user (answer r c (lift_code (is_killed policy after account))))
 
 -- the record is a Lift of the account, granted to an officer who has the power for it and the account in his scope
 pub record IsGrantedLift (policy : PolicyData) (account : AccountName) (r : RecordData) : Type 0 where

@@ -1,3 +1,4 @@
+pub mod KillsNext
 pub mod Pushing
 pub mod NextInForce
 pub mod NextOrders

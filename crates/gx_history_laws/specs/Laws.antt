@@ -16,7 +16,7 @@ use Rattle.gx_history.specs.declared.record.Step.{Step}
 use Rattle.gx_history.specs.declared.record.Step.TheVariants as steps
 use Rattle.gx_history.specs.declared.record.Verdict.TheVariants as verdicts
 use Rattle.gx_history.specs.Executions.{Execution, Standing, live_orders, open_shares}
-use Rattle.gx_history.specs.InForce.{is_closed, is_killed, kill_or_lift_of, line_of, login_or_logout_of, record_closes}
+use Rattle.gx_history.specs.InForce.{is_closed, kill_after, kill_in_force, kill_or_lift_of, line_of, login_or_logout_of, record_closes}
 use Rattle.gx_history.specs.Orders.{Order, orders, ends_account, is_token_used, record_uses, total}
 use Rattle.gx_history.specs.Requests.{granted, granted_action, granted_mark, is_order}
 use Rattle.gx_history.specs.Lists.{are_distinct}
@@ -126,10 +126,11 @@ abbrev pub LinesGoOn : Type 0
 LinesGoOn = (history : List RecordData) (r : RecordData) (user : UserName)
     → line_of (history ++ r ∷ []) user ≡ unwrap_or (login_or_logout_of user r) (line_of history user)
 
--- a granted Kill or Lift of the account decides whether it is killed, and no other record does
+-- a granted Kill of the account is in force; a granted Lift of it counts its officer, and ends the Kill once as many different officers as the policy
+-- asks for have lifted it; no other record changes the Kill in force
 abbrev pub KillsGoOn : Type 0
 KillsGoOn = (policy : PolicyData) (history : List RecordData) (r : RecordData) (account : AccountName)
-    → is_killed policy (history ++ r ∷ []) account ≡ unwrap_or (granted_mark (kill_or_lift_of account) r) (is_killed policy history account)
+    → kill_in_force policy (history ++ r ∷ []) account ≡ kill_after policy.lifters (granted_mark (kill_or_lift_of account) r) (kill_in_force policy history account)
 
 -- a granted Close Day closes the day, and it stays closed
 abbrev pub DaysEnd : Type 0

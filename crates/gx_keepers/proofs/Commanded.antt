@@ -10,7 +10,7 @@ use Rattle.gx_units.specs.declared.names.AccountName.{AccountName}
 use Rattle.gx_units.specs.declared.names.UserName.{UserName}
 use Rattle.gx_desk.specs.declared.Action.{Action}
 use Rattle.gx_desk.specs.declared.Action.TheVariants as actions
-use Rattle.gx_desk.specs.declared.AnswerCode.TheVariants as codes
+use Rattle.gx_desk.specs.declared.AnswerCode.{AnswerCode}
 use Rattle.gx_desk.specs.declared.Command.{Command}
 use Rattle.gx_history.specs.declared.policy.FileRule.{FileRule}
 use Rattle.gx_history.specs.declared.policy.PolicyData.{PolicyData}
@@ -29,7 +29,7 @@ use Rattle.gx_history.specs.Orders.{ends_account}
 use Rattle.gx_history.specs.People.{account_named, is_trader, reader_in, role_in, user_in}
 use Rattle.gx_history.specs.Requests.{action_of}
 use Rattle.gx_history.specs.Soundness.{is_sound}
-use Rattle.gx_history.specs.Streams.{answer, day_end, ended, reported, reports_of, stream, to_user}
+use Rattle.gx_history.specs.Streams.{answer, day_end, ended, granted_code, lift_code, reported, reports_of, stream, to_user}
 use Rattle.gx_history.specs.Verdicts.{IsLegal, next}
 use Rattle.gx_history_laws.proofs.Adding.{user_is, user_is_itself}
 use Rattle.gx_history_laws.proofs.Judging.{both}
@@ -37,8 +37,10 @@ use Rattle.gx_history_laws.proofs.Names.{same_user_flip, users_differ}
 use Rattle.gx_history_laws.proofs.NextReports.{stream_next}
 use Rattle.gx_history_laws.proofs.Runs.{step_left}
 use Rattle.gx_effects.proofs.Commanding.{GrantsCommand, grants_the_command, told_by_command}
-use Rattle.gx_day.specs.InForce.{day_commanded}
-use Rattle.gx_day.proofs.Answering.{command_is_known}
+use Rattle.gx_day.specs.DayData.{DayData, at_moment}
+use Rattle.gx_day.specs.InForce.{day_commanded, day_in_force}
+use Rattle.gx_day.proofs.Answering.{command_is_known, known_kill_is_kept}
+use Rattle.gx_day.proofs.Going.{commanded_goes_on}
 use Rattle.gx_orders.specs.declared.live_order.LiveOrder.{LiveOrder}
 use Rattle.gx_orders.specs.Changes.{ended_message, is_lasting, keeps_orders, with_live}
 use Rattle.gx_orders.specs.InForce.{orders_in_force}
@@ -58,7 +60,7 @@ use Rattle.gx_streams.proofs.Places.{owed_taken}
 use Rattle.gx_streams.proofs.Telling.{GoesOn, all_owed_shown, more_told}
 use Rattle.gx_ledger.specs.Following.{ClosesAll}
 use Rattle.gx_keepers.specs.declared.keepers.Keepers.{Keepers}
-use Rattle.gx_keepers.specs.Ends.{HaveOwedPlaces, is_ended, live_left, owed_by_answer, owed_by_close, owed_by_command, owed_by_day_end, owed_by_day_ends, owed_by_end, owed_by_ends, trades}
+use Rattle.gx_keepers.specs.Ends.{HaveOwedPlaces, code_by, is_ended, live_left, owed_by_answer, owed_by_close, owed_by_command, owed_by_day_end, owed_by_day_ends, owed_by_end, owed_by_ends, trades}
 use Rattle.gx_keepers.specs.Keepers.{AreInForceBut, AreSentTo, HavePlaces, Takes}
 use Rattle.gx_keepers.specs.Ledgers.{ended_orders}
 use Rattle.gx_keepers.specs.Messages.{day_end_message}
@@ -166,9 +168,9 @@ close_is policy r (actions.Unrestrict rule stock) user sound = refl
 close_is policy r (actions.Grant reader account) user sound = refl
 close_is policy r (actions.Revoke reader account) user sound = refl
 
-answer_is : (r : RecordData) (officer user : UserName) (c : Command) → owed_to (owed_by_answer r officer c ∷ []) user ≡ map (reported r) (to_user officer user (answer r c codes.Done))
-answer_is r officer user c =
-    elim (same_user officer user) as (λ b. map (λ (x : UserName × Report). x.1) (cond b (owed_by_answer r officer c ∷ []) []) ≡ map (reported r) (cond b (answer r c codes.Done) []))
+answer_is : (r : RecordData) (officer user : UserName) (c : Command) (code : AnswerCode) → owed_to (owed_by_answer r officer c code ∷ []) user ≡ map (reported r) (to_user officer user (answer r c code))
+answer_is r officer user c code =
+    elim (same_user officer user) as (λ b. map (λ (x : UserName × Report). x.1) (cond b (owed_by_answer r officer c code ∷ []) []) ≡ map (reported r) (cond b (answer r c code) []))
     [ true ↦ refl | false ↦ refl ]
 
 -- ---- what is told of a granted command
@@ -177,10 +179,14 @@ grants : (policy : PolicyData) (history : List RecordData) (a : Asked) (r : Reco
     → Takes policy history a r k → r.verdict ≡ verdicts.Granted → a.request ≡ requests.Command c → GrantsCommand r a c.action
 grants policy history a r c k t granted asks = grants_the_command policy history a r c c.action t.left asks refl granted
 
+-- the code of its answer, by the records
+abbrev pub code_left : PolicyData → List RecordData → RecordData → Command → AnswerCode
+code_left policy history r c = granted_code policy (history ++ r ∷ []) c.action
+
 -- what its record owes
 pub command_owes : (policy : PolicyData) (history : List RecordData) (a : Asked) (r : RecordData) (c : Command) (k : Keepers) (user : UserName)
     → Takes policy history a r k → r.verdict ≡ verdicts.Granted → a.request ≡ requests.Command c
-    → reports_of policy user (history, r) ≡ map (reported r) (ended policy history c.action user ++ day_end policy c.action user ++ to_user a.user user (answer r c codes.Done))
+    → reports_of policy user (history, r) ≡ map (reported r) (ended policy history c.action user ++ day_end policy c.action user ++ to_user a.user user (answer r c (code_left policy history r c)))
 command_owes policy history a r c k user t granted asks =
     append_cancel_left (stream policy history user) _ _
     (sym (stream_next policy history r user) ∙ told_by_command policy history r a c c.action user (grants policy history a r c k t granted asks) asks refl)
@@ -188,41 +194,74 @@ command_owes policy history a r c k user t granted asks =
 -- as the keepers tell it
 owed_now : (policy : PolicyData) (history : List RecordData) (a : Asked) (r : RecordData) (c : Command) (k : Keepers) (user : UserName)
     → Takes policy history a r k → r.verdict ≡ verdicts.Granted → a.request ≡ requests.Command c → is_sound policy ≡ true
-    → reports_of policy user (history, r) ≡ owed_to (owed_by_command policy r a.user c k.orders.live) user
+    → reports_of policy user (history, r) ≡ owed_to (owed_by_command policy r a.user c (code_left policy history r c) k.orders.live) user
 owed_now policy history a r c k user t granted asks sound =
     let live : List LiveOrder = (orders_in_force policy history).live in
     let ends : List (UserName × Report) = owed_by_ends c.action r.moment live in
     let close : List (UserName × Report) = owed_by_close c.action r.moment policy.users in
-    let done : List (UserName × Report) = owed_by_answer r a.user c ∷ [] in
+    let done : List (UserName × Report) = owed_by_answer r a.user c (code_left policy history r c) ∷ [] in
     let ends_are : map (reported r) (ended policy history c.action user) ≡ owed_to ends user =
     ap (map (reported r)) (ends_are_told policy history c.action user) ∙ sym (owed_is c.action r.moment user live) in
     command_owes policy history a r c k user t granted asks
-    ∙ map-append (reported r) (ended policy history c.action user ++ day_end policy c.action user) (to_user a.user user (answer r c codes.Done))
-    ∙ ap (λ (rs : List Report). rs ++ map (reported r) (to_user a.user user (answer r c codes.Done))) (map-append (reported r) (ended policy history c.action user) (day_end policy c.action user))
-    ∙ append_assoc (map (reported r) (ended policy history c.action user)) (map (reported r) (day_end policy c.action user)) (map (reported r) (to_user a.user user (answer r c codes.Done)))
-    ∙ ap (λ (rs : List Report). rs ++ (map (reported r) (day_end policy c.action user) ++ map (reported r) (to_user a.user user (answer r c codes.Done)))) ends_are
-    ∙ ap (λ (rs : List Report). owed_to ends user ++ (rs ++ map (reported r) (to_user a.user user (answer r c codes.Done)))) (sym (close_is policy r c.action user sound))
-    ∙ ap (λ (rs : List Report). owed_to ends user ++ (owed_to close user ++ rs)) (sym (answer_is r a.user user c))
+    ∙ map-append (reported r) (ended policy history c.action user ++ day_end policy c.action user) (to_user a.user user (answer r c (code_left policy history r c)))
+    ∙ ap (λ (rs : List Report). rs ++ map (reported r) (to_user a.user user (answer r c (code_left policy history r c)))) (map-append (reported r) (ended policy history c.action user) (day_end policy c.action user))
+    ∙ append_assoc (map (reported r) (ended policy history c.action user)) (map (reported r) (day_end policy c.action user)) (map (reported r) (to_user a.user user (answer r c (code_left policy history r c))))
+    ∙ ap (λ (rs : List Report). rs ++ (map (reported r) (day_end policy c.action user) ++ map (reported r) (to_user a.user user (answer r c (code_left policy history r c))))) ends_are
+    ∙ ap (λ (rs : List Report). owed_to ends user ++ (rs ++ map (reported r) (to_user a.user user (answer r c (code_left policy history r c))))) (sym (close_is policy r c.action user sound))
+    ∙ ap (λ (rs : List Report). owed_to ends user ++ (owed_to close user ++ rs)) (sym (answer_is r a.user user c (code_left policy history r c)))
     ∙ ap (λ (rs : List Report). owed_to ends user ++ rs) (sym (owed_both user close done))
     ∙ sym (owed_both user ends (close ++ done))
-    ∙ ap (λ (orders : OrdersData). owed_to (owed_by_command policy r a.user c orders.live) user) (sym t.in_force.orders)
+    ∙ ap (λ (orders : OrdersData). owed_to (owed_by_command policy r a.user c (code_left policy history r c) orders.live) user) (sym t.in_force.orders)
 
 -- each user is told what is owed to him
 command_tells : (policy : PolicyData) (history : List RecordData) (a : Asked) (r : RecordData) (c : Command) (k : Keepers)
     → Takes policy history a r k → r.verdict ≡ verdicts.Granted → a.request ≡ requests.Command c → is_sound policy ≡ true
-    → GoesOn policy history (history ++ r ∷ []) (owed_to (owed_by_command policy r a.user c k.orders.live))
+    → GoesOn policy history (history ++ r ∷ []) (owed_to (owed_by_command policy r a.user c (code_left policy history r c) k.orders.live))
 command_tells policy history a r c k t granted asks sound user =
     stream_next policy history r user ∙ ap (λ (rs : List Report). stream policy history user ++ rs) (owed_now policy history a r c k user t granted asks sound)
 
+same_code : (day : DayData) (moment : ℕ) (action : Action) → code_by (at_moment moment day) action ≡ code_by day action
+same_code day moment (actions.Kill account) = refl
+same_code day moment (actions.Lift account) = refl
+same_code day moment actions.CloseDay = refl
+same_code day moment (actions.SetLimit rule limit) = refl
+same_code day moment (actions.Restrict rule stock) = refl
+same_code day moment (actions.Unrestrict rule stock) = refl
+same_code day moment (actions.Grant reader account) = refl
+same_code day moment (actions.Revoke reader account) = refl
+
+code_kept : (policy : PolicyData) (history now : List RecordData) (action : Action) → knows_names policy history action ≡ true → code_by (day_in_force policy now) action ≡ granted_code policy now action
+code_kept policy history now (actions.Kill account) known = refl
+code_kept policy history now (actions.Lift account) known = ap (λ (kill : Option (List UserName)). lift_code (is_some kill)) (known_kill_is_kept policy now account known)
+code_kept policy history now actions.CloseDay known = refl
+code_kept policy history now (actions.SetLimit rule limit) known = refl
+code_kept policy history now (actions.Restrict rule stock) known = refl
+code_kept policy history now (actions.Unrestrict rule stock) known = refl
+code_kept policy history now (actions.Grant reader account) known = refl
+code_kept policy history now (actions.Revoke reader account) known = refl
+
+-- the day that the command leaves tells the code of its answer
+pub code_is_left : (policy : PolicyData) (history : List RecordData) (a : Asked) (r : RecordData) (c : Command) (k : Keepers) (day : DayData) (code : AnswerCode)
+    → Takes policy history a r k → r.verdict ≡ verdicts.Granted → a.request ≡ requests.Command c → day ≡ day_commanded a.user c.action k.day → code ≡ code_by day c.action
+    → code ≡ code_left policy history r c
+code_is_left policy history a r c k day code t granted asks day_is code_is =
+    code_is
+    ∙ ap (λ (d : DayData). code_by d c.action) (day_is ∙ ap (day_commanded a.user c.action) t.in_force.day)
+    ∙ sym (same_code (day_commanded a.user c.action (day_in_force policy history)) r.moment c.action)
+    ∙ sym (ap (λ (d : DayData). code_by d c.action) (commanded_goes_on policy history r a c c.action granted (step_left policy history (steps.Asked a) r t.left) asks refl))
+    ∙ code_kept policy history (history ++ r ∷ []) c.action (command_is_known policy history a r c t.left granted asks)
+
 -- and has a place for it
-pub command_places : (policy : PolicyData) (history : List RecordData) (a : Asked) (r : RecordData) (c : Command) (k : Keepers) (streams : AllStreams) (now : List User)
-    → streams ≡ sent_on policy k.people now k.streams c.action
+pub command_places : (policy : PolicyData) (history : List RecordData) (a : Asked) (r : RecordData) (c : Command) (k : Keepers) (streams : AllStreams) (now : List User) (day : DayData) (code : AnswerCode)
+    → day ≡ day_commanded a.user c.action k.day → code ≡ code_by day c.action → streams ≡ sent_on policy k.people now k.streams c.action
     → Takes policy history a r k → HavePlaces policy history r k.streams → r.verdict ≡ verdicts.Granted → a.request ≡ requests.Command c → is_sound policy ≡ true
-    → HaveOwedPlaces (owed_by_command policy r a.user c k.orders.live) streams
-command_places policy history a r c k streams now sent_is t places granted asks sound user =
-    subst (λ (told : List (UserList Report)). length (owed_to (owed_by_command policy r a.user c k.orders.live) user) ≤ places_in told user)
+    → HaveOwedPlaces (owed_by_command policy r a.user c code k.orders.live) streams
+command_places policy history a r c k streams now day code day_is code_is sent_is t places granted asks sound user =
+    subst (λ (x : AnswerCode). length (owed_to (owed_by_command policy r a.user c x k.orders.live) user) ≤ places_in streams.told user)
+    (sym (code_is_left policy history a r c k day code t granted asks day_is code_is)) (
+    subst (λ (told : List (UserList Report)). length (owed_to (owed_by_command policy r a.user c (code_left policy history r c) k.orders.live) user) ≤ places_in told user)
     (sym (ap (λ (s : AllStreams). s.told) sent_is ∙ sent_told policy k.people now k.streams c.action))
-    (subst (λ (reports : List Report). length reports ≤ places_in k.streams.told user) (owed_now policy history a r c k user t granted asks sound) (places user))
+    (subst (λ (reports : List Report). length reports ≤ places_in k.streams.told user) (owed_now policy history a r c k user t granted asks sound) (places user)))
 
 -- ---- telling in turn
 
@@ -312,15 +351,17 @@ orders_left policy history a r c legal left granted asks (actions.Unrestrict rul
 orders_left policy history a r c legal left granted asks (actions.Grant reader account) is = others_keep policy history a r legal left granted (ap keeps_orders asks ∙ ap is_lasting is)
 orders_left policy history a r c legal left granted asks (actions.Revoke reader account) is = others_keep policy history a r legal left granted (ap keeps_orders asks ∙ ap is_lasting is)
 
-pub command_goes_on : (policy : PolicyData) (history : List RecordData) (a : Asked) (r : RecordData) (c : Command) (before k : Keepers) (sent : AllStreams)
+pub command_goes_on : (policy : PolicyData) (history : List RecordData) (a : Asked) (r : RecordData) (c : Command) (code : AnswerCode) (before k : Keepers) (sent : AllStreams)
     → Takes policy history a r before → r.verdict ≡ verdicts.Granted → a.request ≡ requests.Command c → is_sound policy ≡ true
     → k.people ≡ given before.people c.action → sent ≡ sent_on policy before.people k.people before.streams c.action
-    → k.rules ≡ changed before.rules c.action → k.day ≡ day_commanded c.action before.day
+    → k.rules ≡ changed before.rules c.action → k.day ≡ day_commanded a.user c.action before.day
     → k.orders ≡ with_live (live_left c.action before.orders.live) before.orders → k.book ≡ ended_by c.action before.book
-    → ClosesAll (ended_orders c.action before.orders.live) before.ledger k.ledger → k.streams ≡ with_all_owed (owed_by_command policy r a.user c before.orders.live) sent
+    → ClosesAll (ended_orders c.action before.orders.live) before.ledger k.ledger → code ≡ code_by k.day c.action → k.streams ≡ with_all_owed (owed_by_command policy r a.user c code before.orders.live) sent
     → AreInForceBut policy history r k
-command_goes_on policy history a r c before k sent t granted asks sound people_are sent_is rules_are day_is orders_are book_is closes streams_are =
-    let owed : List (UserName × Report) = owed_by_command policy r a.user c before.orders.live in
+command_goes_on policy history a r c code before k sent t granted asks sound people_are sent_is rules_are day_is orders_are book_is closes code_is told =
+    let owed : List (UserName × Report) = owed_by_command policy r a.user c (code_left policy history r c) before.orders.live in
+    let streams_are : k.streams ≡ with_all_owed owed sent =
+    told ∙ ap (λ (x : AnswerCode). with_all_owed (owed_by_command policy r a.user c x before.orders.live) sent) (code_is_left policy history a r c before k.day code t granted asks day_is code_is) in
     by_grant policy history a r before k (requests.Command c) t.in_force granted (step_left policy history (steps.Asked a) r t.left) asks people_are rules_are day_is
     (orders_are ∙ ap (λ (orders : OrdersData). with_live (live_left c.action orders.live) orders) t.in_force.orders
     ∙ sym (orders_left policy history a r c t.legal t.left granted asks c.action refl))

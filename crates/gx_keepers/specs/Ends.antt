@@ -4,6 +4,7 @@ use Rattle.std.specs.List.{filter}
 use Rattle.gx_units.specs.declared.names.UserName.{UserName}
 use Rattle.gx_desk.specs.declared.Action.{Action}
 use Rattle.gx_desk.specs.declared.Action.TheVariants as actions
+use Rattle.gx_desk.specs.declared.AnswerCode.{AnswerCode}
 use Rattle.gx_desk.specs.declared.AnswerCode.TheVariants as codes
 use Rattle.gx_desk.specs.declared.Command.{Command}
 use Rattle.gx_history.specs.declared.policy.PolicyData.{PolicyData}
@@ -12,6 +13,8 @@ use Rattle.gx_history.specs.declared.record.RecordData.{RecordData}
 use Rattle.gx_history.specs.declared.report.Report.{Report}
 use Rattle.gx_history.specs.Orders.{ends_account}
 use Rattle.gx_history.specs.People.{is_trader}
+use Rattle.gx_history.specs.Streams.{lift_code}
+use Rattle.gx_day.specs.DayData.{DayData, killed_in}
 use Rattle.gx_orders.specs.declared.live_order.LiveOrder.{LiveOrder}
 use Rattle.gx_orders.specs.Changes.{ended_message}
 use Rattle.gx_orders.specs.LiveOrders.{of_others}
@@ -56,18 +59,23 @@ abbrev pub owed_by_close : Action → ℕ → List User → List (UserName × Re
 owed_by_close actions.CloseDay moment users = owed_by_day_ends moment users
 owed_by_close other moment users = []
 
+-- the code of the answer to a granted action, by the day that it leaves
+abbrev pub code_by : DayData → Action → AnswerCode
+code_by day (actions.Lift account) = lift_code (killed_in day account)
+code_by day other = codes.Done
+
 -- the answer, for the officer
-abbrev pub owed_by_answer : RecordData → UserName → Command → UserName × Report
-owed_by_answer r officer c = (officer, record { timestamp = r.moment; message = answer_message r c codes.Done })
+abbrev pub owed_by_answer : RecordData → UserName → Command → AnswerCode → UserName × Report
+owed_by_answer r officer c code = (officer, record { timestamp = r.moment; message = answer_message r c code })
 
 -- all that the record of a granted command owes: its answer comes last
-abbrev pub owed_by_command : PolicyData → RecordData → UserName → Command → List LiveOrder → List (UserName × Report)
-owed_by_command policy r officer c live =
-    owed_by_ends c.action r.moment live ++ (owed_by_close c.action r.moment policy.users ++ owed_by_answer r officer c ∷ [])
+abbrev pub owed_by_command : PolicyData → RecordData → UserName → Command → AnswerCode → List LiveOrder → List (UserName × Report)
+owed_by_command policy r officer c code live =
+    owed_by_ends c.action r.moment live ++ (owed_by_close c.action r.moment policy.users ++ owed_by_answer r officer c code ∷ [])
 
 -- where this is the next record
-abbrev pub owed_by_next : NextRecord → Command → List LiveOrder → List (UserName × Report)
-owed_by_next n c live = owed_by_command n.policy.now n.left.now n.asked.now.user c live
+abbrev pub owed_by_next : NextRecord → Command → AnswerCode → List LiveOrder → List (UserName × Report)
+owed_by_next n c code live = owed_by_command n.policy.now n.left.now n.asked.now.user c code live
 
 -- each user has a place for each report that is for him
 abbrev pub HaveOwedPlaces : List (UserName × Report) → AllStreams → Type 0
@@ -86,5 +94,5 @@ abbrev pub told_of_close : Action → ℕ → List User → AllStreams → AllSt
 told_of_close action moment users streams = with_all_owed (owed_by_close action moment users) streams
 
 -- all that the next record owes told
-abbrev pub told_by_next : NextRecord → Command → List LiveOrder → AllStreams → AllStreams
-told_by_next n c live streams = with_all_owed (owed_by_next n c live) streams
+abbrev pub told_by_next : NextRecord → Command → AnswerCode → List LiveOrder → AllStreams → AllStreams
+told_by_next n c code live streams = with_all_owed (owed_by_next n c code live) streams

@@ -4,7 +4,8 @@ ghost use Rattle.std.specs.Prelude.{◌≡◌, IsOk, OnOk, OnErr};
 ghost use Rattle.gx_day.specs.InForce.{day_commanded};
 ghost use Rattle.gx_history.specs.declared.record.Request.TheVariants as requests;
 ghost use Rattle.gx_history.specs.declared.record.Verdict.TheVariants as verdicts;
-ghost use Rattle.gx_keepers.specs.Ends.{owed_by_close, owed_by_day_ends, owed_by_next};
+ghost use Rattle.gx_history.specs.Streams.{lift_code};
+ghost use Rattle.gx_keepers.specs.Ends.{code_by, owed_by_close, owed_by_day_ends, owed_by_next};
 ghost use Rattle.gx_keepers.specs.Ends.{told_by_next, told_of_close, told_of_day_end, trades};
 ghost use Rattle.gx_keepers.specs.Ends.{HaveOwedPlaces};
 ghost use Rattle.gx_keepers.specs.Keepers.{AreAfterBut, AreBefore, IsNext, IsPlaced};
@@ -21,7 +22,7 @@ use gx_history::policy::{Policy, Role, User};
 use gx_history::report::Report;
 use gx_orders::orders::Orders;
 use gx_streams::streams::Streams;
-use gx_units::{Moment, OutOfMemory};
+use gx_units::{Moment, OutOfMemory, UserName};
 
 /// Whether the user trades for an account.
 fn trades(user: &User) -> bool
@@ -63,27 +64,55 @@ fn tell_of_close(streams: &mut Streams, policy: &Policy, action: &Action, moment
 }
 
 /// Tells of a granted command: the users of the orders that it ends, then each trader of the end of
-/// the day, if it closes it, and last the officer.
-fn tell_of_command(streams: &mut Streams, orders: &Orders, next: NextRecord<'_>, c: &Command)
-    requires { HaveOwedPlaces (owed_by_next next c.now orders.now.live) streams.old }
-    ensures { streams.new ≡ told_by_next next.entry c.now orders.now.live streams.old }
+/// the day, if it closes it, and last the officer, with this code.
+fn tell_of_command(
+    streams: &mut Streams,
+    orders: &Orders,
+    next: NextRecord<'_>,
+    c: &Command,
+    code: AnswerCode,
+)
+    requires { HaveOwedPlaces (owed_by_next next c.now code orders.now.live) streams.old }
+    ensures { streams.new ≡ told_by_next next.entry c.now code orders.now.live streams.old }
 {
     let moment = next.left.moment;
     tell_of_ends(streams, orders, &c.action, moment);
     tell_of_close(streams, next.policy, &c.action, moment);
-    let done = answer(next.left, c, AnswerCode::Done);
-    tell(streams, next.asked.user, moment, Some(done));
+    let answered = answer(next.left, c, code);
+    tell(streams, next.asked.user, moment, Some(answered));
 }
 
-/// Kills or lifts an account, or closes the day, as the command says; any other leaves the day.
-fn set_day(day: &mut Day, action: &Action)
-    ensures { day.new ≡ day_commanded action.now day.old }
+/// Kills an account, counts the officer among those who have lifted it, or closes the day, as the
+/// action says; any other leaves the day.
+fn set_day(day: &mut Day, officer: UserName, action: &Action)
+    ensures { day.new ≡ day_commanded officer action.now day.old }
 {
     match *action {
         Action::Kill(account) => day.kill(account),
-        Action::Lift(account) => day.lift(account),
+        Action::Lift(account) => day.lift(account, officer),
         Action::CloseDay => day.close(),
         _ => {}
+    }
+}
+
+/// The code of the answer to a granted action, by the day that it leaves.
+fn granted_code(day: &Day, action: &Action) -> AnswerCode
+    ensures { result ≡ code_by day.now action.now }
+{
+    match *action {
+        Action::Lift(account) => lift_code(day.is_killed(account)),
+        _ => AnswerCode::Done,
+    }
+}
+
+/// The code of the answer to a granted Lift, by whether its account is killed still.
+fn lift_code(still_killed: bool) -> AnswerCode
+    ensures { result ≡ lift_code still_killed }
+{
+    if still_killed {
+        AnswerCode::PartlyLifted
+    } else {
+        AnswerCode::Done
     }
 }
 
@@ -117,13 +146,14 @@ pub fn apply_command(
         next.policy,
         &c.action,
     )?;
-    tell_of_command(&mut keepers.streams, &keepers.orders, next, c);
+    set_day(&mut keepers.day, next.asked.user, &c.action);
+    let code = granted_code(&keepers.day, &c.action);
+    tell_of_command(&mut keepers.streams, &keepers.orders, next, c, code);
     end_orders(
         &mut keepers.ledger,
         &mut keepers.orders,
         &mut keepers.book,
         &c.action,
     );
-    set_day(&mut keepers.day, &c.action);
     Ok(())
 }

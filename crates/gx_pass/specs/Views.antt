@@ -3,6 +3,7 @@ use Rattle.std.specs.Prelude.{ℕ, ◌+◌, ◌==◌, List, [], ◌∷◌, lengt
 use Rattle.std.specs.List.{filter}
 use Rattle.atomic_table.specs.Seated.{TableId}
 use Rattle.gx_history.specs.declared.policy.PolicyData.{PolicyData}
+use Rattle.gx_history.specs.declared.policy.Lifters.TheVariants.{One}
 use Rattle.gx_history.specs.declared.record.RecordData.{RecordData}
 use Rattle.gx_history.specs.declared.record.Step.{Step}
 use Rattle.gx_history.specs.declared.record.Step.TheVariants as steps
@@ -19,7 +20,7 @@ no_table = record { words = 0; slots = 0; views_name = 0; atom = 0; block = 0; o
 
 -- the policy of nobody
 abbrev pub no_policy : PolicyData
-no_policy = record { session = blank_session; accounts = []; stocks = []; users = []; rules = [] }
+no_policy = record { session = blank_session; lifters = One; accounts = []; stocks = []; users = []; rules = [] }
 
 -- the record of nothing
 abbrev pub no_record : RecordData

@@ -6,30 +6,20 @@ ghost use Rattle.gx_pass.specs.Views.{retold};
 use crate::name::GateName;
 use crate::view::{Board, Place, Tells};
 use std::alloc::{AllocError, Global};
-use std::error::Error;
-use std::fmt;
 use std::marker::{Model, PhantomData};
 use std::sync::Arc;
+use thiserror::Error;
 
 /// Why no pass was issued. Nothing has changed then.
-#[derive(Clone, Copy, Debug, PartialEq, Eq)]
+#[derive(Clone, Copy, Debug, PartialEq, Eq, Error)]
 pub enum PassFault {
     /// The allocator refused the pass.
+    #[error("out of memory")]
     OutOfMemory,
     /// All 65,535 lines were issued.
+    #[error("no lines left")]
     NoLines,
 }
-
-impl fmt::Display for PassFault {
-    fn fmt<W: fmt::Write>(&self, f: &mut fmt::Formatter<W>) -> fmt::Result {
-        match self {
-            PassFault::OutOfMemory => write!(f, "out of memory"),
-            PassFault::NoLines => write!(f, "no lines left"),
-        }
-    }
-}
-
-impl Error for PassFault {}
 
 impl From<AllocError> for PassFault {
     ghost use Rattle.std.specs.Prelude.{◌≡◌};

@@ -14,7 +14,6 @@ use Rattle.gx_ouch.specs.declared.letters.CancelReason.TheVariants as cancels
 use Rattle.gx_desk.specs.declared.Action.{Action}
 use Rattle.gx_desk.specs.declared.Action.TheVariants as actions
 use Rattle.gx_desk.specs.declared.AnswerCode.{AnswerCode}
-use Rattle.gx_desk.specs.declared.AnswerCode.TheVariants as codes
 use Rattle.gx_desk.specs.declared.Command.{Command}
 use Rattle.gx_history.specs.declared.policy.Account.{Account}
 use Rattle.gx_history.specs.declared.policy.PolicyData.{PolicyData}
@@ -31,13 +30,13 @@ use Rattle.gx_history.specs.declared.record.Verdict.TheVariants as verdicts
 use Rattle.gx_history.specs.declared.report.Message.{Message}
 use Rattle.gx_history.specs.Effects.{ChangesLine, CutsOrder, DeniesRequest, ReplacesOrder, TakesEffect, replacement, shares_left, still_open, whole_order}
 use Rattle.gx_history.specs.Executions.{Standing, live_orders}
-use Rattle.gx_history.specs.InForce.{is_killed, line_of}
+use Rattle.gx_history.specs.InForce.{line_of}
 use Rattle.gx_history.specs.Matched.{ExpiresOrder, FillsOrders, RestsOrder, left_by_fill}
 use Rattle.gx_history.specs.Orders.{entered}
 use Rattle.gx_history.specs.People.{is_trader, role_in, user_in}
 use Rattle.gx_history.specs.Reasons.{denial_code}
 use Rattle.gx_history.specs.Requests.{is_judged, is_unreadable}
-use Rattle.gx_history.specs.Streams.{accepted, answer, canceled, day_end, ended, rejected, replaced, reported, reports_of, reports_of_denial, stream, to_user}
+use Rattle.gx_history.specs.Streams.{accepted, answer, canceled, granted_code, day_end, ended, rejected, replaced, reported, reports_of, reports_of_denial, stream, to_user}
 use Rattle.gx_history.specs.Verdicts.{IsLegal, next}
 use Rattle.gx_history_laws.proofs.Adding.{found_passes, user_is, user_is_itself}
 use Rattle.gx_history_laws.proofs.Granting.{asked_is_judged}
@@ -119,7 +118,7 @@ denial policy history a r rule is = record {
       by_asker (length (reports_of policy user (history, r))) (orders_held policy (history ++ r ∷ []) user) (orders_held policy history user) (length (reports_of_denial policy r rule a.request)) (same_user a.user user)
       (told_so policy history r user _ (is.told user) ∙ to_one a.user user (reports_of_denial policy r rule a.request)) (denied_few policy r rule a.request)
       (no_order _ _ (same_user a.user user) (held_same policy history (history ++ r ∷ []) user is.as_before.live_kept));
-  stay = none_lifted policy history (history ++ r ∷ []) is.as_before.killed_kept;
+  stay = none_lifted policy history (history ++ r ∷ []) is.as_before.kills_kept;
 }
 
 line : (policy : PolicyData) (history : List RecordData) (a : Asked) (r : RecordData) (on : Option ℕ) → ChangesLine policy history (history ++ r ∷ []) a.user on
@@ -134,7 +133,7 @@ line policy history a r on is user =
 line_few : (policy : PolicyData) (history : List RecordData) (a : Asked) (r : RecordData) (on : Option ℕ) → ChangesLine policy history (history ++ r ∷ []) a.user on → WantsFew policy history r a
 line_few policy history a r on is = record {
   few = λ (user : UserName). omega (arith, line policy history a r on is user);
-  stay = none_lifted policy history (history ++ r ∷ []) is.killed_kept;
+  stay = none_lifted policy history (history ++ r ∷ []) is.kills_kept;
 }
 
 enter : (policy : PolicyData) (history : List RecordData) (a : Asked) (r : RecordData) (m : EnterOrder) → TakesEffect policy history (history ++ r ∷ []) r a.user m → WantsFew policy history r a
@@ -145,7 +144,7 @@ enter policy history a r m is = record {
       ap (λ (ss : List Standing). length (filter (is_of_user user) ss)) is.live_more ∙ one_more_last (is_of_user user) new (live_orders policy history) in
       by_asker (length (reports_of policy user (history, r))) (orders_held policy (history ++ r ∷ []) user) (orders_held policy history user) 1 (same_user a.user user)
       (told_so policy history r user _ (is.told user) ∙ to_one a.user user (accepted (entered policy r a.user is.account m))) (omega arith) (omega (arith, more));
-  stay = none_lifted policy history (history ++ r ∷ []) is.in_force.killed_kept;
+  stay = none_lifted policy history (history ++ r ∷ []) is.in_force.kills_kept;
 }
 
 replace : (policy : PolicyData) (history : List RecordData) (a : Asked) (r : RecordData) (m : ReplaceOrder) → ReplacesOrder policy history (history ++ r ∷ []) r a.user m → WantsFew policy history r a
@@ -163,7 +162,7 @@ replace policy history a r m is = record {
       ∙ ap (λ (u : UserName). length (filter (is_of_user user) (filter stays live)) + cond (same_user u user) 1 0) his in
       by_asker (length (reports_of policy user (history, r))) (orders_held policy (history ++ r ∷ []) user) (orders_held policy history user) 1 (same_user a.user user)
       (told_so policy history r user _ (is.told user) ∙ to_one a.user user (replaced new)) (omega arith) (omega (arith, more, fewer_left (is_of_user user) stays live));
-  stay = none_lifted policy history (history ++ r ∷ []) is.in_force.killed_kept;
+  stay = none_lifted policy history (history ++ r ∷ []) is.in_force.kills_kept;
 }
 
 cancel : (policy : PolicyData) (history : List RecordData) (a : Asked) (r : RecordData) (m : CancelOrder) → CutsOrder policy history (history ++ r ∷ []) r a.user m → WantsFew policy history r a
@@ -174,7 +173,7 @@ cancel policy history a r m is = record {
       by_asker (length (reports_of policy user (history, r))) (orders_held policy (history ++ r ∷ []) user) (orders_held policy history user) 1 (same_user a.user user)
       (told_so policy history r user _ (is.told user) ∙ to_one a.user user (canceled cancels.UserRequested (is.cut.open_shares - is.left) is.cut.order)) (omega arith)
       (no_order _ _ (same_user a.user user) fewer);
-  stay = none_lifted policy history (history ++ r ∷ []) is.in_force.killed_kept;
+  stay = none_lifted policy history (history ++ r ∷ []) is.in_force.kills_kept;
 }
 
 one_if : (b : Bool) (message : Message) → length (cond b (message ∷ []) []) ≤ 1
@@ -198,7 +197,7 @@ command : (policy : PolicyData) (history : List RecordData) (a : Asked) (r : Rec
 command policy history a r c action user legal left asks is g =
     let ends : List Message = ended policy history action user in
     let close : List Message = day_end policy action user in
-    let done : List Message = to_user a.user user (answer r c codes.Done) in
+    let done : List Message = to_user a.user user (answer r c (granted_code policy (history ++ r ∷ []) action)) in
     let told : length (reports_of policy user (history, r)) ≡ length (ends ++ close ++ done) =
     told_so policy history r user (ends ++ close ++ done) (told_by_command policy history r a c action user g asks is) in
     omega (
@@ -206,7 +205,7 @@ command policy history a r c action user legal left asks is g =
       told,
       length-append (ends ++ close) done,
       length-append ends close,
-      to_one a.user user (answer r c codes.Done),
+      to_one a.user user (answer r c (granted_code policy (history ++ r ∷ []) action)),
       held_and_ended policy history a r action user legal left g,
     )
 
@@ -340,7 +339,7 @@ logout_has_places : (policy : PolicyData) (history : List RecordData) (a : Asked
     → length (reports_of policy user (history, r)) + report_places policy (history ++ r ∷ []) user ≤ report_places policy history user
 logout_has_places policy history a r user left granted asks =
     let is = logout_takes_effect policy history a r left asks granted in
-    omega (arith, line policy history a r None is user, fewer_kills_left policy history (history ++ r ∷ []) user (none_lifted policy history (history ++ r ∷ []) is.killed_kept))
+    omega (arith, line policy history a r None is user, fewer_kills_left policy history (history ++ r ∷ []) user (none_lifted policy history (history ++ r ∷ []) is.kills_kept))
 
 -- a granted Kill or Logout, by which it is
 by_kept : (policy : PolicyData) (history : List RecordData) (a : Asked) (r : RecordData) (P : Type 0) → has_kept_places a.request r.verdict ≡ true
@@ -408,7 +407,7 @@ logout_takes_a_place policy history a r legal left granted asks =
       ap (λ (n : UserName). is_some (line_of history n)) same ∙ on,
       ap (λ (n : UserName). is_some (line_of (history ++ r ∷ []) n)) same ∙ ap is_some is.line_now,
     )) policy.users it.0 it.1 in
-    omega (arith, less, fewer_alive policy history (history ++ r ∷ []) (none_lifted policy history (history ++ r ∷ []) is.killed_kept))
+    omega (arith, less, fewer_alive policy history (history ++ r ∷ []) (none_lifted policy history (history ++ r ∷ []) is.kills_kept))
   where
     still : (u : User) (b : Bool) → same_user a.user u.name ≡ b → ChangesLine policy history (history ++ r ∷ []) a.user None → is_on (history ++ r ∷ []) u ≡ true → is_on history u ≡ true
     still u true same is on =
@@ -461,13 +460,13 @@ matches_want_no_more policy history handed r user legal left = by r.verdict refl
     never v is judged = let clash : false ≡ true = sym (not_judged policy history handed r left) ∙ ap is_judged is ∙ judged in cc
 
     filled : (f : Fill) → FillsOrders policy history now r f → report_places policy now user ≤ report_places policy history user
-    filled f is = sum (none_lifted policy history now is.in_force.killed_kept) (held_after_match policy history now (left_by_fill f) user is.live_left)
+    filled f is = sum (none_lifted policy history now is.in_force.kills_kept) (held_after_match policy history now (left_by_fill f) user is.live_left)
 
     rested : (number : ℕ) → RestsOrder policy history now number → report_places policy now user ≤ report_places policy history user
-    rested number is = sum (none_lifted policy history now is.in_force.killed_kept) (held_same policy history now user is.live_kept)
+    rested number is = sum (none_lifted policy history now is.in_force.kills_kept) (held_same policy history now user is.live_kept)
 
     expired : (number : ℕ) → ExpiresOrder policy history now r number → report_places policy now user ≤ report_places policy history user
-    expired number is = sum (none_lifted policy history now is.in_force.killed_kept) (held_after_match policy history now (shares_left number 0) user is.live_left)
+    expired number is = sum (none_lifted policy history now is.in_force.kills_kept) (held_after_match policy history now (shares_left number 0) user is.live_left)
 
     by : (v : Verdict) → r.verdict ≡ v → report_places policy now user ≤ report_places policy history user
     by verdicts.Granted is = absurd (never verdicts.Granted is refl)

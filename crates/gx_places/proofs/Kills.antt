@@ -22,7 +22,7 @@ use Rattle.gx_history.specs.declared.record.RuleName.TheVariants.{L1, L2, L3, G1
 use Rattle.gx_history.specs.declared.record.Step.TheVariants as steps
 use Rattle.gx_history.specs.declared.record.Verdict.TheVariants as verdicts
 use Rattle.gx_history.specs.Asking.{are_his, changes, facts, has_power, is_on_line, knows_names, of_command}
-use Rattle.gx_history.specs.InForce.{is_killed, kill_or_lift_of, line_of}
+use Rattle.gx_history.specs.InForce.{is_untouched, kill_after, kill_in_force, kill_or_lift_of, line_of}
 use Rattle.gx_history.specs.Lists.{where_true}
 use Rattle.gx_history.specs.People.{account_named, covers, is_officer, role_in, user_in}
 use Rattle.gx_history.specs.Requests.{is_command, is_unreadable}
@@ -32,25 +32,26 @@ use Rattle.gx_history.specs.Verdicts.{facts_now, next, rules_now}
 use Rattle.gx_history_laws.proofs.Adding.{user_is, user_is_itself}
 use Rattle.gx_history_laws.proofs.Granting.{granted_passes, granted_passes_before, none_behind}
 use Rattle.gx_history_laws.proofs.Names.{account_is, account_is_itself}
-use Rattle.gx_history_laws.proofs.NextInForce.{is_killed_next}
+use Rattle.gx_history_laws.proofs.KillsNext.{kill_in_force_next}
 use Rattle.gx_history_laws.proofs.Order.{none_among}
 use Rattle.gx_effects.proofs.Allowed.{has_the_accounts, has_the_power, names_are_known}
 use Rattle.gx_effects.proofs.Commanding.{GrantsCommand, mark_granted}
-use Rattle.gx_places.specs.Places.{is_alive, is_left_to, is_on, kills_left, may_kill, most_kills}
+use Rattle.gx_places.specs.Places.{is_alive, is_whole, is_left_to, is_on, kills_left, may_kill, most_kills}
 use Rattle.gx_places.proofs.Counting.{fewer_pass, most_pass, one_less_passes}
 
--- each account that was killed is so still
+-- each account that was killed with nobody having lifted it is so still
 pub record StayKilled (policy : PolicyData) (before after : List RecordData) : Type 0 where
-  pub stays : (account : AccountName) → is_killed policy before account ≡ true → is_killed policy after account ≡ true
+  pub stays : (account : AccountName) → is_whole policy before account ≡ true → is_whole policy after account ≡ true
 
-pub none_lifted : (policy : PolicyData) (before after : List RecordData) → ((account : AccountName) → is_killed policy after account ≡ is_killed policy before account) → StayKilled policy before after
-none_lifted policy before after same = record { stays = λ account killed. same account ∙ killed }
+pub none_lifted : (policy : PolicyData) (before after : List RecordData) → ((account : AccountName) → kill_in_force policy after account ≡ kill_in_force policy before account) → StayKilled policy before after
+none_lifted policy before after same = record { stays = λ (account : AccountName) whole. ap is_untouched (same account) ∙ whole }
 
 -- what a granted command makes of an account
 killed_by : (policy : PolicyData) (history : List RecordData) (r : RecordData) (a : Asked) (action : Action) (account : AccountName) → GrantsCommand r a action
-    → is_killed policy (history ++ r ∷ []) account ≡ unwrap_or (kill_or_lift_of account a.user action) (is_killed policy history account)
+    → is_whole policy (history ++ r ∷ []) account ≡ is_untouched (kill_after policy.lifters (kill_or_lift_of account a.user action) (kill_in_force policy history account))
 killed_by policy history r a action account g =
-    is_killed_next policy history r account ∙ ap (λ (m : Option Bool). unwrap_or m (is_killed policy history account)) (mark_granted (kill_or_lift_of account) r a action g)
+    ap is_untouched (kill_in_force_next policy history r account)
+    ∙ ap (λ (m : Option (Option UserName)). is_untouched (kill_after policy.lifters m (kill_in_force policy history account))) (mark_granted (kill_or_lift_of account) r a action g)
 
 -- a Lift
 abbrev pub lifts : Action → Bool
@@ -63,12 +64,12 @@ command_lifts_none policy history r a action g lifts_none = record {
   stays = λ (account : AccountName) killed. killed_by policy history r a action account g ∙ by action lifts_none account killed;
 }
   where
-    marked : (b : Bool) (was : Bool) → was ≡ true → unwrap_or (where_true b true) was ≡ true
+    marked : (b : Bool) (was : Option (List UserName)) → is_untouched was ≡ true → is_untouched (kill_after policy.lifters (where_true b None) was) ≡ true
     marked true was h = refl
     marked false was h = h
 
-    by : (action : Action) → lifts action ≡ false → (account : AccountName) → is_killed policy history account ≡ true → unwrap_or (kill_or_lift_of account a.user action) (is_killed policy history account) ≡ true
-    by (actions.Kill named) none account h = marked (same_account named account) (is_killed policy history account) h
+    by : (action : Action) → lifts action ≡ false → (account : AccountName) → is_whole policy history account ≡ true → is_untouched (kill_after policy.lifters (kill_or_lift_of account a.user action) (kill_in_force policy history account)) ≡ true
+    by (actions.Kill named) none account h = marked (same_account named account) (kill_in_force policy history account) h
     by (actions.Lift named) none account h = cc
     by (actions.SetLimit rule limit) none account h = h
     by (actions.Restrict rule stock) none account h = h
@@ -78,9 +79,9 @@ command_lifts_none policy history r a action g lifts_none = record {
     by actions.CloseDay none account h = h
 
 -- a Kill kills its account
-pub kill_kills : (policy : PolicyData) (history : List RecordData) (r : RecordData) (a : Asked) (account : AccountName) → GrantsCommand r a (actions.Kill account) → is_killed policy (history ++ r ∷ []) account ≡ true
+pub kill_kills : (policy : PolicyData) (history : List RecordData) (r : RecordData) (a : Asked) (account : AccountName) → GrantsCommand r a (actions.Kill account) → is_whole policy (history ++ r ∷ []) account ≡ true
 kill_kills policy history r a account g =
-    killed_by policy history r a (actions.Kill account) account g ∙ ap (λ b. unwrap_or (where_true b true) (is_killed policy history account)) (account_is_itself account)
+    killed_by policy history r a (actions.Kill account) account g ∙ ap (λ b. is_untouched (kill_after policy.lifters (where_true b None) (kill_in_force policy history account))) (account_is_itself account)
 
 -- what was not passed before is not passed after
 left_before : (m k l : Bool) → (k ≡ true → l ≡ true) → (m && not l) ≡ true → (m && not k) ≡ true
@@ -91,14 +92,14 @@ left_before true true l h e = let clash : false ≡ true = sym (ap not (h refl))
 pub fewer_kills_left : (policy : PolicyData) (before after : List RecordData) (user : UserName) → StayKilled policy before after → kills_left policy after user ≤ kills_left policy before user
 fewer_kills_left policy before after user stay =
     fewer_pass (is_left_to policy before user) (is_left_to policy after user)
-    (λ (a : Account) h. left_before (may_kill (role_in policy.users user) a.name) (is_killed policy before a.name) (is_killed policy after a.name) (stay.stays a.name) h)
+    (λ (a : Account) h. left_before (may_kill (role_in policy.users user) a.name) (is_whole policy before a.name) (is_whole policy after a.name) (stay.stays a.name) h)
     policy.accounts
 
 pub fewer_alive : (policy : PolicyData) (before after : List RecordData) → StayKilled policy before after
     → length (filter (is_alive policy after) policy.accounts) ≤ length (filter (is_alive policy before) policy.accounts)
 fewer_alive policy before after stay =
     fewer_pass (is_alive policy before) (is_alive policy after)
-    (λ (a : Account) h. left_before true (is_killed policy before a.name) (is_killed policy after a.name) (stay.stays a.name) h)
+    (λ (a : Account) h. left_before true (is_whole policy before a.name) (is_whole policy after a.name) (stay.stays a.name) h)
     policy.accounts
 
 -- an officer who has the power and the account may kill it
@@ -129,8 +130,8 @@ changes_something policy history a r action g left =
 pub record Kills (policy : PolicyData) (history : List RecordData) (r : RecordData) (a : Asked) (account : AccountName) : Type 0 where
   pub is_known : is_some (account_named policy account) ≡ true
   pub may : may_kill (role_in policy.users a.user) account ≡ true
-  pub was_alive : is_killed policy history account ≡ false
-  pub is_killed_now : is_killed policy (history ++ r ∷ []) account ≡ true
+  pub was_alive : is_whole policy history account ≡ false
+  pub is_whole_now : is_whole policy (history ++ r ∷ []) account ≡ true
   pub stay : StayKilled policy history (history ++ r ∷ [])
 
 not_true : (b : Bool) → not b ≡ true → b ≡ false
@@ -142,8 +143,8 @@ pub kill_finds : (policy : PolicyData) (history : List RecordData) (a : Asked) (
 kill_finds policy history a r account left g = record {
   is_known = names_are_known policy history a r (actions.Kill account) g left;
   may = may policy history (role_in policy.users a.user) account (has_the_power policy history a r (actions.Kill account) g left) (has_the_accounts policy history a r (actions.Kill account) g left);
-  was_alive = not_true (is_killed policy history account) (changes_something policy history a r (actions.Kill account) g left);
-  is_killed_now = kill_kills policy history r a account g;
+  was_alive = not_true (is_whole policy history account) (changes_something policy history a r (actions.Kill account) g left);
+  is_whole_now = kill_kills policy history r a account g;
   stay = command_lifts_none policy history r a (actions.Kill account) g refl;
 }
 
@@ -157,7 +158,7 @@ pub one_kill_less : (policy : PolicyData) (history : List RecordData) (r : Recor
 one_kill_less policy history r a account k =
     let it = there (account_named policy account) k.is_known in
     one_less_passes (is_left_to policy history a.user) (is_left_to policy (history ++ r ∷ []) a.user) (λ (x : Account). same_account x.name account)
-    (λ (x : Account) h. left_before (may_kill (role_in policy.users a.user) x.name) (is_killed policy history x.name) (is_killed policy (history ++ r ∷ []) x.name) (k.stay.stays x.name) h)
+    (λ (x : Account) h. left_before (may_kill (role_in policy.users a.user) x.name) (is_whole policy history x.name) (is_whole policy (history ++ r ∷ []) x.name) (k.stay.stays x.name) h)
     (λ (x : Account) h. this x (account_is x.name account h)) policy.accounts it.0 it.1
   where
     passes : Bool → Bool → Bool
@@ -165,10 +166,10 @@ one_kill_less policy history r a account k =
 
     this : (x : Account) → x.name ≡ account → (is_left_to policy history a.user x ≡ true) × (is_left_to policy (history ++ r ∷ []) a.user x ≡ false)
     this x is = (
-      ap (λ (n : AccountName). may_kill (role_in policy.users a.user) n && not (is_killed policy history n)) is
-          ∙ ap (λ b. b && not (is_killed policy history account)) k.may ∙ ap not k.was_alive,
-      ap (λ (n : AccountName). may_kill (role_in policy.users a.user) n && not (is_killed policy (history ++ r ∷ []) n)) is
-          ∙ ap (λ b. b && not (is_killed policy (history ++ r ∷ []) account)) k.may ∙ ap not k.is_killed_now,
+      ap (λ (n : AccountName). may_kill (role_in policy.users a.user) n && not (is_whole policy history n)) is
+          ∙ ap (λ b. b && not (is_whole policy history account)) k.may ∙ ap not k.was_alive,
+      ap (λ (n : AccountName). may_kill (role_in policy.users a.user) n && not (is_whole policy (history ++ r ∷ []) n)) is
+          ∙ ap (λ b. b && not (is_whole policy (history ++ r ∷ []) account)) k.may ∙ ap not k.is_whole_now,
     )
 
 -- and one less is alive
@@ -177,17 +178,17 @@ pub one_less_alive : (policy : PolicyData) (history : List RecordData) (r : Reco
 one_less_alive policy history r a account k =
     let it = there (account_named policy account) k.is_known in
     one_less_passes (is_alive policy history) (is_alive policy (history ++ r ∷ [])) (λ (x : Account). same_account x.name account)
-    (λ (x : Account) h. left_before true (is_killed policy history x.name) (is_killed policy (history ++ r ∷ []) x.name) (k.stay.stays x.name) h)
+    (λ (x : Account) h. left_before true (is_whole policy history x.name) (is_whole policy (history ++ r ∷ []) x.name) (k.stay.stays x.name) h)
     (λ (x : Account) h. let is : x.name ≡ account = account_is x.name account h in (
-      ap (λ (n : AccountName). not (is_killed policy history n)) is ∙ ap not k.was_alive,
-      ap (λ (n : AccountName). not (is_killed policy (history ++ r ∷ []) n)) is ∙ ap not k.is_killed_now,
+      ap (λ (n : AccountName). not (is_whole policy history n)) is ∙ ap not k.was_alive,
+      ap (λ (n : AccountName). not (is_whole policy (history ++ r ∷ []) n)) is ∙ ap not k.is_whole_now,
     )) policy.accounts it.0 it.1
 
 -- there are never more for him than all, and none for who is no officer
 pub no_more_kills : (policy : PolicyData) (history : List RecordData) (user : UserName) → kills_left policy history user ≤ most_kills policy user
 no_more_kills policy history user = by (is_officer (role_in policy.users user)) refl
   where
-    none : (role : Option Role) → is_officer role ≡ false → (accounts : List Account) → length (filter (λ (a : Account). may_kill role a.name && not (is_killed policy history a.name)) accounts) ≤ 0
+    none : (role : Option Role) → is_officer role ≡ false → (accounts : List Account) → length (filter (λ (a : Account). may_kill role a.name && not (is_whole policy history a.name)) accounts) ≤ 0
     none (Some (roles.Officer powers scope)) h accounts = cc
     none (Some (roles.Trader other)) h [] = omega arith
     none (Some (roles.Trader other)) h (a ∷ accounts) = none (Some (roles.Trader other)) h accounts

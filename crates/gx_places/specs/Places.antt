@@ -17,7 +17,7 @@ use Rattle.gx_history.specs.declared.record.Request.TheVariants as requests
 use Rattle.gx_history.specs.declared.record.Verdict.{Verdict}
 use Rattle.gx_history.specs.declared.record.Verdict.TheVariants as verdicts
 use Rattle.gx_history.specs.Executions.{Standing, live_orders}
-use Rattle.gx_history.specs.InForce.{is_killed, line_of}
+use Rattle.gx_history.specs.InForce.{is_untouched, kill_in_force, line_of}
 use Rattle.gx_history.specs.People.{covers, is_officer, role_in}
 
 -- the order is the user's
@@ -33,11 +33,15 @@ abbrev pub may_kill : Option Role → AccountName → Bool
 may_kill (Some (roles.Officer powers scope)) account = powers.kill && covers scope account
 may_kill other account = false
 
+-- the account is killed, and nobody has lifted it since: a Kill would change nothing
+abbrev pub is_whole : PolicyData → List RecordData → AccountName → Bool
+is_whole policy history account = is_untouched (kill_in_force policy history account)
+
 -- the user may kill the account, and a Kill would change it
 abbrev pub is_left_to : PolicyData → List RecordData → UserName → Account → Bool
-is_left_to policy history user a = may_kill (role_in policy.users user) a.name && not (is_killed policy history a.name)
+is_left_to policy history user a = may_kill (role_in policy.users user) a.name && not (is_whole policy history a.name)
 
--- how many accounts there are that he may kill and that are not killed: each Kill of his has an answer
+-- how many accounts there are that he may kill and that a Kill would change: each Kill of his has an answer
 abbrev pub kills_left : PolicyData → List RecordData → UserName → ℕ
 kills_left policy history user = length (filter (is_left_to policy history user) policy.accounts)
 
@@ -54,9 +58,9 @@ most_kills policy user = if is_officer (role_in policy.users user) then length p
 abbrev pub enough_places : PolicyData → List RecordData → UserName → ℕ
 enough_places policy history user = orders_held policy history user + most_kills policy user + 2
 
--- the account is not killed
+-- a Kill would change the account
 abbrev pub is_alive : PolicyData → List RecordData → Account → Bool
-is_alive policy history a = not (is_killed policy history a.name)
+is_alive policy history a = not (is_whole policy history a.name)
 
 -- the user is logged in
 abbrev pub is_on : List RecordData → User → Bool

@@ -1,9 +1,10 @@
 -- What was answered, where a policy is meant.
-use Rattle.std.proofs.Common.{◌≡◌, ◌≢◌, false, Result, Ok, Err, refl, sym, IfOk, IfErr}
+use Rattle.std.proofs.Common.{◌≡◌, ◌≢◌, false, Result, Ok, Err, IsOk, refl, sym, subst, IfOk, IfErr}
+use Rattle.std.proofs.lemmas.Bool.{false≢true}
 use Rattle.gx_policyfile.specs.declared.fault.FaultKind.{FaultKind}
 use Rattle.gx_policyfile.specs.declared.fault.FaultKind.TheVariants.{NotToml, MissingKey, UnknownKey, BadValue, UnknownName, DuplicateName, TooMany, OutOfMemory}
 use Rattle.gx_policyfile.specs.declared.fault.PolicyFault.{PolicyFault}
-use Rattle.gx_policyfile.specs.Field.{is_memory}
+use Rattle.gx_policyfile.specs.Field.{seen, is_memory}
 
 pub not_memory : (kind : FaultKind) → kind ≢ OutOfMemory → is_memory kind ≡ false
 not_memory OutOfMemory h = absurd (h refl)
@@ -32,3 +33,8 @@ only_memory TooMany meant x is h = let k = h (λ e. cc) in cc
 pub read_memory : {X : Type 0} (r : Result X PolicyFault) (meant : Result X FaultKind) (x : X) → meant ≡ Ok x → IfErr r (λ e. e.kind ≢ OutOfMemory → meant ≡ Err e.kind) → IfErr r (λ e. e.kind ≡ OutOfMemory)
 read_memory (Ok y) meant x is h = tt
 read_memory (Err e) meant x is h = only_memory e.kind meant x is h
+
+-- what is meant is no fault, so none was answered
+pub never_refused : {X Y : Type 0} (r : Result X PolicyFault) (view : X → Y) (P : PolicyFault → Type 0) {meant : Result Y FaultKind} → seen view r ≡ meant → IsOk meant → IfErr r P
+never_refused (Ok x) view P is h = tt
+never_refused (Err e) view P {meant} is h = let bad : Err e.kind ≡ meant = is in absurd (false≢true (subst IsOk (sym bad) h))

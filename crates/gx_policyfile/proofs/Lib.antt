@@ -11,3 +11,4 @@ pub mod SoundPolicy
 pub mod Giving
 pub mod SampleText
 pub mod WhatIsRead
+pub mod Migrated

@@ -5,6 +5,7 @@ use Rattle.gx_policyfile.specs.Sample.{sample}
 use Rattle.std.specs.Str.{is_utf8, chars}
 use Rattle.toml.proofs.OnLiterals.{toml_on_literals}
 use Rattle.gx_policyfile.specs.Policies.{account, stock, accounts, stocks, users, rules, policy, tree, means}
+use Rattle.gx_policyfile.specs.Version.{version}
 use Rattle.gx_policyfile.specs.Place.{is_taken}
 use Rattle.gx_policyfile.specs.Users.{user, role, powers}
 use Rattle.gx_policyfile.specs.Rules.{rule, rule_name, kind, kind_words}
@@ -12,5 +13,5 @@ use Rattle.gx_policyfile.specs.Known.{with_account, with_stock, known_account, k
 use Rattle.gx_history.specs.RuleNames.{rules_before, rules_behind}
 
 pub sample_is_read : means SAMPLE.now ≡ Ok sample
-unfolding toml_on_literals is_utf8 chars account stock accounts stocks users rules policy tree means is_taken user role powers rule rule_name kind kind_words with_account with_stock known_account known_accounts known_stocks scope rules_before rules_behind sample
+unfolding toml_on_literals is_utf8 chars account stock accounts stocks users rules policy tree means version is_taken user role powers rule rule_name kind kind_words with_account with_stock known_account known_accounts known_stocks scope rules_before rules_behind sample
 sample_is_read = refl

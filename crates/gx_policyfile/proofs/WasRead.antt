@@ -1,14 +1,16 @@
 -- The parts of a policy that was read.
-use Rattle.std.proofs.Common.{◌≡◌, ℕ, true, List, [], ◌∷◌, ◌++◌, codes, Option, Some, None, Result, Ok, sym, ap, ◌∙◌, subst, append-nil, append_assoc}
+use Rattle.std.proofs.Common.{◌≡◌, ℕ, true, List, [], ◌∷◌, ◌++◌, codes, Option, Some, None, Result, Ok, Err, IsOk, refl, sym, ap, ◌∙◌, subst, append-nil, append_assoc}
+use Rattle.std.proofs.lemmas.Bool.{false≢true}
 use Rattle.std.specs.Option.{ok_or, option_and_then, option_map_or}
 use Rattle.toml.specs.Data.{Data, Items, no_items, item, Members, get_member, as_array, as_table}
 use Rattle.gx_history.specs.declared.policy.PolicyData.{PolicyData}
 use Rattle.gx_policyfile.specs.declared.fault.FaultKind.{FaultKind}
 use Rattle.gx_policyfile.specs.declared.fault.FaultKind.TheVariants.{UnknownKey, BadValue}
 use Rattle.gx_policyfile.specs.declared.fault.Letters.TheVariants.{Visible}
-use Rattle.gx_policyfile.specs.Field.{has_only, only_keys, field_at, number_at, each_item}
+use Rattle.gx_policyfile.specs.Field.{has_only, only_keys, field_at, each_item}
 use Rattle.gx_policyfile.specs.Place.{table, tables, tables_at}
-use Rattle.gx_policyfile.specs.Policies.{top_keys, accounts, stocks, users, rules, policy}
+use Rattle.gx_policyfile.specs.Version.{number, version, top_keys, lifters}
+use Rattle.gx_policyfile.specs.Policies.{accounts, stocks, users, rules, policy}
 use Rattle.gx_policyfile.specs.Reads.{with_table, tables_in, entries_at}
 use Rattle.gx_policyfile.proofs.Parts.{bind_ok, passed, by_ok}
 
@@ -36,8 +38,10 @@ entries_read (Some value) entries h =
 
 -- the parts of a policy that was read
 pub record WasRead (top : Members) (p : PolicyData) : Type 0 where
-  pub keys : has_only top_keys top ≡ true
+  pub keys : has_only (top_keys (version top)) top ≡ true
+  pub is_numbered : IsOk (number top)
   pub session : field_at (codes "session") Visible 10 top ≡ Ok p.session.bytes
+  pub lifting : lifters (version top) top ≡ Ok p.lifters
   pub of_accounts : accounts (entries_at (codes "account") top) ≡ Ok p.accounts
   pub of_stocks : stocks (entries_at (codes "stock") top) ≡ Ok p.stocks
   pub of_users : users p.accounts (entries_at (codes "user") top) ≡ Ok p.users
@@ -49,9 +53,10 @@ at_entries key top entries meant x is h = subst (λ e. meant e ≡ Ok x) (sym (e
 pub was_read : (top : Members) (p : PolicyData) → policy top ≡ Ok p → WasRead top p
 unfolding policy
 was_read top p h =
-    let (known, known_is, h1) = bind_ok (only_keys top_keys top) _ p h in
-    let (version, version_is, h2) = bind_ok (number_at (codes "version") 1 1 top) _ p h1 in
-    let (session, session_is, h3) = bind_ok (field_at (codes "session") Visible 10 top) _ p h2 in
+    let (known, known_is, h1) = bind_ok (only_keys (top_keys (version top)) top) _ p h in
+    let (numbered, numbered_is, h2) = bind_ok (number top) _ p h1 in
+    let (session, session_is, h3a) = bind_ok (field_at (codes "session") Visible 10 top) _ p h2 in
+    let (lifting, lifting_is, h3) = bind_ok (lifters (version top) top) _ p h3a in
     let (account_tables, account_tables_is, h4) = bind_ok (tables_at (codes "account") top) _ p h3 in
     let (stock_tables, stock_tables_is, h5) = bind_ok (tables_at (codes "stock") top) _ p h4 in
     let (user_tables, user_tables_is, h6) = bind_ok (tables_at (codes "user") top) _ p h5 in
@@ -60,12 +65,24 @@ was_read top p h =
     let (ss, ss_is, h9) = bind_ok (stocks stock_tables) _ p h8 in
     let (us, us_is, h10) = bind_ok (users xs user_tables) _ p h9 in
     let (rs, rs_is, h11) = bind_ok (rules xs ss rule_tables) _ p h10 in
-    let q : PolicyData = record { session = record { bytes = session }; accounts = xs; stocks = ss; users = us; rules = rs } in
+    let q : PolicyData = record { session = record { bytes = session }; lifters = lifting; accounts = xs; stocks = ss; users = us; rules = rs } in
     by_ok (WasRead top) q p h11 (record {
-      keys = only_ok top_keys top known known_is;
+      keys = only_ok (top_keys (version top)) top known known_is;
+      is_numbered = rw numbered_is;
       session = session_is;
+      lifting = lifting_is;
       of_accounts = at_entries (codes "account") top account_tables accounts xs account_tables_is xs_is;
       of_stocks = at_entries (codes "stock") top stock_tables stocks ss stock_tables_is ss_is;
       of_users = at_entries (codes "user") top user_tables (users xs) us user_tables_is us_is;
       of_rules = at_entries (codes "rule") top rule_tables (rules xs ss) rs rule_tables_is rs_is;
     })
+
+pub ok_of : {X : Type 0} (r : Result X FaultKind) → IsOk r → (x : X) × (r ≡ Ok x)
+ok_of (Ok x) h = (x, refl)
+ok_of (Err e) h = absurd (false≢true h)
+
+-- a policy that was read has a number
+pub numbered : (top : Members) → IsOk (policy top) → IsOk (number top)
+numbered top h =
+    let (p, is) = ok_of (policy top) h in
+    (was_read top p is).is_numbered

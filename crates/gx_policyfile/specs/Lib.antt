@@ -1,9 +1,11 @@
 pub mod Field
 pub mod Known
 pub mod Place
+pub mod Version
 pub mod Users
 pub mod Rules
 pub mod Policies
 pub mod Sample
 pub mod Reads
+pub mod Migrating
 pub mod Telling

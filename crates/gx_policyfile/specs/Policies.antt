@@ -10,6 +10,7 @@ use Rattle.gx_history.specs.declared.policy.Account.{Account}
 use Rattle.gx_history.specs.declared.policy.Stock.{Stock}
 use Rattle.gx_history.specs.declared.policy.User.{User}
 use Rattle.gx_history.specs.declared.policy.FileRule.{FileRule}
+use Rattle.gx_policyfile.specs.Version.{number, version, top_keys, lifters}
 use Rattle.gx_policyfile.specs.Users.{user}
 use Rattle.gx_policyfile.specs.Rules.{rule}
 use Rattle.gx_policyfile.specs.declared.fault.FaultKind.{FaultKind}
@@ -17,10 +18,6 @@ use Rattle.gx_policyfile.specs.declared.fault.FaultKind.TheVariants.{NotToml}
 use Rattle.gx_policyfile.specs.declared.fault.Letters.TheVariants.{Plain, Visible}
 use Rattle.gx_policyfile.specs.Field.{◌>>=◌, number_at, field_at, only_keys}
 use Rattle.gx_policyfile.specs.Place.{tables_at, place_of}
-
--- the keys of the whole file
-abbrev pub top_keys : List (List ℕ)
-top_keys = codes "version" ∷ codes "session" ∷ codes "account" ∷ codes "stock" ∷ codes "user" ∷ codes "rule" ∷ []
 
 -- the keys of an account
 abbrev pub account_keys : List (List ℕ)
@@ -65,9 +62,10 @@ rules known listed entries = place_of 128 (λ (a b : FileRule). same_rule a.name
 -- what the whole file says: the keys at the top, then the accounts, the stocks, the users and the rules
 unfoldable pub policy : Members → Result PolicyData FaultKind
 policy top = do
-  known ← only_keys top_keys top
-  version ← number_at (codes "version") 1 1 top
+  known ← only_keys (top_keys (version top)) top
+  numbered ← number top
   session ← field_at (codes "session") Visible 10 top
+  lifting ← lifters (version top) top
   account_tables ← tables_at (codes "account") top
   stock_tables ← tables_at (codes "stock") top
   user_tables ← tables_at (codes "user") top
@@ -76,7 +74,7 @@ policy top = do
   found_stocks ← stocks stock_tables
   found_users ← users found_accounts user_tables
   found_rules ← rules found_accounts found_stocks rule_tables
-  Ok (record { session = record { bytes = session }; accounts = found_accounts; stocks = found_stocks; users = found_users; rules = found_rules })
+  Ok (record { session = record { bytes = session }; lifters = lifting; accounts = found_accounts; stocks = found_stocks; users = found_users; rules = found_rules })
 
 -- the tree that the bytes are
 unfoldable pub tree : List ℕ → Result Members FaultKind
@@ -85,3 +83,7 @@ tree bytes = if is_utf8 bytes then ok_or (parse_document bytes) NotToml else Err
 -- what the bytes of a policy file mean: a policy, or their first fault
 unfoldable pub means : List ℕ → Result PolicyData FaultKind
 means bytes = tree bytes >>= policy
+
+-- the number that the bytes of a policy file give themselves
+unfoldable pub version_of : List ℕ → Result ℕ FaultKind
+version_of bytes = tree bytes >>= number

@@ -12,7 +12,8 @@ use Rattle.gx_history.specs.declared.policy.FileRule.{FileRule}
 use Rattle.gx_policyfile.specs.Field.{has_only}
 use Rattle.gx_policyfile.specs.Users.{keys_of_user}
 use Rattle.gx_policyfile.specs.Rules.{keys_of_rule}
-use Rattle.gx_policyfile.specs.Policies.{top_keys, account_keys, stock_keys}
+use Rattle.gx_policyfile.specs.Version.{version, top_keys}
+use Rattle.gx_policyfile.specs.Policies.{account_keys, stock_keys}
 
 -- the table, if it is one, and the others
 abbrev pub with_table : Option Members → List Members → List Members
@@ -28,10 +29,10 @@ tables_in (item value items) = with_table (as_table value) (tables_in items)
 abbrev pub entries_at : List ℕ → Members → List Members
 entries_at key top = option_map_or tables_in (option_and_then as_array (get_member key top)) []
 
--- no key but those of the whole file, and in each entry none but those of its place, its role or its kind
+-- no key but those of the whole file in its version, and in each entry none but those of its place, its role or its kind
 abbrev pub are_keys_known : Members → Bool
 are_keys_known top =
-    has_only top_keys top
+    has_only (top_keys (version top)) top
     && list_all (has_only account_keys) (entries_at (codes "account") top)
     && list_all (has_only stock_keys) (entries_at (codes "stock") top)
     && list_all (λ entry. has_only (keys_of_user entry) entry) (entries_at (codes "user") top)

@@ -2,6 +2,7 @@
 use Rattle.std.specs.Prelude.{ℕ, true, false, List, [], ◌∷◌, codes}
 use Rattle.gx_units.specs.declared.names.AccountName.{AccountName}
 use Rattle.gx_history.specs.declared.policy.PolicyData.{PolicyData}
+use Rattle.gx_history.specs.declared.policy.Lifters.TheVariants as lifting
 use Rattle.gx_history.specs.declared.policy.User.{User}
 use Rattle.gx_history.specs.declared.policy.Role.{Role}
 use Rattle.gx_history.specs.declared.policy.Role.TheVariants as roles
@@ -21,10 +22,11 @@ beta = record { bytes = codes "BETA    " }
 abbrev pub user_of : List ℕ → List ℕ → Role → User
 user_of name password role = record { name = record { bytes = name }; password = record { bytes = password }; role = role }
 
--- session GATE01, two accounts, one stock, five users and two rules
+-- session GATE01, one officer to lift, two accounts, one stock, five users and two rules
 unfoldable pub sample : PolicyData
 sample = record {
   session = record { bytes = codes "GATE01    " };
+  lifters = lifting.One;
   accounts =
       record { name = alfa; firm = record { bytes = codes "ALF " } }
       ∷ record { name = beta; firm = record { bytes = codes "BET " } } ∷ [];

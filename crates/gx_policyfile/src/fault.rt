@@ -1,13 +1,16 @@
 //! Why a policy file is refused, and where.
 
-ghost use Rattle.gx_policyfile.specs.declared.fault.FaultKind.TheVariants.{OutOfMemory};
+ghost use Rattle.gx_policyfile.specs.declared.fault.FaultKind.TheVariants as kinds;
 ghost use Rattle.gx_policyfile.specs.Field.{is_memory};
 ghost use Rattle.gx_policyfile.specs.Telling.{kind_words};
 ghost use Rattle.std.specs.Prelude.{◌≡◌, false};
 
-use std::alloc::{AllocError, AllocFailed};
+use gx_policytext::line_at;
+use gx_units::OutOfMemory;
+use std::alloc::{AllocError, AllocFailed, Global};
 use std::error::Error;
 use std::fmt;
+use toml::Table;
 
 /// Why a policy file is refused: the first fault in the order of the format. The kinds have the numbers 1 to 8.
 #[derive(Clone, Copy, PartialEq, Eq)]
@@ -115,8 +118,10 @@ pub enum Cause {
     Memory,
     /// The text, as the reader of TOML tells it.
     Text(String),
-    /// The value of this key, or that it is absent, and what is allowed.
+    /// This key, which is absent or has too many entries, and what is allowed.
     Key(&'static str, Allowed),
+    /// This key and its value, as they are written in a line of the file, and what is allowed.
+    Value(String, Allowed),
     /// This key, where the others are the known ones.
     UnknownKey(String, &'static [&'static str]),
 }
@@ -152,6 +157,19 @@ pub struct PolicyFault {
     pub cause: Cause,
 }
 
+/// The line of this key and its value, where the value is what is wrong.
+fn value_line(
+    alloc: Global,
+    key: &str,
+    allowed: Allowed,
+    table: &Table,
+) -> Result<Option<String>, OutOfMemory> {
+    match allowed {
+        Allowed::Entries(_) => Ok(None),
+        _ => line_at(alloc, key, table),
+    }
+}
+
 impl PolicyFault {
     /// A fault at the value of a key, or that the key is absent.
     pub(crate) fn at(kind: FaultKind, key: &'static str, allowed: Allowed) -> PolicyFault
@@ -164,9 +182,28 @@ impl PolicyFault {
         }
     }
 
+    /// The fault with the value that stands under its key in this table, where it has no place yet.
+    pub(crate) fn with_value(self, alloc: Global, table: &Table) -> PolicyFault
+        ensures { is_memory result.kind ≡ false → result.kind ≡ self.kind }
+    {
+        let PolicyFault { kind, entry, cause } = self;
+        match (&entry, &cause) {
+            (None, Cause::Key(key, allowed)) => match value_line(alloc, key, *allowed, table) {
+                Ok(Some(line)) => PolicyFault {
+                    kind,
+                    entry,
+                    cause: Cause::Value(line, *allowed),
+                },
+                Ok(None) => PolicyFault { kind, entry, cause },
+                Err(_) => PolicyFault::memory(),
+            },
+            _ => PolicyFault { kind, entry, cause },
+        }
+    }
+
     /// A growth was refused.
     pub(crate) fn memory() -> PolicyFault
-        ensures { result.kind ≡ OutOfMemory }
+        ensures { result.kind ≡ kinds.OutOfMemory }
     {
         PolicyFault {
             kind: FaultKind::OutOfMemory,
@@ -218,6 +255,7 @@ impl fmt::Display for FaultPlace<'_> {
             Cause::Memory => Ok(()),
             Cause::Text(text) => f.write_str(text.as_str().trim_end()),
             Cause::Key(key, allowed) => write!(f, "key {key}\nallowed: {allowed}"),
+            Cause::Value(line, allowed) => write!(f, "key {line}\nallowed: {allowed}"),
             Cause::UnknownKey(key, known) => {
                 let keys = KeyList(known);
                 write!(f, "key {key:?}\nallowed: the keys {keys}")
@@ -245,7 +283,7 @@ impl fmt::Display for PolicyFault {
 }
 
 impl From<AllocError> for PolicyFault {
-    ghost from_gives = { λ _ e. e.kind ≡ OutOfMemory };
+    ghost from_gives = { λ _ e. e.kind ≡ kinds.OutOfMemory };
 
     fn from(_refused: AllocError) -> PolicyFault {
         PolicyFault::memory()
@@ -253,7 +291,7 @@ impl From<AllocError> for PolicyFault {
 }
 
 impl<T: Drop> From<AllocFailed<T>> for PolicyFault {
-    ghost from_gives = { λ _ e. e.kind ≡ OutOfMemory };
+    ghost from_gives = { λ _ e. e.kind ≡ kinds.OutOfMemory };
 
     fn from(_refused: AllocFailed<T>) -> PolicyFault {
         PolicyFault::memory()

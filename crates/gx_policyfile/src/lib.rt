@@ -6,16 +6,19 @@ mod fault;
 mod field;
 mod known;
 mod laws;
+mod migrating;
 mod place;
 mod reading;
 mod rule;
 mod samples;
 mod stock;
 mod user;
+mod version;
 
 pub use fault::{Allowed, Cause, EntryPlace, FaultKind, FaultPlace, Letters, PolicyFault};
 pub use laws::{
     each_is_sound, keys_are_known, names_in_places_differ, order_is_kept, places_are_short,
 };
-pub use reading::read_policy;
+pub use migrating::migrate;
+pub use reading::{read_policy, read_version};
 pub use samples::{SAMPLE, sample};

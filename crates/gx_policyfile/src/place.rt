@@ -100,6 +100,7 @@ fn within(
 ) -> PolicyFault
     ensures { is_memory result.kind ≡ false → result.kind ≡ fault.kind }
 {
+    let fault = fault.with_value(alloc, entry);
     match written_name(alloc, entry) {
         Ok(name) => fault.within(EntryPlace {
             place,

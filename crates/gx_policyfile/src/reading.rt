@@ -1,11 +1,11 @@
 //! The whole file.
 
-ghost use Rattle.std.specs.Prelude.{◌≡◌, ◌≢◌, false, Ok, Err, IfOk, IfErr, IsTrue};
+ghost use Rattle.std.specs.Prelude.{◌≡◌, ◌≢◌, false, Ok, Err, OnOk, IfOk, IfErr, IsOk, IsTrue};
 ghost use Rattle.toml.specs.View.{table_view};
 ghost use Rattle.gx_history.specs.Soundness.{is_sound};
 ghost use Rattle.gx_policyfile.specs.declared.fault.FaultKind.TheVariants.{NotToml, OutOfMemory};
 ghost use Rattle.gx_policyfile.specs.Field.{Gives, is_memory};
-ghost use Rattle.gx_policyfile.specs.Policies.{policy, tree, means};
+ghost use Rattle.gx_policyfile.specs.Policies.{policy, tree, means, version_of};
 
 use crate::account::accounts;
 use crate::fault::{Cause, FaultKind, Letters, PolicyFault};
@@ -14,6 +14,7 @@ use crate::place::tables_at;
 use crate::rule::rules;
 use crate::stock::stocks;
 use crate::user::users;
+use crate::version::{lifters, number, top_keys, version};
 use gx_history::policy::{Accounts, FileRules, Policy, PolicyData, Stocks, Users};
 use gx_units::SessionName;
 use std::alloc::Global;
@@ -23,12 +24,11 @@ use toml::Table;
 fn policy(alloc: Global, top: &Table) -> Result<PolicyData, PolicyFault>
     ensures { Gives (λ p. p) result (policy (table_view top.now)) }
 {
-    field::only_keys(
-        top,
-        &["version", "session", "account", "stock", "user", "rule"],
-    )?;
-    let _version = field::number_at(top, "version", 1, 1)?;
+    let version = version(top);
+    field::only_keys(top, top_keys(version))?;
+    let _number = number(top)?;
     let session = field::field_at(top, "session", Letters::Visible)?;
+    let lifters = lifters(version, top)?;
     let account_tables = tables_at(alloc, top, "account")?;
     let stock_tables = tables_at(alloc, top, "stock")?;
     let user_tables = tables_at(alloc, top, "user")?;
@@ -39,6 +39,7 @@ fn policy(alloc: Global, top: &Table) -> Result<PolicyData, PolicyFault>
     let rules = rules(alloc, &accounts, &stocks, &rule_tables)?;
     Ok(PolicyData {
         session: SessionName { bytes: session },
+        lifters,
         accounts: Accounts::new(accounts),
         stocks: Stocks::new(stocks),
         users: Users::new(users),
@@ -60,7 +61,8 @@ fn not_toml(alloc: Global, refused: &toml::de::Error) -> PolicyFault
     }
 }
 
-fn tree(alloc: Global, bytes: &[u8]) -> Result<Table, PolicyFault>
+/// The table at the top of the file.
+pub fn tree(alloc: Global, bytes: &[u8]) -> Result<Table, PolicyFault>
     ensures { Gives (λ top. table_view top) result (tree bytes.now) }
 {
     match toml::table_from_slice(alloc, bytes) {
@@ -83,5 +85,32 @@ pub fn read_policy(alloc: Global, bytes: &[u8]) -> Result<Policy, PolicyFault>
     ensures fault { IfErr result (λ e. e.kind ≢ OutOfMemory → means bytes.now ≡ Err e.kind) }
 {
     let top = tree(alloc, bytes)?;
-    Ok(Policy::new(policy(alloc, &top)?))
+    match policy(alloc, &top) {
+        Ok(read) => Ok(Policy::new(read)),
+        Err(fault) => Err(fault.with_value(alloc, &top)),
+    }
+}
+
+/// Whether the file is a policy, or its first fault.
+pub fn accepted(alloc: Global, top: &Table) -> Result<(), PolicyFault>
+    ensures ok { OnOk result (IsOk (policy (table_view top.now))) }
+    ensures fault { IfErr result (λ e. is_memory e.kind ≡ false
+        → policy (table_view top.now) ≡ Err e.kind) }
+{
+    match policy(alloc, top) {
+        Ok(_) => Ok(()),
+        Err(fault) => Err(fault.with_value(alloc, top)),
+    }
+}
+
+/// The version of a file that means a policy, or the file's first fault.
+#[tactic(auto, unfolding(crate::specs::Policies::means, crate::specs::Policies::version_of), using(crate::proofs::Giving::not_memory))]
+pub fn read_version(alloc: Global, bytes: &[u8]) -> Result<u64, PolicyFault>
+    ensures version { IfOk result (λ n. version_of bytes.now ≡ Ok n) }
+    ensures policy { OnOk result (IsOk (means bytes.now)) }
+    ensures fault { IfErr result (λ e. e.kind ≢ OutOfMemory → means bytes.now ≡ Err e.kind) }
+{
+    let top = tree(alloc, bytes)?;
+    accepted(alloc, &top)?;
+    number(&top)
 }

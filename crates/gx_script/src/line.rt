@@ -54,8 +54,7 @@ pub enum ScriptLine {
 fn wanted<T: Drop>(words: &Words, found: Option<T>, wanted: Wanted) -> Result<T, Wrong>
     ensures { result_ok result ≡ found }
 {
-    let word = words.taken();
-    found.ok_or(Wrong { word, wanted })
+    found.ok_or(Wrong::new(words.taken(), wanted))
 }
 
 fn take_word<'a>(words: &mut Words<'a>, wants: Wanted) -> Result<&'a [u8], Wrong>
@@ -116,10 +115,7 @@ fn end(words: &mut Words) -> Result<(), Wrong>
 {
     match words.next() {
         None => Ok(()),
-        Some(_) => Err(Wrong {
-            word: words.taken(),
-            wanted: Wanted::End,
-        }),
+        Some(_) => Err(Wrong::new(words.taken(), Wanted::End)),
     }
 }
 
@@ -456,15 +452,15 @@ impl ScriptLine {
         ensures askable { IfOk result IsAskableLine }
     {
         if is_too_long(line) {
-            return Err(Wrong {
-                word: 1,
-                wanted: Wanted::Shorter,
-            });
+            return Err(Wrong::new(1, Wanted::Shorter));
         }
         let line = without_cr(line);
         if is_skipped(line) {
             return Ok(ScriptLine::Skipped);
         }
-        line_of_words(&mut Words::new(line))
+        match line_of_words(&mut Words::new(line)) {
+            Ok(said) => Ok(said),
+            Err(wrong) => Err(wrong.seen_in(line)),
+        }
     }
 }

@@ -146,10 +146,7 @@ fn run_line(alloc: Global, gate: &mut Gate, line: &ScriptLine) -> Result<Vec<u8>
         ScriptLine::Settle(moment) => Ok(settle_lines(alloc, gate, *moment)?),
         ScriptLine::Stream(user) => {
             if !gate.knows(*user) {
-                return Err(LineFault::Bad(Wrong {
-                    word: 2,
-                    wanted: Wanted::KnownUser,
-                }));
+                return Err(LineFault::Bad(Wrong::new(2, Wanted::KnownUser)));
             }
             Ok(stream_lines(alloc, gate, *user)?)
         }

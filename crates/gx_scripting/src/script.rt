@@ -94,10 +94,7 @@ fn take_byte<W: Write>(
         return end_line(alloc, gate, held, writer);
     }
     if is_too_long(held.rest.as_slice()) {
-        held.wrong = Some(Wrong {
-            word: 1,
-            wanted: Wanted::Shorter,
-        });
+        held.wrong = Some(Wrong::new(1, Wanted::Shorter));
         return Err(ScriptFault::BadLine(held.lines + 1));
     }
     push(&mut held.rest, byte)?;

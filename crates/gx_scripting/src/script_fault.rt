@@ -7,37 +7,27 @@ ghost use Rattle.gx_scripting.specs.declared.script_fault.ScriptFault.TheVariant
 use gx_devices::WriteFailed;
 use gx_script::Wrong;
 use gx_units::OutOfMemory;
-use std::error::Error;
-use std::fmt;
+use thiserror::Error;
 
 /// Why a script ended early. What was printed by then stands, and so do the steps.
-#[derive(Clone, Copy, Debug, PartialEq, Eq)]
+#[derive(Clone, Copy, Debug, PartialEq, Eq, Error)]
 pub enum ScriptFault {
     /// The line of this number, the first being 1, is no line of a script.
+    #[error("line {0}: bad step")]
     BadLine(u64),
     /// The reader failed.
+    #[error("read failed")]
     ReadFailed,
     /// The writer failed, or took none of some bytes.
+    #[error("write failed")]
     WriteFailed,
     /// A growth was refused.
+    #[error("out of memory")]
     OutOfMemory,
     /// The input has not ended after 1,000,000,000 reads.
+    #[error("endless input")]
     Endless,
 }
-
-impl fmt::Display for ScriptFault {
-    fn fmt<W: fmt::Write>(&self, f: &mut fmt::Formatter<W>) -> fmt::Result {
-        match self {
-            ScriptFault::BadLine(number) => write!(f, "line {number}: bad step"),
-            ScriptFault::ReadFailed => write!(f, "read failed"),
-            ScriptFault::WriteFailed => write!(f, "write failed"),
-            ScriptFault::OutOfMemory => write!(f, "out of memory"),
-            ScriptFault::Endless => write!(f, "endless input"),
-        }
-    }
-}
-
-impl Error for ScriptFault {}
 
 impl From<OutOfMemory> for ScriptFault {
     ghost from_gives = { λ _ e. e ≡ script_faults.OutOfMemory };

@@ -8,6 +8,7 @@ use crate::writing::write_on;
 use gx_devices::Counted;
 use gx_session::Event;
 use gx_shared::Door;
+use gx_soup::SoupFault;
 use std::alloc::Global;
 use std::io::{Read, Write};
 use std::net::{Shutdown, TcpStream};
@@ -52,7 +53,7 @@ fn speak<D: Door, O: Write + Drop, H: HangUp, R: Wait + Clock>(
     line.hang_up();
 }
 
-/// Reads to the end.
+/// Reads to the end. Answers why the session ended where its bytes are no packets.
 fn listen<D: Door, I: Read + Drop, R: Wait + Clock>(
     rt: &R,
     alloc: Global,
@@ -60,11 +61,12 @@ fn listen<D: Door, I: Read + Drop, R: Wait + Clock>(
     bell: &Bell,
     link: &Link<D::Ticket>,
     reader: I,
-) {
-    read_on(rt, alloc, door, bell, link, &mut Counted::new(reader));
+) -> Option<SoupFault> {
+    read_on(rt, alloc, door, bell, link, &mut Counted::new(reader))
 }
 
-/// Runs a connection's reader and its writer, each in a thread of its own, until both have ended.
+/// Runs a connection's reader and its writer, each in a thread of its own, until both have ended. Answers why the
+/// session ended where its bytes are no packets.
 pub fn converse<
     'x,
     T: Drop + Send,
@@ -83,13 +85,14 @@ pub fn converse<
     reader: I,
     writer: O,
     line: &'x H,
-) {
+) -> Option<SoupFault> {
     thread::scope(thread::scope_env(), rt, |scope| {
-        let listening = (&*scope).spawn(move || listen(rt, alloc, door, bell, link, reader));
-        if listening.is_ok() {
-            speak(rt, alloc, door, stop, link, writer, line);
-        } else {
+        let Ok(listening) = (&*scope).spawn(move || listen(rt, alloc, door, bell, link, reader))
+        else {
             link.tell(rt, door, Event::Fault);
-        }
-    });
+            return None;
+        };
+        speak(rt, alloc, door, stop, link, writer, line);
+        listening.join(rt)
+    })
 }

@@ -1,28 +1,19 @@
 //! Why a server gave up.
 
 use gx_units::OutOfMemory;
-use std::error::Error;
-use std::fmt;
+use std::io;
+use thiserror::Error;
 
 /// Why a server gave up.
-#[derive(Clone, Copy, Debug, PartialEq, Eq)]
+#[derive(Clone, Copy, Debug, Error)]
 pub enum ServeFault {
     /// A growth was refused.
+    #[error("out of memory")]
     OutOfMemory,
-    /// No connection could be accepted.
-    ListenFailed,
+    /// No connection could be accepted: what the system said of the last try.
+    #[error("listen failed: {0}")]
+    ListenFailed(io::Error),
 }
-
-impl fmt::Display for ServeFault {
-    fn fmt<W: fmt::Write>(&self, f: &mut fmt::Formatter<W>) -> fmt::Result {
-        match self {
-            ServeFault::OutOfMemory => write!(f, "out of memory"),
-            ServeFault::ListenFailed => write!(f, "listen failed"),
-        }
-    }
-}
-
-impl Error for ServeFault {}
 
 impl From<OutOfMemory> for ServeFault {
     fn from(_refused: OutOfMemory) -> ServeFault {

@@ -13,6 +13,7 @@ mod fault;
 mod link;
 mod lobby;
 mod matching;
+mod peer;
 mod places;
 mod reading;
 mod seat;

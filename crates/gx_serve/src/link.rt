@@ -21,8 +21,22 @@ const POLL: u64 = 1;
 /// After so many milliseconds the writer of a connection whose login was not answered looks at the time.
 const REST: u64 = 100;
 
+/// So many milliseconds, one by one, a session's end waits at most for the writer to look for reports.
+const FAREWELL: u64 = 5_000;
+
 /// So many milliseconds a connection whose session is over is read to its end, before it is cut.
 const LINGER: u64 = 1_000;
+
+/// Whether a client asks for the end of his session.
+fn is_farewell(packet: &ClientPacket) -> bool {
+    match packet {
+        ClientPacket::Logout => true,
+        ClientPacket::Login(_)
+        | ClientPacket::Data(_)
+        | ClientPacket::Heartbeat
+        | ClientPacket::Debug => false,
+    }
+}
 
 /// What the two threads of a connection share.
 #[derive(Drop)]
@@ -40,13 +54,31 @@ impl<T: Drop> Link<T> {
         }
     }
 
-    /// Takes a packet. Answers whether the session is over.
+    /// Waits until the writer has looked for reports that this connection's own steps made, or a while has passed:
+    /// once a user is logged out he is told nothing more.
+    fn await_look<R: Wait + Clock>(&self, rt: &R) {
+        let mut seat = self.seat.lock(rt);
+        for _ in 0..FAREWELL {
+            if !seat.is_owed() {
+                break;
+            }
+            seat = self
+                .news
+                .wait_timeout(rt, seat, Duration::from_millis(POLL))
+                .0;
+        }
+    }
+
+    /// Takes a packet, a logout only once the user was told of his steps. Answers whether the session is over.
     pub fn take<D: Door<Ticket = T>, R: Wait + Clock>(
         &self,
         rt: &R,
         door: &D,
         packet: &ClientPacket,
     ) -> bool {
+        if is_farewell(packet) {
+            self.await_look(rt);
+        }
         let mut seat = self.seat.lock(rt);
         seat.take(rt, door, packet, now(rt));
         self.news.notify_one();
@@ -59,8 +91,9 @@ impl<T: Drop> Link<T> {
         self.news.notify_one();
     }
 
-    /// The reader has ended: its input has no more.
+    /// The reader has ended: its input has no more. The user is told of his steps before.
     pub fn end<D: Door<Ticket = T>, R: Wait + Clock>(&self, rt: &R, door: &D) {
+        self.await_look(rt);
         let mut seat = self.seat.lock(rt);
         seat.tell(rt, door, Event::End, now(rt));
         seat.deafen();

@@ -6,13 +6,24 @@ use gx_core::StepFault;
 use gx_devices::Counted;
 use gx_session::Event;
 use gx_shared::Door;
-use gx_soup::Feeder;
+use gx_soup::{Feeder, SoupFault};
 use std::alloc::Global;
 use std::io::Read;
 use std::sync::Wait;
 use std::time::Clock;
 
-/// Takes the packets of a piece. Answers whether the session is over.
+/// What the bytes read so far leave of a session.
+#[derive(Clone, Copy)]
+enum Left {
+    /// It goes on.
+    Open,
+    /// It is over.
+    Over,
+    /// It is over, since behind its packets comes what is none.
+    Broken(SoupFault),
+}
+
+/// Takes the packets of a piece. Answers what it leaves of the session.
 fn take_piece<D: Door, R: Wait + Clock>(
     rt: &R,
     door: &D,
@@ -20,26 +31,29 @@ fn take_piece<D: Door, R: Wait + Clock>(
     link: &Link<D::Ticket>,
     feeder: &mut Feeder,
     piece: &[u8],
-) -> bool {
+) -> Left {
     let Ok(fed) = feeder.feed(piece) else {
         link.tell(rt, door, Event::Refused(StepFault::OutOfMemory));
-        return true;
+        return Left::Over;
     };
     for packet in &fed.packets {
         let over = link.take(rt, door, packet);
         bell.ring(rt);
         if over {
-            return true;
+            return Left::Over;
         }
     }
-    if fed.fault.is_some() {
-        link.tell(rt, door, Event::Fault);
+    match fed.fault {
+        Some(fault) => {
+            link.tell(rt, door, Event::Fault);
+            Left::Broken(fault)
+        }
+        None => Left::Open,
     }
-    fed.fault.is_some()
 }
 
 /// Reads a connection's packets and takes each, until its input ends or fails. Once the session is
-/// over, what comes is let go.
+/// over, what comes is let go. Answers why the session ended where its bytes are no packets.
 pub fn read_on<D: Door, I: Read, R: Wait + Clock>(
     rt: &R,
     alloc: Global,
@@ -47,19 +61,23 @@ pub fn read_on<D: Door, I: Read, R: Wait + Clock>(
     bell: &Bell,
     link: &Link<D::Ticket>,
     reader: &mut Counted<I>,
-) {
+) -> Option<SoupFault> {
     let mut feeder = Feeder::new(alloc);
     let mut buffer = [0u8; 4096];
-    let mut over = false;
+    let mut left = Left::Open;
     for _ in rt.forever() {
         match reader.read(&mut buffer) {
             Ok(n) if n > 0 => {
-                if !over {
-                    over = take_piece(rt, door, bell, link, &mut feeder, &buffer[..n]);
+                if let Left::Open = left {
+                    left = take_piece(rt, door, bell, link, &mut feeder, &buffer[..n]);
                 }
             }
             _ => break,
         }
     }
     link.end(rt, door);
+    match left {
+        Left::Broken(fault) => Some(fault),
+        Left::Open | Left::Over => None,
+    }
 }

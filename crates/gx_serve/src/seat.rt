@@ -70,6 +70,8 @@ pub struct Seat<T: Drop> {
     sign: Option<Sign>,
     /// The reader has ended.
     deaf: bool,
+    /// The writer has looked for reports since the last step that was made with the pass, and left none.
+    looked: bool,
     ghost has_pass: { IsTrue (is_some pass) },
 }
 
@@ -87,6 +89,7 @@ impl<T: Drop> Seat<T> {
             answer: None,
             sign: None,
             deaf: false,
+            looked: false,
         }
     }
 
@@ -111,6 +114,11 @@ impl<T: Drop> Seat<T> {
     /// Whether the reader has ended.
     pub fn is_deaf(&self) -> bool {
         self.deaf
+    }
+
+    /// Whether a user is logged in for whom the writer has still to look for reports.
+    pub fn is_owed(&self) -> bool {
+        self.is_on() && !self.looked
     }
 
     /// The reader has ended.
@@ -139,6 +147,7 @@ impl<T: Drop> Seat<T> {
         };
         let (pass, answer) = door.act(rt, pass, self.user, request, moment);
         self.pass = Some(pass);
+        self.looked = false;
         match answer {
             Ok(_) => Ok(()),
             Err(fault) => Err(fault),
@@ -350,13 +359,16 @@ impl<T: Drop> Seat<T> {
         let length = door.length(&mut pass);
         if !watch.has_news(length) {
             self.pass = Some(pass);
+            self.looked = true;
             return Due::Nothing;
         }
         let (pass, answer) = door.pull(rt, pass, user, from, BATCH);
         self.pass = Some(pass);
         match answer {
             Ok(pulled) => {
-                watch.looked(length, pulled.reports.as_slice().len() as u64 >= BATCH);
+                let more = pulled.reports.as_slice().len() as u64 >= BATCH;
+                watch.looked(length, more);
+                self.looked = !more;
                 due_of(pulled)
             }
             Err(PullFault::OutOfMemory) => {

@@ -9,11 +9,13 @@ use crate::fault::ServeFault;
 use crate::link::Link;
 use crate::lobby::Lobby;
 use crate::matching::match_on;
+use crate::peer::Peer;
 use crate::stop::Stop;
 use gx_core::Gate;
 use gx_history::policy::Policy;
 use gx_pass::{Blank, GateName};
 use gx_shared::{Door, SharedGate};
+use gx_soup::SoupFault;
 use std::alloc::Global;
 use std::io::ErrorKind;
 use std::marker::Brand;
@@ -43,30 +45,37 @@ pub struct Served {
     pub ended: Result<(), ServeFault>,
 }
 
-/// Takes a connection; `None` once the server is to end. One that fails before it is taken is passed
+/// Takes the connection of this number; `None` once the server is to end. One that fails before it is taken is passed
 /// over, and so is a want of descriptors that ends soon.
 fn accept<R: Wait + Clock>(
     rt: &R,
     stop: &Stop,
     listener: &TcpListener,
-) -> Result<Option<TcpStream>, ServeFault> {
+    number: u64,
+) -> Result<Option<Peer>, ServeFault> {
     let mut left = FAILURES;
     for _ in rt.forever() {
         if stop.is_asked() {
             return Ok(None);
         }
         match listener.accept() {
-            Ok((stream, _)) => return Ok(Some(stream)),
+            Ok((stream, address)) => {
+                return Ok(Some(Peer {
+                    number,
+                    address,
+                    stream,
+                }));
+            }
             Err(error) if error.kind() == ErrorKind::WouldBlock => {
                 thread::sleep(rt, Duration::from_millis(POLL));
             }
-            Err(_) => {
+            Err(error) => {
                 left = left.saturating_sub(1);
+                if left == 0 {
+                    return Err(ServeFault::ListenFailed(error));
+                }
                 thread::sleep(rt, Duration::from_millis(PAUSE));
             }
-        }
-        if left == 0 {
-            return Err(ServeFault::ListenFailed);
         }
     }
     unreachable!()
@@ -78,24 +87,34 @@ fn set_up(stream: &TcpStream) -> io::Result<()> {
     stream.set_write_timeout(Some(Duration::from_millis(WRITE_PATIENCE)))
 }
 
-/// Serves a connection to its end, with this pass, and gives its place back.
+/// Serves a connection to its end, with this pass. Answers why it ended where its bytes are no packets.
 fn serve_stream<T: Drop + Send, D: Door<Ticket = T> + Sync, R: Threads + Wait + Clock + Sync>(
     rt: &R,
     alloc: Global,
     door: &D,
     lobby: &Lobby,
     pass: T,
-    stream: TcpStream,
-) {
-    if set_up(&stream).is_ok() {
-        let link = Link::new(pass, now(rt));
-        let bell = &lobby.bell;
-        let stop = &lobby.stop;
-        converse(
-            rt, alloc, door, bell, stop, &link, &stream, &stream, &stream,
-        );
+    stream: &TcpStream,
+) -> Option<SoupFault> {
+    if set_up(stream).is_err() {
+        return None;
     }
-    drop(stream);
+    let link = Link::new(pass, now(rt));
+    let bell = &lobby.bell;
+    let stop = &lobby.stop;
+    converse(rt, alloc, door, bell, stop, &link, stream, stream, stream)
+}
+
+/// Serves a peer to his end, with this pass, tells where his bytes are no packets, and gives his place back.
+fn serve_peer<
+    T: Drop + Send,
+    D: Door<Ticket = T> + Sync,
+    R: Threads + Wait + Clock + Eprint + Sync,
+>(rt: &R, alloc: Global, door: &D, lobby: &Lobby, pass: T, peer: Peer) {
+    if let Some(fault) = serve_stream(rt, alloc, door, lobby, pass, &peer.stream) {
+        peer.tell(rt, alloc, fault);
+    }
+    drop(peer);
     lobby.places.give(rt);
 }
 
@@ -105,7 +124,7 @@ fn take_connections<
     'x,
     T: Drop + Send,
     D: Door<Ticket = T> + Sync,
-    R: Threads + Wait + Clock + Sync,
+    R: Threads + Wait + Clock + Eprint + Sync,
 >(
     rt: &'x R,
     alloc: Global,
@@ -115,18 +134,16 @@ fn take_connections<
     connections: u64,
 ) -> Result<(), ServeFault> {
     thread::scope(thread::scope_env(), rt, |scope| {
-        for _ in 0..connections {
+        for before in 0..connections {
             lobby.places.take(rt);
-            let Some(stream) = accept(rt, &lobby.stop, &listener)? else {
+            let Some(peer) = accept(rt, &lobby.stop, &listener, before + 1)? else {
                 break;
             };
             let Ok(pass) = door.issue(rt) else {
                 lobby.places.give(rt);
                 continue;
             };
-            let serving = (&*scope).spawn(move || serve_stream(
-                rt, alloc, door, lobby, pass, stream,
-            ));
+            let serving = (&*scope).spawn(move || serve_peer(rt, alloc, door, lobby, pass, peer));
             if serving.is_err() {
                 lobby.places.give(rt);
             }
@@ -138,7 +155,7 @@ fn take_connections<
 
 /// Runs the matcher beside the connections. Gives the matcher's pass, and why no more connections were
 /// taken; `None` where no thread could be made for the matcher.
-fn run<'x, T: Drop + Send, D: Door<Ticket = T> + Sync, R: Threads + Wait + Clock + Sync>(
+fn run<'x, T: Drop + Send, D: Door<Ticket = T> + Sync, R: Threads + Wait + Clock + Eprint + Sync>(
     rt: &'x R,
     alloc: Global,
     door: &'x D,
@@ -159,7 +176,11 @@ fn run<'x, T: Drop + Send, D: Door<Ticket = T> + Sync, R: Threads + Wait + Clock
 
 /// Serves at a door. Gives back a pass, and why the server gave up, if it did; `None` where memory was
 /// refused before any connection was taken.
-fn serve_door<T: Drop + Send, D: Door<Ticket = T> + Sync, R: Threads + Wait + Clock + Sync>(
+fn serve_door<
+    T: Drop + Send,
+    D: Door<Ticket = T> + Sync,
+    R: Threads + Wait + Clock + Eprint + Sync,
+>(
     rt: &R,
     alloc: Global,
     door: &D,
@@ -170,14 +191,14 @@ fn serve_door<T: Drop + Send, D: Door<Ticket = T> + Sync, R: Threads + Wait + Cl
     let Ok(pass) = door.issue(rt) else {
         return None;
     };
-    if listener.set_nonblocking(true).is_err() {
-        return Some((pass, Err(ServeFault::ListenFailed)));
+    if let Err(error) = listener.set_nonblocking(true) {
+        return Some((pass, Err(ServeFault::ListenFailed(error))));
     }
     lobby.bell.open(rt);
     run(rt, alloc, door, lobby, pass, listener, connections)
 }
 
-fn serve_named<N: GateName + Send + Sync, R: Threads + Wait + Clock + Sync>(
+fn serve_named<N: GateName + Send + Sync, R: Threads + Wait + Clock + Eprint + Sync>(
     rt: &R,
     alloc: Global,
     policy: &Policy,
@@ -206,7 +227,7 @@ fn serve_named<N: GateName + Send + Sync, R: Threads + Wait + Clock + Sync>(
 
 /// Takes connections under the policy, and serves each until it ends: so many of them, or
 /// fewer where the lobby is asked to end. Gives the gate of all that was done, also where it gave up.
-pub fn serve<R: Threads + Wait + Clock + Sync>(
+pub fn serve<R: Threads + Wait + Clock + Eprint + Sync>(
     rt: &R,
     alloc: Global,
     policy: &Policy,

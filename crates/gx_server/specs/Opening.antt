@@ -20,7 +20,8 @@ IsFaultOf meant (Policy fault) = meant ≡ Err fault.kind
 IsFaultOf meant (Pipe pipe_faults.OutOfMemory) = Unit {0}
 IsFaultOf meant other = ⊥
 
--- what is told of the policy that is meant
-abbrev pub line_for : Result PolicyData FaultKind → Result (List ℕ) FaultKind
-line_for (Ok policy) = Ok (policy_line policy)
-line_for (Err kind) = Err kind
+-- what is told of the policy that is meant by a file of this version
+abbrev pub line_for : Result ℕ FaultKind → Result PolicyData FaultKind → Result (List ℕ) FaultKind
+line_for (Ok version) (Ok policy) = Ok (policy_line version policy)
+line_for (Ok version) (Err kind) = Err kind
+line_for (Err kind) meant = Err kind

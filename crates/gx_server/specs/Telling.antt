@@ -1,13 +1,16 @@
 -- How a fault is told: the status that the program ends with, and the line on standard error.
-use Rattle.std.specs.Prelude.{ℕ, List, ◌++◌, codes, decimal, if◌then◌else◌}
+use Rattle.std.specs.Prelude.{ℕ, List, Option, Some, None, ◌++◌, codes, decimal, if◌then◌else◌}
 use Rattle.gx_policyfile.specs.declared.fault.FaultKind.{FaultKind}
 use Rattle.gx_policyfile.specs.Field.{is_memory}
 use Rattle.gx_policyfile.specs.Telling.{kind_words}
 use Rattle.gx_script.specs.Printing.{line_end}
 use Rattle.gx_session.specs.Faults.{fault_words}
+use Rattle.gx_session.specs.declared.fault.PipeFault.{PipeFault}
 use Rattle.gx_session.specs.declared.fault.PipeFault.TheVariants as pipe_faults
 use Rattle.gx_scripting.specs.declared.script_fault.ScriptFault.{ScriptFault}
 use Rattle.gx_scripting.specs.declared.script_fault.ScriptFault.TheVariants as script_faults
+use Rattle.gx_server.specs.declared.program_fault.Device.{Device}
+use Rattle.gx_server.specs.declared.program_fault.Device.TheVariants.{Reader, Writer}
 use Rattle.gx_server.specs.declared.program_fault.ProgramFault.{ProgramFault}
 use Rattle.gx_server.specs.declared.program_fault.ProgramFault.TheVariants.{Pipe, Script, Unread, Policy, ListenFailed}
 
@@ -58,3 +61,27 @@ status_of (Script explained) = script_status explained.fault
 status_of Unread = 1
 status_of ListenFailed = 1
 status_of (Policy fault) = if is_memory fault.kind then 1 else 3
+
+-- the device that a script was given up for
+abbrev pub script_device : ScriptFault → Option Device
+script_device (script_faults.BadLine number) = None
+script_device script_faults.ReadFailed = Some Reader
+script_device script_faults.WriteFailed = Some Writer
+script_device script_faults.OutOfMemory = None
+script_device script_faults.Endless = None
+
+-- the device that a connection was given up for
+abbrev pub pipe_device : PipeFault → Option Device
+pipe_device pipe_faults.OutOfMemory = None
+pipe_device pipe_faults.ReadFailed = Some Reader
+pipe_device pipe_faults.WriteFailed = Some Writer
+pipe_device pipe_faults.DayFull = None
+pipe_device pipe_faults.Endless = None
+
+-- the device that a run was given up for
+abbrev pub device_of : ProgramFault → Option Device
+device_of (Pipe fault) = pipe_device fault
+device_of (Script explained) = script_device explained.fault
+device_of Unread = None
+device_of ListenFailed = None
+device_of (Policy fault) = None

@@ -1,10 +1,12 @@
 //! What the program opens a gate on, and how each fault is told.
 #![tactic(auto)]
 
+mod noted;
 mod opening;
 mod policies;
 mod program_fault;
 
-pub use opening::{open_gate, policy_for, told_of_policy};
+pub use noted::Noted;
+pub use opening::{migrated_policy, open_gate, policy_for, told_of_policy};
 pub use policies::{policy_line, sample_policy};
-pub use program_fault::{FaultLine, ProgramFault};
+pub use program_fault::{Device, FaultLine, ProgramFault};

@@ -1,7 +1,7 @@
 //! The gate that a run opens, and what is told of a policy file.
 
 ghost use Rattle.std.specs.Prelude.{◌≡◌, [], None, Ok, option_copied, IfOk, IfErr};
-ghost use Rattle.gx_policyfile.specs.Policies.{means};
+ghost use Rattle.gx_policyfile.specs.Policies.{means, version_of};
 ghost use Rattle.gx_server.specs.Opening.{policy_for, line_for, IsFaultOf};
 ghost use Rattle.gx_server.specs.Telling.{out_of_memory};
 
@@ -9,7 +9,7 @@ use crate::policies::{policy_line, sample_policy};
 use crate::program_fault::ProgramFault;
 use gx_core::Gate;
 use gx_history::policy::Policy;
-use gx_policyfile::read_policy;
+use gx_policyfile::{migrate, read_policy, read_version};
 use std::alloc::Global;
 
 /// The policy that a file means.
@@ -45,11 +45,30 @@ pub fn open_gate(alloc: Global, file: Option<&[u8]>) -> Result<Gate, ProgramFaul
     Ok(Gate::open(alloc, &policy)?)
 }
 
-/// The line that says how much the policy holds that the bytes of a file mean.
-pub fn told_of_policy(alloc: Global, file: &[u8]) -> Result<Vec<u8>, ProgramFault>
-    ensures line { IfOk result (λ text. line_for (means file.now) ≡ Ok text.items) }
+/// The version of a file that means a policy.
+fn version_of(alloc: Global, file: &[u8]) -> Result<u64, ProgramFault>
+    ensures version { IfOk result (λ version. version_of file.now ≡ Ok version) }
     ensures fault { IfErr result (IsFaultOf (means file.now)) }
 {
+    Ok(read_version(alloc, file)?)
+}
+
+/// The line that says which version the file has, and how much the policy holds that its bytes mean.
+pub fn told_of_policy(alloc: Global, file: &[u8]) -> Result<Vec<u8>, ProgramFault>
+    ensures line { IfOk result (λ text.
+        line_for (version_of file.now) (means file.now) ≡ Ok text.items) }
+    ensures fault { IfErr result (IsFaultOf (means file.now)) }
+{
+    let version = version_of(alloc, file)?;
     let policy = policy_of(alloc, file)?;
-    Ok(policy_line(alloc, &policy)?)
+    Ok(policy_line(alloc, version, &policy)?)
+}
+
+/// The file in version 2, with the same meaning.
+pub fn migrated_policy(alloc: Global, file: &[u8]) -> Result<Vec<u8>, ProgramFault>
+    ensures version { IfOk result (λ text. version_of text.items ≡ Ok 2) }
+    ensures same { IfOk result (λ text. means text.items ≡ means file.now) }
+    ensures fault { IfErr result (IsFaultOf (means file.now)) }
+{
+    Ok(migrate(alloc, file)?)
 }

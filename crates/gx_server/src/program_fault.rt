@@ -6,6 +6,7 @@ ghost use Rattle.gx_policyfile.specs.Field.{is_memory};
 ghost use Rattle.gx_server.specs.declared.program_fault.ProgramFault.TheVariants as faults;
 ghost use Rattle.gx_session.specs.Faults.{fault_words};
 ghost use Rattle.gx_server.specs.Telling.{out_of_memory, script_words, policy_words, gate_line, fault_line, script_status, status_of};
+ghost use Rattle.gx_server.specs.Telling.{script_device, device_of};
 
 use arrayvec::ArrayVec;
 use gx_policyfile::{FaultKind, PolicyFault};
@@ -17,6 +18,15 @@ use std::io::ErrorKind;
 
 /// The line that tells a fault: no memory is asked for.
 pub type FaultLine = ArrayVec<u8, 64>;
+
+/// A device of a run.
+#[derive(Clone, Copy, Debug, PartialEq, Eq)]
+pub enum Device {
+    /// What a connection or a script is read from.
+    Reader,
+    /// What its answers are written to.
+    Writer,
+}
 
 /// Why the program gave up.
 #[derive(Drop)]
@@ -92,6 +102,18 @@ impl ProgramFault {
         }
     }
 
+    /// The device for whose failing a run was given up, if it was for one's.
+    pub fn failed_device(&self) -> Option<Device>
+        ensures { result ≡ device_of self.now }
+    {
+        match self {
+            ProgramFault::Pipe(PipeFault::ReadFailed) => Some(Device::Reader),
+            ProgramFault::Pipe(PipeFault::WriteFailed) => Some(Device::Writer),
+            ProgramFault::Script(explained) => script_device(explained.fault),
+            _ => None,
+        }
+    }
+
     /// The line on standard error, with its line end.
     pub fn line(&self) -> FaultLine
         ensures { result.items ≡ fault_line self.now }
@@ -112,6 +134,16 @@ fn script_status(fault: ScriptFault) -> u8
     match fault {
         ScriptFault::BadLine(_) => 4,
         _ => 1,
+    }
+}
+
+fn script_device(fault: ScriptFault) -> Option<Device>
+    ensures { result ≡ script_device fault }
+{
+    match fault {
+        ScriptFault::ReadFailed => Some(Device::Reader),
+        ScriptFault::WriteFailed => Some(Device::Writer),
+        _ => None,
     }
 }
 

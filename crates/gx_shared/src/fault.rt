@@ -1,28 +1,18 @@
 //! Why nothing was pulled.
 
 use gx_units::OutOfMemory;
-use std::error::Error;
-use std::fmt;
+use thiserror::Error;
 
 /// Why no reports were pulled. Nothing has changed then.
-#[derive(Clone, Copy, Debug, PartialEq, Eq)]
+#[derive(Clone, Copy, Debug, PartialEq, Eq, Error)]
 pub enum PullFault {
     /// The allocator refused the reports.
+    #[error("out of memory")]
     OutOfMemory,
     /// The user is not logged in on the line of the pass.
+    #[error("not logged in on this line")]
     NotOn,
 }
-
-impl fmt::Display for PullFault {
-    fn fmt<W: fmt::Write>(&self, f: &mut fmt::Formatter<W>) -> fmt::Result {
-        match self {
-            PullFault::OutOfMemory => write!(f, "out of memory"),
-            PullFault::NotOn => write!(f, "not logged in on this line"),
-        }
-    }
-}
-
-impl Error for PullFault {}
 
 impl From<OutOfMemory> for PullFault {
     ghost use Rattle.std.specs.Prelude.{◌≡◌};

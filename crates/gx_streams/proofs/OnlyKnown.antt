@@ -234,7 +234,7 @@ grant_owes policy history r user c a (requests.Enter m) asks e granted = not_to 
 grant_owes policy history r user c a (requests.Replace m) asks e granted = not_to a.user user _ (not_his policy history r user c a (requests.Replace m) asks e granted refl refl)
 grant_owes policy history r user c a (requests.Cancel m) asks e granted = not_to a.user user _ (not_his policy history r user c a (requests.Cancel m) asks e granted refl refl)
 grant_owes policy history r user c a (requests.Command m) asks e granted =
-    let told : List Message = answer r m (granted_code policy (history ++ r ∷ []) m) in
+    let told : List Message = answer r m (granted_code policy (history ++ r ∷ []) m.action) in
     ap (λ (ms : List Message). (ms ++ day_end policy m.action user) ++ to_user a.user user told) (none_ended policy history m.action user c.is_no_party)
     ∙ ap (λ (ms : List Message). ms ++ to_user a.user user told) (no_day_end policy m.action user c.is_no_party)
     ∙ not_to a.user user told (not_his policy history r user c a (requests.Command m) asks e granted refl refl)

@@ -9,6 +9,7 @@ use gx_history::record::{Request, Verdict};
 use gx_ouch::EnterOrder;
 use gx_pass::PassFault;
 use gx_script::outcome_line;
+use gx_serve::ServeFault;
 use gx_shared::PullFault;
 use gx_units::{
     AccountName, Firm, LoginRejection, OutOfMemory, Password, SessionName, Symbol, Token, UserName,
@@ -59,6 +60,8 @@ pub(crate) enum Ended {
     Pass(PassFault),
     Step(StepFault),
     Pull(PullFault),
+    Serve(ServeFault),
+    Socket,
 }
 
 impl fmt::Display for Ended {
@@ -68,6 +71,8 @@ impl fmt::Display for Ended {
             Ended::Pass(fault) => write!(f, "no pass: {fault}"),
             Ended::Step(fault) => write!(f, "refused: {fault}"),
             Ended::Pull(fault) => write!(f, "not pulled: {fault}"),
+            Ended::Serve(fault) => write!(f, "not served: {fault}"),
+            Ended::Socket => f.write_str("a socket failed"),
         }
     }
 }
@@ -96,8 +101,14 @@ impl From<PullFault> for Ended {
     }
 }
 
+impl From<ServeFault> for Ended {
+    fn from(fault: ServeFault) -> Ended {
+        Ended::Serve(fault)
+    }
+}
+
 /// `A000` for 0, `A001` for 1 and so on.
-fn numbered(number: u16) -> [u8; 14] {
+pub(crate) fn numbered(number: u16) -> [u8; 14] {
     let mut bytes = *b"A000          ";
     bytes[1] = b'0' + (number / 100 % 10) as u8;
     bytes[2] = b'0' + (number / 10 % 10) as u8;

@@ -110,7 +110,7 @@ fn put_count(out: &mut String, count: Option<u16>) -> Result<(), Ended> {
 }
 
 /// Puts a number and what it is of at the end.
-fn put_number(out: &mut String, number: u64, words: &str) -> Result<(), Ended> {
+pub(crate) fn put_number(out: &mut String, number: u64, words: &str) -> Result<(), Ended> {
     match write!(out, "{number}{words}") {
         Ok(()) => Ok(()),
         Err(_) => Err(Ended::OutOfMemory),
@@ -140,16 +140,26 @@ fn put_found(alloc: Global, policy: &Policy, audit: &[u8], out: &mut String) -> 
     }
 }
 
-/// Puts at the end what the records of the closed gate are.
-fn put_day(alloc: Global, policy: &Policy, gate: &Gate, out: &mut String) -> Result<(), Ended> {
-    let records = gate.records(1, u64::MAX)?;
-    put_lines(out, records.as_slice())?;
+/// Puts at the end what the audit of the closed gate is found to be.
+pub(crate) fn put_audit(
+    alloc: Global,
+    policy: &Policy,
+    gate: &Gate,
+    out: &mut String,
+) -> Result<(), Ended> {
     let audit = audit_of(alloc, gate)?;
     put_found(alloc, policy, audit.as_slice(), out)
 }
 
+/// Puts at the end what the records of the closed gate are.
+fn put_day(alloc: Global, policy: &Policy, gate: &Gate, out: &mut String) -> Result<(), Ended> {
+    let records = gate.records(1, u64::MAX)?;
+    put_lines(out, records.as_slice())?;
+    put_audit(alloc, policy, gate, out)
+}
+
 /// A pass for each of the three.
-fn three_passes<N: GateName, R: Wait>(
+pub(crate) fn three_passes<N: GateName, R: Wait>(
     rt: &R,
     gate: &SharedGate<N>,
 ) -> Result<(Pass<N>, Pass<N>, Pass<N>), PassFault> {

@@ -3,20 +3,33 @@
 #![tactic(auto)]
 
 mod asking;
+mod conversations;
+mod counting;
+mod devices;
+mod holding;
 mod lengths;
 mod lines;
+mod loopback;
+mod packets;
+mod plays;
 mod races;
+mod still;
 
 use asking::Ended;
+use conversations::run_play;
 use gx_history::policy::Policy;
 use gx_pass::Blank;
 use gx_policyfile::sample;
 use gx_units::OutOfMemory;
+use plays::Play;
 use std::alloc::Global;
 use std::io;
 use std::marker::Brand;
+use std::net::{Net, TcpListener, TcpStream};
 use std::sync::Wait;
 use std::thread::Threads;
+use std::time::Clock;
+use still::Still;
 
 /// The sample policy.
 fn sample_policy(alloc: Global) -> Result<Policy, OutOfMemory> {
@@ -27,24 +40,53 @@ fn sample_policy(alloc: Global) -> Result<Policy, OutOfMemory> {
     }
 }
 
-/// All runs, each on a gate of its own.
-fn run_all<R: Threads + Wait + Sync>(
+/// A play on a gate of its own.
+fn play_once<R: Threads + Wait + Clock + Sync>(
+    rt: &R,
+    alloc: Global,
+    policy: &Policy,
+    play: Play,
+    out: &mut String,
+) -> Result<(), Ended> {
+    run_play::<Brand, R>(rt, alloc, policy, Blank::new(alloc)?, play, out)
+}
+
+/// The plays, on a date that stands still.
+fn run_plays<R: Threads + Wait + Clock + Sync>(
     rt: &R,
     alloc: Global,
     policy: &Policy,
     out: &mut String,
 ) -> Result<(), Ended> {
+    let still = Still::new(rt);
+    for play in [
+        Play::Exchange,
+        Play::HeldCall,
+        Play::SlowWriter,
+        Play::Farewell,
+    ] {
+        play_once(&still, alloc, policy, play, out)?;
+    }
+    Ok(())
+}
+
+/// All runs, each on a gate of its own.
+fn run_all<R>(rt: &R, alloc: Global, policy: &Policy, out: &mut String) -> Result<(), Ended>
+where
+    R: Net<Listener = TcpListener, Stream = TcpStream> + Threads + Wait + Clock + Eprint + Sync,
+{
     lengths::run_lengths::<Brand, R>(rt, alloc, policy, Blank::new(alloc)?, out)?;
     lines::run_lines::<Brand, R>(rt, alloc, policy, Blank::new(alloc)?, out)?;
-    races::run_races::<Brand, R>(rt, alloc, policy, Blank::new(alloc)?, out)
+    races::run_races::<Brand, R>(rt, alloc, policy, Blank::new(alloc)?, out)?;
+    run_plays(rt, alloc, policy, out)?;
+    loopback::run_loopback(rt, alloc, policy, out)
 }
 
 /// All runs under the sample policy.
-fn run_sample<R: Threads + Wait + Sync>(
-    rt: &R,
-    alloc: Global,
-    out: &mut String,
-) -> Result<(), Ended> {
+fn run_sample<R>(rt: &R, alloc: Global, out: &mut String) -> Result<(), Ended>
+where
+    R: Net<Listener = TcpListener, Stream = TcpStream> + Threads + Wait + Clock + Eprint + Sync,
+{
     let policy = sample_policy(alloc)?;
     run_all(rt, alloc, &policy, out)
 }

@@ -1,4 +1,5 @@
-use Rattle.std.proofs.Common.{◌≡◌, ◌∙◌, ap, map, refl, take, true, false}
+use Rattle.std.proofs.Common.{◌≡◌, ◌∙◌, ap, map, refl, take, true}
+use Rattle.std.specs.Prelude.{None}
 use Rattle.std.proofs.lemmas.List.{take_all}
 use Rattle.gx_units.specs.Names.{same_account}
 use Rattle.gx_history.specs.Lists.{are_distinct}
@@ -18,7 +19,7 @@ loop-account-preserved c =
     ap (are_distinct (λ (a b : Account). same_account a.name b.name)) before.1 ∙ accounts_differ c.args.policy.now before.2
     in (
       c.in_ok-insert.ensures.entries
-          ∙ added_next same_account same_account_flip (λ (a : Account). a.name) false c.loop-account.kills.entries accounts c.loop-account.account-index _ _
+          ∙ added_next same_account same_account_flip (λ (a : Account). a.name) None c.loop-account.kills.entries accounts c.loop-account.account-index _ _
           differ before.0 c.loop-account-test.true refl,
       before.1,
       before.2,

@@ -11,17 +11,17 @@ set-requires c = record {
 
 pub tell_of_command-requires : goal.tell_of_command-requires
 tell_of_command-requires c =
-    command_places c.args.next.policy.now c.args.next.history.now.records c.args.next.asked.now c.args.next.left.now c.args.c.now c.args.keepers.now _ _ c.in_ok-set.ensures.streams
+    command_places c.args.next.policy.now c.args.next.history.now.records c.args.next.asked.now c.args.next.left.now c.args.c.now c.args.keepers.now _ _ _ _ c.set_day.ensures c.granted_code-code.ensures c.in_ok-set.ensures.streams
     c.requires.takes c.requires.places c.requires.granted c.requires.commands c.rules.ensures.sound
 
 pub returns-clause-ok : goal.returns-clause-ok
 returns-clause-ok c =
-    command_goes_on c.args.next.policy.now c.args.next.history.now.records c.args.next.asked.now c.args.next.left.now c.args.c.now c.args.keepers.now _ _
+    command_goes_on c.args.next.policy.now c.args.next.history.now.records c.args.next.asked.now c.args.next.left.now c.args.c.now c.granted_code-code.result c.args.keepers.now _ _
     c.requires.takes c.requires.granted c.requires.commands c.rules.ensures.sound
-    c.in_ok-set.ensures.people c.in_ok-set.ensures.streams c.in_ok-set.ensures.rules c.set_day.ensures c.end_orders.ensures.left c.end_orders.ensures.taken c.end_orders.ensures.closed c.tell_of_command.ensures
+    c.in_ok-set.ensures.people c.in_ok-set.ensures.streams c.in_ok-set.ensures.rules c.set_day.ensures c.end_orders.ensures.left c.end_orders.ensures.taken c.end_orders.ensures.closed c.granted_code-code.ensures c.tell_of_command.ensures
 
 pub returns-clause-room : goal.returns-clause-room
 returns-clause-room c =
     both_keep_room c.args.keepers.now.streams c.set.new.streams c.tell_of_command.new.streams
     (sent_keeps_room c.args.next.policy.now c.args.keepers.now.people c.set.new.people c.args.keepers.now.streams c.set.new.streams c.args.c.now.action c.in_ok-set.ensures.streams)
-    (telling_all_keeps_room c.set.new.streams c.tell_of_command.new.streams (owed_by_next c.args.next c.args.c.now c.args.keepers.now.orders.live) c.tell_of_command.ensures)
+    (telling_all_keeps_room c.set.new.streams c.tell_of_command.new.streams (owed_by_next c.args.next c.args.c.now c.granted_code-code.result c.args.keepers.now.orders.live) c.tell_of_command.ensures)

@@ -39,7 +39,7 @@ returns-clause-effect c =
 pub returns-clause-lifted_by : goal.returns-clause-lifted_by
 returns-clause-lifted_by c =
     rw (← c.self.view_is) (λ (account : AccountName) killed lifted.
-    kill_ends_by_lift c.self.inside.policy c.self.inside.history.records (left_by c.args.a c.outcome_of-outcome.result) account
+    kill_ends_by_lift c.self.inside.policy c.self.inside.history.records (left_by c.args.a c.outcome_of-outcome.result) account c.self.invariant.kept.legal
     (record { is_next = (ap (λ (g : GateData). next_of g c.args.a) c.self.view_is ∙ c.outcome_of-outcome.ensures.next); fits_day = asked_fits c.self.inside.policy c.self.inside.history.records c.args.a (left_by c.args.a c.outcome_of-outcome.result) c.self.inside.history.spare c.keep_for.new.history.spare (ap (λ (g : GateData). next_of g c.args.a) c.self.view_is ∙ c.outcome_of-outcome.ensures.next) (record { more = c.keep_for.ensures.more; own = c.in_ok-keep_for.ensures.own; room = c.in_ok-keep_for.ensures.room }) }) killed
     (sym
     (ap (λ (records : List RecordData). is_killed c.self.inside.policy records account)

@@ -1,5 +1,5 @@
 use Rattle.std.proofs.Common.{List, ◌∙◌, ap}
-use Rattle.gx_day.specs.DayData.{AccountKill, DayData, with_kill}
+use Rattle.gx_day.specs.DayData.{AccountKill, DayData, with_mark}
 use Rattle.gx_day.specs.View.{kills_of, lines_of}
 use Rattle.gx_day.proofs.Table.{kill_unknown, kill_written}
 use Rattle.gx_day.proofs.day.Day.mark.Goals as goal
@@ -8,16 +8,16 @@ use Rattle.gx_day.proofs.day.Day.mark.Goals as goal
 pub returns-in_default : goal.returns-in_default
 returns-in_default c =
     let inside = c.self.inside in
-    let with_these : List AccountKill → DayData = λ kills. record { lines = lines_of inside.lines.entries; kills = kills; closed = inside.closed; moment = inside.moment } in
+    let with_these : List AccountKill → DayData = λ kills. record { lifters = inside.lifters; lines = lines_of inside.lines.entries; kills = kills; closed = inside.closed; moment = inside.moment } in
     ap (λ kills. with_these (kills_of kills.entries)) c.get_mut.follows.holds-at-none
-    ∙ ap with_these (kill_unknown c.args.account c.args.killed inside.kills.entries c.in_default.ensures.value)
-    ∙ ap (with_kill c.args.account c.args.killed) c.self.view_is
+    ∙ ap with_these (kill_unknown inside.lifters c.args.account c.args.mark inside.kills.entries c.in_default.ensures.value)
+    ∙ ap (with_mark c.args.account c.args.mark) c.self.view_is
 
--- the mark is written in place
+-- the Kill is written in place
 pub returns : goal.returns
 returns c =
     let inside = c.self.inside in
-    let with_these : List AccountKill → DayData = λ kills. record { lines = lines_of inside.lines.entries; kills = kills; closed = inside.closed; moment = inside.moment } in
-    ap (λ entries. with_these (kills_of entries)) (c.get_mut.follows.holds c.args.killed).0
-    ∙ ap with_these (kill_written c.args.account c.args.killed inside.kills.entries c.in-Some.ensures.unique)
-    ∙ ap (with_kill c.args.account c.args.killed) c.self.view_is
+    let with_these : List AccountKill → DayData = λ kills. record { lifters = inside.lifters; lines = lines_of inside.lines.entries; kills = kills; closed = inside.closed; moment = inside.moment } in
+    ap (λ entries. with_these (kills_of entries)) (c.get_mut.follows.holds c.marked.result).0
+    ∙ ap with_these (kill_written inside.lifters c.args.account c.args.mark _ c.marked.result inside.kills.entries c.in-Some.ensures.unique c.in-Some.ensures.value c.marked.ensures)
+    ∙ ap (with_mark c.args.account c.args.mark) c.self.view_is

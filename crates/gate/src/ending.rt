@@ -1,0 +1,158 @@
+//! Why the program gave up, and how that is told.
+
+use gx_auditing::AuditingFault;
+use gx_serve::ServeFault;
+use gx_server::{Device, ProgramFault};
+use gx_session::PipeFault;
+use gx_units::OutOfMemory;
+use std::process::ExitCode;
+use std::{fmt, io};
+
+/// What can't be read, written or listened on.
+#[derive(Clone, Copy)]
+pub(crate) enum Place<'a> {
+    /// The file of this name.
+    File(&'a str),
+    /// Standard input.
+    Input,
+    /// Standard output.
+    Output,
+    /// The address that a server listens on.
+    Address,
+}
+
+impl fmt::Display for Place<'_> {
+    fn fmt<W: fmt::Write>(&self, f: &mut fmt::Formatter<W>) -> fmt::Result {
+        match self {
+            Place::File(name) => f.write_str(name),
+            Place::Input => f.write_str("standard input"),
+            Place::Output => f.write_str("standard output"),
+            Place::Address => f.write_str("127.0.0.1"),
+        }
+    }
+}
+
+/// Why the program gave up, and, where the system refused something, of what and in which words.
+#[derive(Drop)]
+pub(crate) struct Ended<'a> {
+    fault: ProgramFault,
+    place: Place<'a>,
+    said: Option<io::Error>,
+}
+
+impl<'a> Ended<'a> {
+    /// That a file can't be read.
+    pub(crate) fn unread(name: &'a str, error: io::Error) -> Ended<'a> {
+        Ended {
+            fault: ProgramFault::unread(error.kind()),
+            place: Place::File(name),
+            said: Some(error),
+        }
+    }
+
+    /// That a file or a device can't be written.
+    pub(crate) fn unwritten(place: Place<'a>, error: io::Error) -> Ended<'a> {
+        Ended {
+            fault: PipeFault::WriteFailed.into(),
+            place,
+            said: Some(error),
+        }
+    }
+
+    /// The fault of what writes there, and what the system said of it, if it said something.
+    pub(crate) fn of_writing(
+        fault: AuditingFault,
+        place: Place<'a>,
+        said: Option<io::Error>,
+    ) -> Ended<'a> {
+        match fault {
+            AuditingFault::OutOfMemory => OutOfMemory.into(),
+            AuditingFault::WriteFailed => Ended {
+                fault: PipeFault::WriteFailed.into(),
+                place,
+                said,
+            },
+        }
+    }
+
+    /// The fault of a run over standard input and output, and what the system said of the one that failed.
+    pub(crate) fn of_run(
+        fault: ProgramFault,
+        read: Option<io::Error>,
+        written: Option<io::Error>,
+    ) -> Ended<'a> {
+        let (place, said) = said_of(fault.failed_device(), read, written);
+        Ended { fault, place, said }
+    }
+}
+
+/// What the system said of the device that failed, if one did.
+fn said_of<'a>(
+    failed: Option<Device>,
+    read: Option<io::Error>,
+    written: Option<io::Error>,
+) -> (Place<'a>, Option<io::Error>) {
+    match failed {
+        Some(Device::Reader) => (Place::Input, read),
+        Some(Device::Writer) => (Place::Output, written),
+        None => (Place::Output, None),
+    }
+}
+
+impl<'a> From<ProgramFault> for Ended<'a> {
+    fn from(fault: ProgramFault) -> Ended<'a> {
+        Ended {
+            fault,
+            place: Place::Output,
+            said: None,
+        }
+    }
+}
+
+impl<'a> From<OutOfMemory> for Ended<'a> {
+    fn from(refused: OutOfMemory) -> Ended<'a> {
+        ProgramFault::from(refused).into()
+    }
+}
+
+impl<'a> From<ServeFault> for Ended<'a> {
+    fn from(fault: ServeFault) -> Ended<'a> {
+        match fault {
+            ServeFault::OutOfMemory => OutOfMemory.into(),
+            ServeFault::ListenFailed(error) => Ended {
+                fault: ProgramFault::ListenFailed,
+                place: Place::Address,
+                said: Some(error),
+            },
+        }
+    }
+}
+
+/// Puts on standard error what more there is to tell of the fault: of a policy file or of a script, where it stands; of a
+/// file or a device, what the system said.
+fn tell_more(rt: &HostRuntime, ended: &Ended) {
+    match &ended.fault {
+        ProgramFault::Policy(fault) => {
+            let place = fault.place();
+            let _ = eprintln!(rt; "{place}");
+        }
+        ProgramFault::Script(explained) => {
+            if let Some(wrong) = explained.wrong {
+                let _ = eprintln!(rt; "{wrong}");
+            }
+        }
+        ProgramFault::Unread | ProgramFault::ListenFailed | ProgramFault::Pipe(_) => {}
+    }
+    if let Some(error) = ended.said {
+        let place = ended.place;
+        let _ = eprintln!(rt; "{place}: {error}");
+    }
+}
+
+/// Tells why the program gave up: the status that says so.
+pub(crate) fn tell(rt: &HostRuntime, ended: Ended) -> ExitCode {
+    let line = ended.fault.line();
+    let _ = rt.stderr().write_all(line.as_slice());
+    tell_more(rt, &ended);
+    ExitCode::from(ended.fault.status())
+}

@@ -1,0 +1,19 @@
+use Rattle.std.proofs.Common.{◌∙◌, ap, sym}
+use Rattle.std.specs.Prelude.{Option, option_and_then, option_map}
+use Rattle.gx_day.specs.DayData.{kill_in}
+use Rattle.gx_day.specs.View.{lifted_by}
+use Rattle.gx_day.specs.declared.day.Kill.{Kill}
+use Rattle.gx_day.proofs.Table.{kill_found}
+use Rattle.gx_day.proofs.day.Day.kill_of.Goals as goal
+
+pub returns-in_err-get : goal.returns-in_err-get
+returns-in_err-get c =
+    ap (option_map lifted_by) (c.from_residual.ensures ∙ ap (option_and_then (λ (kill : Option Kill). kill)) c.in_err-get.ensures.value)
+    ∙ sym (kill_found c.self.inside.kills.entries c.args.account)
+    ∙ ap (λ day. kill_in day c.args.account) c.self.view_is
+
+pub returns : goal.returns
+returns c =
+    ap (λ (found : Option (Option Kill)). option_map lifted_by (option_and_then (λ (kill : Option Kill). kill) found)) c.in_ok-get.ensures.value
+    ∙ sym (kill_found c.self.inside.kills.entries c.args.account)
+    ∙ ap (λ day. kill_in day c.args.account) c.self.view_is

@@ -1,0 +1,31 @@
+-- How a kill ends: by the last of as many different officers as the policy asks for, each entitled to lift the account.
+use Rattle.std.specs.Prelude.{◌≡◌, ◌+◌, ℕ, Bool, false, ◌&&◌, IsTrue, IsFalse, List, Option, Some, length}
+use Rattle.std.specs.List.{AllByRecursion}
+use Rattle.gx_units.specs.declared.names.AccountName.{AccountName}
+use Rattle.gx_units.specs.declared.names.UserName.{UserName}
+use Rattle.gx_history.specs.declared.policy.PolicyData.{PolicyData}
+use Rattle.gx_history.specs.declared.policy.Role.{Role}
+use Rattle.gx_history.specs.declared.policy.Role.TheVariants as roles
+use Rattle.gx_history.specs.declared.record.RecordData.{RecordData}
+use Rattle.gx_history.specs.Effects.{IsGrantedLift}
+use Rattle.gx_history.specs.InForce.{has_lifted, kill_in_force, lifters_asked}
+use Rattle.gx_history.specs.People.{covers, role_in}
+
+-- an officer with the power to lift, and the account in his scope
+abbrev pub may_lift : Option Role → AccountName → Bool
+may_lift (Some (roles.Officer powers scope)) account = powers.lift && covers scope account
+may_lift other account = false
+
+-- the officer is entitled to lift the account
+abbrev pub IsEntitled : PolicyData → AccountName → UserName → Type 0
+IsEntitled policy account officer = IsTrue (may_lift (role_in policy.users officer) account)
+
+-- the record ends the kill of the account: a Lift, granted to an officer entitled to it, who with the other officers that have lifted the account
+-- since its last Kill, each of them entitled to it, makes as many as the policy asks for
+pub record EndsKill (policy : PolicyData) (before : List RecordData) (account : AccountName) (r : RecordData) : Type 0 where
+  pub lift : IsGrantedLift policy account r
+  pub others : List UserName
+  pub have_lifted : kill_in_force policy before account ≡ Some others
+  pub is_another : IsFalse (has_lifted lift.asked.user others)
+  pub are_enough : length others + 1 ≡ lifters_asked policy.lifters
+  pub are_entitled : AllByRecursion (IsEntitled policy account) others

@@ -1,0 +1,6 @@
+use Rattle.gx_policyfile.proofs.Giving.{never_refused}
+use Rattle.gx_policyfile.proofs.WasRead.{numbered}
+use Rattle.gx_policyfile.proofs.reading.read_version.Goals as goal
+
+pub returns-clause-fault : goal.returns-clause-fault
+returns-clause-fault c = never_refused c.number.result _ _ c.number.ensures (numbered _ c.in_ok-accepted.ensures.ok)

@@ -1,0 +1,36 @@
+-- The version of a policy file, and what hangs on it.
+use Rattle.std.specs.Prelude.{ℕ, List, [], ◌∷◌, ◌==◌, codes, Result, Ok, Err, if◌then◌else◌}
+use Rattle.toml.specs.Data.{Members}
+use Rattle.gx_history.specs.declared.policy.Lifters.{Lifters}
+use Rattle.gx_history.specs.declared.policy.Lifters.TheVariants as lifting
+use Rattle.gx_policyfile.specs.declared.fault.FaultKind.{FaultKind}
+use Rattle.gx_policyfile.specs.declared.version.FileVersion.{FileVersion}
+use Rattle.gx_policyfile.specs.declared.version.FileVersion.TheVariants.{One, Two}
+use Rattle.gx_policyfile.specs.Field.{◌>>=◌, number_at}
+
+-- the number that the file gives itself
+abbrev pub number : Members → Result ℕ FaultKind
+number top = number_at (codes "version") 1 2 top
+
+-- the first version where it is there, and else the second
+abbrev pub first_or_second : {X : Type 0} → Result X FaultKind → FileVersion
+first_or_second (Ok one) = One
+first_or_second (Err e) = Two
+
+-- The version by which a file is judged: 1 where its `version` is the integer 1, and 2 where that is anything else or absent.
+unfoldable pub version : Members → FileVersion
+version top = first_or_second (number_at (codes "version") 1 1 top)
+
+-- the keys at the top of a file of this version
+abbrev pub top_keys : FileVersion → List (List ℕ)
+top_keys One = codes "version" ∷ codes "session" ∷ codes "account" ∷ codes "stock" ∷ codes "user" ∷ codes "rule" ∷ []
+top_keys Two = codes "version" ∷ codes "session" ∷ codes "lifters" ∷ codes "account" ∷ codes "stock" ∷ codes "user" ∷ codes "rule" ∷ []
+
+-- 1 for one officer and 2 for two
+abbrev pub lifters_of : ℕ → Lifters
+lifters_of n = if n == 1 then lifting.One else lifting.Two
+
+-- how many officers have to lift: one in version 1, and in version 2 what the key `lifters` says
+abbrev pub lifters : FileVersion → Members → Result Lifters FaultKind
+lifters One top = Ok lifting.One
+lifters Two top = number_at (codes "lifters") 1 2 top >>= λ n. Ok (lifters_of n)
