@@ -193,14 +193,14 @@ def server(program: str, folder: Path) -> Iterator[int]:
 
 
 def expected(audit: bytes) -> dict[int, array]:
-    """What each trader is to be told, by the audit's records, in their order.
+    """What each trader is to be told, by the audit's records behind its header, in their order.
 
     An Accepted is twice the order's number, an Executed twice the match's and one.
     """
     owed = {index: array("Q") for index in range(TRADERS)}
     owner: dict[int, int] = {}
     record = struct.Struct(">4sQ18x6sc58xc8xQQ8x")
-    for _, number, user, kind, verdict, first, maker in record.iter_unpack(audit):
+    for _, number, user, kind, verdict, first, maker in record.iter_unpack(audit[record.size:]):
         if kind == b"O" and verdict == b"G":
             owner[number] = int(user[1:3])
             owed[owner[number]].append(number * 2)

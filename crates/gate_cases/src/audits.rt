@@ -3,11 +3,12 @@
 use crate::devices::{Limits, Sips};
 use crate::runs::put_hex;
 use crate::texts::{put, put_bytes};
-use gx_audit::{RECORD_SIZE, audit_of};
+use gx_audit::{AuditVersion, RECORD_SIZE, audit_of};
 use gx_auditing::{AuditingFault, Choice, more_of_audit, show_audit, told_of_audit, write_audit};
 use gx_core::Gate;
 use gx_devices::Counted;
 use gx_history::policy::Policy;
+use gx_policyfile::{SAMPLE, read_policy};
 use gx_units::OutOfMemory;
 use std::alloc::Global;
 use std::fmt::Write as _;
@@ -21,7 +22,15 @@ fn put_ended(out: &mut String, fault: Option<AuditingFault>) -> Result<(), OutOf
     Ok(())
 }
 
-/// Writes the gate's audit, and tells of it: the bytes of each record in hex, a line each.
+/// Puts the bytes of an audit in hex, a line for each header and each record.
+fn put_audit(alloc: Global, out: &mut String, audit: &[u8]) -> Result<(), OutOfMemory> {
+    for bytes in audit.chunks(RECORD_SIZE) {
+        put_hex(alloc, out, bytes)?;
+    }
+    Ok(())
+}
+
+/// Writes the gate's audit, and tells of it: its bytes, and how that ended.
 pub(crate) fn tell_audit(
     alloc: Global,
     out: &mut String,
@@ -31,10 +40,18 @@ pub(crate) fn tell_audit(
     let mut writer = Counted::new(Sips::new(alloc, limits));
     let ended = write_audit(alloc, gate, &mut writer);
     let written = writer.into_inner().taken;
-    for bytes in written.as_slice().chunks(RECORD_SIZE) {
-        put_hex(alloc, out, bytes)?;
-    }
+    put_audit(alloc, out, written.as_slice())?;
     put_ended(out, ended.err())
+}
+
+/// Tells the bytes of the gate's audit in version 1.
+pub(crate) fn tell_audit_1(
+    alloc: Global,
+    out: &mut String,
+    gate: &Gate,
+) -> Result<(), OutOfMemory> {
+    let audit = audit_of(alloc, AuditVersion::One, gate)?;
+    put_audit(alloc, out, audit.as_slice())
 }
 
 /// Sets a byte of the audit, as the words say: where, and to what, in hex.
@@ -78,18 +95,47 @@ fn tell_check(
     }
 }
 
-/// Checks the gate's audit as each line changes it.
+/// Checks an audit under the sample policy of another session.
+fn tell_check_under(
+    alloc: Global,
+    out: &mut String,
+    session: &str,
+    audit: &[u8],
+) -> Result<(), OutOfMemory> {
+    let file = SAMPLE.replacen(alloc, "GATE01", session, 1)?;
+    match read_policy(alloc, file.as_bytes()) {
+        Ok(policy) => tell_check(alloc, out, &policy, audit),
+        Err(_) => put(out, "no such policy\n"),
+    }
+}
+
+/// Checks an audit as a line changes it, or under the policy that it names.
+fn tell_changed(
+    alloc: Global,
+    out: &mut String,
+    policy: &Policy,
+    audit: &mut Vec<u8>,
+    line: &str,
+) -> Result<(), OutOfMemory> {
+    if let Some(session) = line.strip_prefix("under ") {
+        return tell_check_under(alloc, out, session, audit.as_slice());
+    }
+    change(audit, line);
+    tell_check(alloc, out, policy, audit.as_slice())
+}
+
+/// Checks the gate's audit in this version as each line changes it.
 pub(crate) fn tell_checks(
     alloc: Global,
     out: &mut String,
+    version: AuditVersion,
     gate: &Gate,
     policy: &Policy,
     text: &str,
 ) -> Result<(), OutOfMemory> {
     for line in text.lines() {
-        let mut audit = audit_of(alloc, gate)?;
-        change(&mut audit, line);
-        tell_check(alloc, out, policy, audit.as_slice())?;
+        let mut audit = audit_of(alloc, version, gate)?;
+        tell_changed(alloc, out, policy, &mut audit, line)?;
     }
     Ok(())
 }
@@ -103,16 +149,17 @@ fn choice_of(words: &str) -> Option<Choice> {
     }
 }
 
-/// Shows the records of the gate's audit that the words choose.
+/// Shows the records of the gate's audit in this version that the words choose.
 pub(crate) fn tell_shown(
     alloc: Global,
     out: &mut String,
+    version: AuditVersion,
     gate: &Gate,
     policy: &Policy,
     limits: Limits,
     words: &str,
 ) -> Result<(), OutOfMemory> {
-    let audit = audit_of(alloc, gate)?;
+    let audit = audit_of(alloc, version, gate)?;
     let mut writer = Counted::new(Sips::new(alloc, limits));
     let Some(choice) = choice_of(words) else {
         return put(out, "no such name\n");

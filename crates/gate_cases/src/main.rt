@@ -12,10 +12,12 @@
 //! - `-- script`: a script; `-- script-in-hex`: its bytes in hex. What it prints is told.
 //! - `-- again`: the lines of a script, each a run of its own, and run again where its step was refused, as for want of
 //!   memory. The verdicts of their records are told: they are the same, whichever step was refused.
-//! - `-- audit`: the audit of the records so far is written; its bytes are told in hex, a line a record. `-- check`:
-//!   that audit is checked, once for each line behind, which changes it: `byte AT HEX` sets a byte, `without COUNT`
-//!   leaves the last ones out, anything else leaves it as it is. `-- show`, `-- show account NAME`, `-- show user NAME`:
-//!   its records as a person reads them.
+//! - `-- audit`: the audit of the records so far is written; its bytes are told in hex, a line for the header and a line
+//!   a record. `-- audit-1`: the bytes of the one in version 1. `-- check`: the one in version 1 is checked,
+//!   `-- check-2`: the one in version 2, once for each line behind, which changes it: `byte AT HEX` sets a byte,
+//!   `without COUNT` leaves the last ones out, `under SESSION` has it checked under the sample policy of this session,
+//!   anything else leaves it as it is. `-- show`, `-- show account NAME`, `-- show user NAME`: the records of the one in
+//!   version 1 as a person reads them; `-- show-2`: so too of version 2.
 //! - `-- pipe-reads PIECE SIP`: the bytes of a connection, in hex, which is run again and again, each time on a gate of
 //!   its own: the reader fails at once, after one read, after two, until nothing fails. Reads give at most PIECE bytes,
 //!   writes take at most SIP. `-- pipe-writes PIECE SIP`: so too, with a writer that fails. `-- pipe-lengths PIECE SIP`:

@@ -19,6 +19,7 @@ fn kind_text(kind: &RuleKind) -> &'static str {
         RuleKind::Collar(_) => "collar",
         RuleKind::GrossShares(_, _) => "gross_shares",
         RuleKind::GrossValue(_, _) => "gross_value",
+        RuleKind::NetShares(_, _) => "net_shares",
         RuleKind::Rate(_, _) => "rate",
         RuleKind::Repeat(_, _) => "repeat",
     }
@@ -54,7 +55,9 @@ fn put_settings(out: &mut String, kind: &RuleKind) -> Result<(), OutOfMemory> {
             write!(out, " {limit}")?;
             Ok(())
         }
-        RuleKind::GrossShares(limit, count) | RuleKind::GrossValue(limit, count) => {
+        RuleKind::GrossShares(limit, count)
+        | RuleKind::GrossValue(limit, count)
+        | RuleKind::NetShares(limit, count) => {
             let count = count_text(*count);
             write!(out, " {limit} {count}")?;
             Ok(())

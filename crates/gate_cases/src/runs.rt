@@ -2,13 +2,14 @@
 
 ghost use Rattle.std.specs.Prelude.{◌-◌, ◌^◌, ◌<◌};
 
-use crate::audits::{tell_audit, tell_checks, tell_shown};
+use crate::audits::{tell_audit, tell_audit_1, tell_checks, tell_shown};
 use crate::devices::{Drips, Limits, Sips};
 use crate::endless::tell_endless;
 use crate::patience::tell_patience;
 use crate::sessions::tell_session;
 use crate::texts::{bytes_of, put, put_bytes, text_of};
 use crate::trials::{Trial, Varied, tell_trials};
+use gx_audit::AuditVersion::{One, Two};
 use gx_core::Gate;
 use gx_devices::Counted;
 use gx_history::policy::Policy;
@@ -292,8 +293,11 @@ fn tell_part(
         }
         ("again", Some(limits)) => tell_again(alloc, out, gate, limits, text),
         ("audit", Some(limits)) => tell_audit(alloc, out, gate, limits),
-        ("check", _) => tell_checks(alloc, out, gate, policy, text),
-        ("show", _) => tell_shown(alloc, out, gate, policy, usual, words),
+        ("audit-1", _) => tell_audit_1(alloc, out, gate),
+        ("check", _) => tell_checks(alloc, out, One, gate, policy, text),
+        ("check-2", _) => tell_checks(alloc, out, Two, gate, policy, text),
+        ("show", _) => tell_shown(alloc, out, One, gate, policy, usual, words),
+        ("show-2", _) => tell_shown(alloc, out, Two, gate, policy, usual, words),
         ("script", Some(limits)) => tell_script(alloc, out, gate, limits, text.as_bytes()),
         ("script-in-hex", Some(limits)) => {
             let input = bytes_of(alloc, text)?;

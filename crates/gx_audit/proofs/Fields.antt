@@ -6,6 +6,10 @@ use Rattle.std.proofs.lemmas.List.{take_at, take_all, length-drop}
 pub take_whole : (bytes rest : List ℕ) → length bytes ≡ 8 → take 8 (bytes ++ rest) ≡ bytes
 take_whole bytes rest h = take_at bytes rest 8 h
 
+-- and of ten
+pub take_session : (bytes rest : List ℕ) → length bytes ≡ 10 → take 10 (bytes ++ rest) ≡ bytes
+take_session bytes rest h = take_at bytes rest 10 h
+
 -- all that is left
 pub take_the_rest : (bytes : List ℕ) (at : ℕ) → take (length bytes - at) (drop at bytes) ≡ drop at bytes
 take_the_rest bytes at =

@@ -1,5 +1,5 @@
 -- In a full day no record follows but a granted Kill or Logout.
-use Rattle.std.proofs.Common.{◌≡◌, ℕ, ◌+◌, ◌≤◌, Bool, true, false, List, length, refl, ap, sym, ◌∙◌, subst, arith, inl, inr, ◌⊎◌}
+use Rattle.std.proofs.Common.{◌≡◌, ℕ, ◌≤◌, Bool, true, false, List, length, refl, ap, sym, ◌∙◌, subst, arith, inl, inr, ◌⊎◌}
 use Rattle.std.specs.Prelude.{Some}
 use Rattle.gx_desk.specs.declared.Action.{Action}
 use Rattle.gx_desk.specs.declared.Action.TheVariants as actions
@@ -16,7 +16,7 @@ use Rattle.gx_history.specs.Verdicts.{day_limit, next, Follows, IsGrantedKillOrL
 use Rattle.gx_history_laws.proofs.Granting.{verdict_of_next}
 use Rattle.gx_places.specs.Places.{has_kept_places, is_kill_or_logout}
 use Rattle.gx_core.specs.Gates.{GateData}
-use Rattle.gx_core.specs.Steps.{has_its_places, verdict_of}
+use Rattle.gx_core.specs.Steps.{has_its_places}
 use Rattle.gx_audit.specs.Auditing.{NoneFollows}
 use Rattle.gx_audit.proofs.Only.{number_of}
 

@@ -3,6 +3,8 @@ pub mod Messages
 pub mod Requests
 pub mod Rules
 pub mod ReadBack
+pub mod Counts
+pub mod Fronts
 pub mod Walking
 pub mod Only
 pub mod Full

@@ -1,8 +1,8 @@
 -- Of what can be said of some bytes one thing alone is so.
-use Rattle.std.proofs.Common.{◌≡◌, ℕ, ◌+◌, ◌==◌, true, List, [], ◌∷◌, ◌++◌, length, take, drop, slice_index, refl, sym, ap, ◌∙◌, append_assoc, subst, arith}
+use Rattle.std.proofs.Common.{◌≡◌, ℕ, ◌+◌, ◌==◌, true, inl, inr, List, [], ◌∷◌, ◌++◌, length, take, drop, slice_index, refl, sym, ap, ◌∙◌, append_assoc, subst, arith}
 use Rattle.std.specs.Prelude.{Some, Result, Ok, Err}
 use Rattle.std.specs.List.{AllByRecursion}
-use Rattle.std.proofs.lemmas.List.{take_at, drop_at, append-nil, length-append}
+use Rattle.std.proofs.lemmas.List.{take_at, drop_at, append-nil, append_cancel_left, length-append}
 use Rattle.std.proofs.lemmas.Bool.Decides.{nat_tests}
 use Rattle.gx_history.specs.declared.record.RecordData.{RecordData}
 use Rattle.gx_history.specs.declared.policy.PolicyData.{PolicyData}
@@ -12,10 +12,14 @@ use Rattle.gx_history_laws.proofs.Legality.{some_number}
 use Rattle.gx_history_laws.proofs.Order.{some_same}
 use Rattle.gx_audit.specs.declared.fault.AuditFault.{AuditFault}
 use Rattle.gx_audit.specs.declared.fault.AuditFault.TheVariants as faults
+use Rattle.gx_audit.specs.declared.version.AuditVersion.{AuditVersion}
+use Rattle.gx_audit.specs.Versions.{version_of}
+use Rattle.gx_audit.specs.Headers.{front_of}
 use Rattle.gx_audit.specs.Records.{record_bytes}
 use Rattle.gx_audit.specs.Reading.{record_of, IsShown}
-use Rattle.gx_audit.specs.Auditing.{all_bytes, AreShown, IsAnswer, IsFaultAt, IsFirstFault, IsJudgement, IsOnlyAnswer}
+use Rattle.gx_audit.specs.Auditing.{all_bytes, whole_audit, AreShown, HasCutHeader, HasOtherHeader, IsAnswer, IsFaultAt, IsFirstFault, IsJudgement, IsOnlyAnswer}
 use Rattle.gx_audit.proofs.ReadBack.{both_true, fields_lie}
+use Rattle.gx_audit.proofs.Fronts.{version_known, begins_so, long_enough, same_header}
 
 -- each record of a legal day follows those before it
 follows_there : {X : Type 0} (P : List X × X → Type 0) (earlier before : List X) (x : X) (rest : List X) → AllByRecursion P (each_after earlier (before ++ x ∷ rest)) → P (earlier ++ before, x)
@@ -31,126 +35,184 @@ follows_in policy all before r rest legal is =
 same_number : (n m : ℕ) → (n == m) ≡ true → n ≡ m
 same_number n m h = grind (arith, nat_tests)
 
-shown_size : (r : RecordData) → IsShown r → length (record_bytes r) ≡ 128
-shown_size r shown =
-    same_number (length (record_bytes r)) 128
-    (both_true (slice_index (record_bytes r) 0 == 71) (length (record_bytes r) == 128) (fields_lie r (record_bytes r) refl shown.places).is_of).1
+shown_size : (version : AuditVersion) (r : RecordData) → IsShown version r → length (record_bytes version r) ≡ 128
+shown_size version r shown =
+    same_number (length (record_bytes version r)) 128
+    (both_true (slice_index (record_bytes version r) 0 == 71) (length (record_bytes version r) == 128) (fields_lie version r (record_bytes version r) refl shown.places).is_of).1
 
 -- the records of the same bytes: one list goes on where the other ends
-data Compared (h k : List RecordData) (l m : List ℕ) : Type 0 where
-  Same : h ≡ k → l ≡ m → Compared h k l m
-  Longer : (r : RecordData) (rest : List RecordData) (bytes : List ℕ) → IsShown r → k ≡ h ++ r ∷ rest → l ≡ record_bytes r ++ bytes → Compared h k l m
-  Shorter : (r : RecordData) (rest : List RecordData) (bytes : List ℕ) → IsShown r → h ≡ k ++ r ∷ rest → m ≡ record_bytes r ++ bytes → Compared h k l m
+data Compared (version : AuditVersion) (h k : List RecordData) (l m : List ℕ) : Type 0 where
+  Same : h ≡ k → l ≡ m → Compared version h k l m
+  Longer : (r : RecordData) (rest : List RecordData) (bytes : List ℕ) → IsShown version r → k ≡ h ++ r ∷ rest → l ≡ record_bytes version r ++ bytes → Compared version h k l m
+  Shorter : (r : RecordData) (rest : List RecordData) (bytes : List ℕ) → IsShown version r → h ≡ k ++ r ∷ rest → m ≡ record_bytes version r ++ bytes → Compared version h k l m
 
-with_first : (r s : RecordData) (h k : List RecordData) (l m : List ℕ) → r ≡ s → Compared h k l m → Compared (r ∷ h) (s ∷ k) l m
-with_first r s h k l m is (Same records bytes) = Same (λ i. is i ∷ records i) bytes
-with_first r s h k l m is (Longer x rest bytes shown records left) = Longer x rest bytes shown (λ i. sym is i ∷ records i) left
-with_first r s h k l m is (Shorter x rest bytes shown records left) = Shorter x rest bytes shown (λ i. is i ∷ records i) left
+with_first : (version : AuditVersion) (r s : RecordData) (h k : List RecordData) (l m : List ℕ) → r ≡ s → Compared version h k l m → Compared version (r ∷ h) (s ∷ k) l m
+with_first version r s h k l m is (Same records bytes) = Same (λ i. is i ∷ records i) bytes
+with_first version r s h k l m is (Longer x rest bytes shown records left) = Longer x rest bytes shown (λ i. sym is i ∷ records i) left
+with_first version r s h k l m is (Shorter x rest bytes shown records left) = Shorter x rest bytes shown (λ i. is i ∷ records i) left
 
-compare : (h k : List RecordData) (l m : List ℕ) → AreShown h → AreShown k → all_bytes h ++ l ≡ all_bytes k ++ m → Compared h k l m
+compare : (version : AuditVersion) (h k : List RecordData) (l m : List ℕ) → AreShown version h → AreShown version k → all_bytes version h ++ l ≡ all_bytes version k ++ m → Compared version h k l m
 unfolding all_bytes
-compare [] [] l m hs ks e = Same refl e
-compare [] (r ∷ k) l m hs ks e = Longer r k (all_bytes k ++ m) ks.0 refl (e ∙ append_assoc (record_bytes r) (all_bytes k) m)
-compare (r ∷ h) [] l m hs ks e = Shorter r h (all_bytes h ++ l) hs.0 refl (sym e ∙ append_assoc (record_bytes r) (all_bytes h) l)
-compare (r ∷ h) (s ∷ k) l m hs ks e =
-    let whole : record_bytes r ++ (all_bytes h ++ l) ≡ record_bytes s ++ (all_bytes k ++ m) =
-    sym (append_assoc (record_bytes r) (all_bytes h) l) ∙ e ∙ append_assoc (record_bytes s) (all_bytes k) m in
-    let first : record_bytes r ≡ record_bytes s =
-    sym (take_at (record_bytes r) (all_bytes h ++ l) 128 (shown_size r hs.0)) ∙ ap (take 128) whole ∙ take_at (record_bytes s) (all_bytes k ++ m) 128 (shown_size s ks.0) in
-    let behind : all_bytes h ++ l ≡ all_bytes k ++ m =
-    sym (drop_at (record_bytes r) (all_bytes h ++ l) 128 (shown_size r hs.0)) ∙ ap (drop 128) whole ∙ drop_at (record_bytes s) (all_bytes k ++ m) 128 (shown_size s ks.0) in
-    with_first r s h k l m (some_same (sym hs.0.read_back ∙ ap record_of first ∙ ks.0.read_back)) (compare h k l m hs.1 ks.1 behind)
+compare version [] [] l m hs ks e = Same refl e
+compare version [] (r ∷ k) l m hs ks e = Longer r k (all_bytes version k ++ m) ks.0 refl (e ∙ append_assoc (record_bytes version r) (all_bytes version k) m)
+compare version (r ∷ h) [] l m hs ks e = Shorter r h (all_bytes version h ++ l) hs.0 refl (sym e ∙ append_assoc (record_bytes version r) (all_bytes version h) l)
+compare version (r ∷ h) (s ∷ k) l m hs ks e =
+    let whole : record_bytes version r ++ (all_bytes version h ++ l) ≡ record_bytes version s ++ (all_bytes version k ++ m) =
+    sym (append_assoc (record_bytes version r) (all_bytes version h) l) ∙ e ∙ append_assoc (record_bytes version s) (all_bytes version k) m in
+    let first : record_bytes version r ≡ record_bytes version s =
+    sym (take_at (record_bytes version r) (all_bytes version h ++ l) 128 (shown_size version r hs.0)) ∙ ap (take 128) whole ∙ take_at (record_bytes version s) (all_bytes version k ++ m) 128 (shown_size version s ks.0) in
+    let behind : all_bytes version h ++ l ≡ all_bytes version k ++ m =
+    sym (drop_at (record_bytes version r) (all_bytes version h ++ l) 128 (shown_size version r hs.0)) ∙ ap (drop 128) whole ∙ drop_at (record_bytes version s) (all_bytes version k ++ m) 128 (shown_size version s ks.0) in
+    with_first version r s h k l m (some_same (sym hs.0.read_back ∙ ap (record_of version) first ∙ ks.0.read_back)) (compare version h k l m hs.1 ks.1 behind)
 
 -- what the answer says of what is left behind the records before
-abbrev EndsAt : PolicyData → List RecordData → List ℕ → Result ℕ AuditFault → Type 0
-EndsAt policy before left (Ok n) = (left ≡ []) × (length before ≡ n)
-EndsAt policy before left (Err fault) = IsFaultAt policy before left fault
+abbrev EndsAt : AuditVersion → PolicyData → List RecordData → List ℕ → Result ℕ AuditFault → Type 0
+EndsAt version policy before left (Ok n) = (left ≡ []) × (length before ≡ n)
+EndsAt version policy before left (Err fault) = IsFaultAt version policy before left fault
 
 pub number_of : (policy : PolicyData) (before : List RecordData) (r : RecordData) → Follows policy (before, r) → r.number ≡ length before + 1
 unfolding next
 number_of policy before r follows = some_number (length before + 1) (moment_of before r.step) r.step (step_verdict policy before r.step) r follows.is_next
 
 -- no answer ends before a record that follows
-stops : (policy : PolicyData) (before : List RecordData) (left : List ℕ) (r : RecordData) (bytes : List ℕ) (answer : Result ℕ AuditFault)
-    → Follows policy (before, r) → IsShown r → left ≡ record_bytes r ++ bytes → IsJudgement answer → EndsAt policy before left answer → ⊥
-stops policy before left r bytes (Ok n) follows shown is judges ends =
-    let size : length left ≡ 128 + length bytes = ap length is ∙ length-append (record_bytes r) bytes ∙ ap (λ (n : ℕ). n + length bytes) (shown_size r shown) in
+stops : (version : AuditVersion) (policy : PolicyData) (before : List RecordData) (left : List ℕ) (r : RecordData) (bytes : List ℕ) (answer : Result ℕ AuditFault)
+    → Follows policy (before, r) → IsShown version r → left ≡ record_bytes version r ++ bytes → IsJudgement answer → EndsAt version policy before left answer → ⊥
+stops version policy before left r bytes (Ok n) follows shown is judges ends =
+    let size : length left ≡ 128 + length bytes = ap length is ∙ length-append (record_bytes version r) bytes ∙ ap (λ (n : ℕ). n + length bytes) (shown_size version r shown) in
     let none : length left ≡ 0 = ap length ends.0 in
     omega (arith, size, none)
-stops policy before left r bytes (Err faults.Truncated) follows shown is judges ends =
-    let size : length left ≡ 128 + length bytes = ap length is ∙ length-append (record_bytes r) bytes ∙ ap (λ (n : ℕ). n + length bytes) (shown_size r shown) in
+stops version policy before left r bytes (Err faults.Truncated) follows shown is judges ends =
+    let size : length left ≡ 128 + length bytes = ap length is ∙ length-append (record_bytes version r) bytes ∙ ap (λ (n : ℕ). n + length bytes) (shown_size version r shown) in
     omega (arith, size, ends.1)
-stops policy before left r bytes (Err (faults.BadRecord n)) follows shown is judges ends =
-    let found : record_of (take 128 left) ≡ Some r = ap (λ (bs : List ℕ). record_of (take 128 bs)) is ∙ ap record_of (take_at (record_bytes r) bytes 128 (shown_size r shown)) ∙ shown.read_back in
+stops version policy before left r bytes (Err (faults.BadRecord n)) follows shown is judges ends =
+    let found : record_of version (take 128 left) ≡ Some r = ap (λ (bs : List ℕ). record_of version (take 128 bs)) is ∙ ap (record_of version) (take_at (record_bytes version r) bytes 128 (shown_size version r shown)) ∙ shown.read_back in
     ends.1.1 r found (number_of policy before r follows ∙ sym ends.1.0)
-stops policy before left r bytes (Err (faults.IllegalVerdict n)) follows shown is judges ends =
-    let found : record_of (take 128 left) ≡ Some r = ap (λ (bs : List ℕ). record_of (take 128 bs)) is ∙ ap record_of (take_at (record_bytes r) bytes 128 (shown_size r shown)) ∙ shown.read_back in
+stops version policy before left r bytes (Err (faults.IllegalVerdict n)) follows shown is judges ends =
+    let found : record_of version (take 128 left) ≡ Some r = ap (λ (bs : List ℕ). record_of version (take 128 bs)) is ∙ ap (record_of version) (take_at (record_bytes version r) bytes 128 (shown_size version r shown)) ∙ shown.read_back in
     ends.1.1.does_not_follow (subst (λ (x : RecordData). Follows policy (before, x)) (some_same (sym found ∙ ends.1.1.shown_is)) follows)
-stops policy before left r bytes (Err faults.OutOfMemory) follows shown is judges ends = judges
+stops version policy before left r bytes (Err faults.OutOfMemory) follows shown is judges ends = judges
+stops version policy before left r bytes (Err faults.OtherPolicy) follows shown is judges ends = ends.1
 
 none_left : (left : List ℕ) → left ≡ [] → length left ≡ 0
 none_left left none = ap length none
 
 -- two answers that end at one place
-same_end : (policy : PolicyData) (before : List RecordData) (left : List ℕ) (a b : Result ℕ AuditFault) → IsJudgement a → IsJudgement b → EndsAt policy before left a → EndsAt policy before left b → a ≡ b
-same_end policy before left (Ok n) (Ok m) ja jb ends other = ap (λ (n : ℕ). Ok n) (sym ends.1 ∙ other.1)
-same_end policy before left (Ok n) (Err faults.Truncated) ja jb ends other = absurd (omega (arith, none_left left ends.0, other.0))
-same_end policy before left (Ok n) (Err (faults.BadRecord m)) ja jb ends other = absurd (omega (arith, none_left left ends.0, other.0))
-same_end policy before left (Ok n) (Err (faults.IllegalVerdict m)) ja jb ends other = absurd (omega (arith, none_left left ends.0, other.0))
-same_end policy before left (Ok n) (Err faults.OutOfMemory) ja jb ends other = absurd jb
-same_end policy before left (Err faults.Truncated) (Ok m) ja jb ends other = absurd (omega (arith, none_left left other.0, ends.0))
-same_end policy before left (Err faults.Truncated) (Err faults.Truncated) ja jb ends other = refl
-same_end policy before left (Err faults.Truncated) (Err (faults.BadRecord m)) ja jb ends other = absurd (omega (arith, ends.1, other.0))
-same_end policy before left (Err faults.Truncated) (Err (faults.IllegalVerdict m)) ja jb ends other = absurd (omega (arith, ends.1, other.0))
-same_end policy before left (Err faults.Truncated) (Err faults.OutOfMemory) ja jb ends other = absurd jb
-same_end policy before left (Err (faults.BadRecord n)) (Ok m) ja jb ends other = absurd (omega (arith, none_left left other.0, ends.0))
-same_end policy before left (Err (faults.BadRecord n)) (Err faults.Truncated) ja jb ends other = absurd (omega (arith, other.1, ends.0))
-same_end policy before left (Err (faults.BadRecord n)) (Err (faults.BadRecord m)) ja jb ends other = ap (λ (n : ℕ). Err (faults.BadRecord n)) (ends.1.0 ∙ sym other.1.0)
-same_end policy before left (Err (faults.BadRecord n)) (Err (faults.IllegalVerdict m)) ja jb ends other =
+same_end : (version : AuditVersion) (policy : PolicyData) (before : List RecordData) (left : List ℕ) (a b : Result ℕ AuditFault) → IsJudgement a → IsJudgement b → EndsAt version policy before left a → EndsAt version policy before left b → a ≡ b
+same_end version policy before left (Ok n) (Ok m) ja jb ends other = ap (λ (n : ℕ). Ok n) (sym ends.1 ∙ other.1)
+same_end version policy before left (Ok n) (Err faults.Truncated) ja jb ends other = absurd (omega (arith, none_left left ends.0, other.0))
+same_end version policy before left (Ok n) (Err (faults.BadRecord m)) ja jb ends other = absurd (omega (arith, none_left left ends.0, other.0))
+same_end version policy before left (Ok n) (Err (faults.IllegalVerdict m)) ja jb ends other = absurd (omega (arith, none_left left ends.0, other.0))
+same_end version policy before left (Ok n) (Err faults.OtherPolicy) ja jb ends other = absurd other.1
+same_end version policy before left (Ok n) (Err faults.OutOfMemory) ja jb ends other = absurd jb
+same_end version policy before left (Err faults.Truncated) (Ok m) ja jb ends other = absurd (omega (arith, none_left left other.0, ends.0))
+same_end version policy before left (Err faults.Truncated) (Err faults.Truncated) ja jb ends other = refl
+same_end version policy before left (Err faults.Truncated) (Err (faults.BadRecord m)) ja jb ends other = absurd (omega (arith, ends.1, other.0))
+same_end version policy before left (Err faults.Truncated) (Err (faults.IllegalVerdict m)) ja jb ends other = absurd (omega (arith, ends.1, other.0))
+same_end version policy before left (Err faults.Truncated) (Err faults.OtherPolicy) ja jb ends other = absurd other.1
+same_end version policy before left (Err faults.Truncated) (Err faults.OutOfMemory) ja jb ends other = absurd jb
+same_end version policy before left (Err (faults.BadRecord n)) (Ok m) ja jb ends other = absurd (omega (arith, none_left left other.0, ends.0))
+same_end version policy before left (Err (faults.BadRecord n)) (Err faults.Truncated) ja jb ends other = absurd (omega (arith, other.1, ends.0))
+same_end version policy before left (Err (faults.BadRecord n)) (Err (faults.BadRecord m)) ja jb ends other = ap (λ (n : ℕ). Err (faults.BadRecord n)) (ends.1.0 ∙ sym other.1.0)
+same_end version policy before left (Err (faults.BadRecord n)) (Err (faults.IllegalVerdict m)) ja jb ends other =
     absurd (ends.1.1 other.1.1.shown other.1.1.shown_is (other.1.1.number_is ∙ other.1.0 ∙ sym ends.1.0))
-same_end policy before left (Err (faults.BadRecord n)) (Err faults.OutOfMemory) ja jb ends other = absurd jb
-same_end policy before left (Err (faults.IllegalVerdict n)) (Ok m) ja jb ends other = absurd (omega (arith, none_left left other.0, ends.0))
-same_end policy before left (Err (faults.IllegalVerdict n)) (Err faults.Truncated) ja jb ends other = absurd (omega (arith, other.1, ends.0))
-same_end policy before left (Err (faults.IllegalVerdict n)) (Err (faults.BadRecord m)) ja jb ends other =
+same_end version policy before left (Err (faults.BadRecord n)) (Err faults.OtherPolicy) ja jb ends other = absurd other.1
+same_end version policy before left (Err (faults.BadRecord n)) (Err faults.OutOfMemory) ja jb ends other = absurd jb
+same_end version policy before left (Err (faults.IllegalVerdict n)) (Ok m) ja jb ends other = absurd (omega (arith, none_left left other.0, ends.0))
+same_end version policy before left (Err (faults.IllegalVerdict n)) (Err faults.Truncated) ja jb ends other = absurd (omega (arith, other.1, ends.0))
+same_end version policy before left (Err (faults.IllegalVerdict n)) (Err (faults.BadRecord m)) ja jb ends other =
     absurd (other.1.1 ends.1.1.shown ends.1.1.shown_is (ends.1.1.number_is ∙ ends.1.0 ∙ sym other.1.0))
-same_end policy before left (Err (faults.IllegalVerdict n)) (Err (faults.IllegalVerdict m)) ja jb ends other = ap (λ (n : ℕ). Err (faults.IllegalVerdict n)) (ends.1.0 ∙ sym other.1.0)
-same_end policy before left (Err (faults.IllegalVerdict n)) (Err faults.OutOfMemory) ja jb ends other = absurd jb
-same_end policy before left (Err faults.OutOfMemory) other_answer ja jb ends other = absurd ja
+same_end version policy before left (Err (faults.IllegalVerdict n)) (Err (faults.IllegalVerdict m)) ja jb ends other = ap (λ (n : ℕ). Err (faults.IllegalVerdict n)) (ends.1.0 ∙ sym other.1.0)
+same_end version policy before left (Err (faults.IllegalVerdict n)) (Err faults.OtherPolicy) ja jb ends other = absurd other.1
+same_end version policy before left (Err (faults.IllegalVerdict n)) (Err faults.OutOfMemory) ja jb ends other = absurd jb
+same_end version policy before left (Err faults.OtherPolicy) other_answer ja jb ends other = absurd ends.1
+same_end version policy before left (Err faults.OutOfMemory) other_answer ja jb ends other = absurd ja
 
--- where an answer ends
-record Ends (policy : PolicyData) (bytes : List ℕ) (answer : Result ℕ AuditFault) : Type 0 where
+-- where an answer ends behind the front
+record Ends (version : AuditVersion) (policy : PolicyData) (bytes : List ℕ) (answer : Result ℕ AuditFault) : Type 0 where
   before : List RecordData
   legal : IsLegal policy before
-  shown : AreShown before
+  shown : AreShown version before
   left : List ℕ
-  bytes_are : all_bytes before ++ left ≡ bytes
-  ends : EndsAt policy before left answer
+  bytes_are : whole_audit version policy before ++ left ≡ bytes
+  ends : EndsAt version policy before left answer
 
-at_fault : (policy : PolicyData) (bytes : List ℕ) (fault : AuditFault) → IsFirstFault policy bytes fault → Ends policy bytes (Err fault)
+-- what an answer is about
+data Stands (policy : PolicyData) (bytes : List ℕ) (answer : Result ℕ AuditFault) : Type 0 where
+  Cut : HasCutHeader bytes → answer ≡ Err faults.Truncated → Stands policy bytes answer
+  Other : HasOtherHeader policy bytes → answer ≡ Err faults.OtherPolicy → Stands policy bytes answer
+  Behind : Ends (version_of bytes) policy bytes answer → Stands policy bytes answer
+
+at_fault : (policy : PolicyData) (bytes : List ℕ) (fault : AuditFault) → IsFirstFault policy bytes fault → Ends (version_of bytes) policy bytes (Err fault)
 at_fault policy bytes fault found =
-    record { before = found.before; legal = found.legal; shown = found.shown; left = found.left; bytes_are = found.bytes_are; ends = found.stands }
+    subst (λ (v : AuditVersion). Ends v policy bytes (Err fault)) (sym found.version_is)
+    (record { before = found.before; legal = found.legal; shown = found.shown; left = found.left; bytes_are = found.bytes_are; ends = found.stands })
 
-where_ended : (policy : PolicyData) (bytes : List ℕ) (answer : Result ℕ AuditFault) → IsJudgement answer → IsAnswer policy bytes answer → Ends policy bytes answer
-where_ended policy bytes (Ok n) judges found =
-    record { before = found.records; legal = found.legal; shown = found.shown; left = []; bytes_are = append-nil (all_bytes found.records) ∙ found.bytes_are; ends = (refl, found.count_is) }
-where_ended policy bytes (Err faults.Truncated) judges found = at_fault policy bytes faults.Truncated found
-where_ended policy bytes (Err (faults.BadRecord n)) judges found = at_fault policy bytes (faults.BadRecord n) found
-where_ended policy bytes (Err (faults.IllegalVerdict n)) judges found = at_fault policy bytes (faults.IllegalVerdict n) found
-where_ended policy bytes (Err faults.OutOfMemory) judges found = absurd judges
+where_it_stands : (policy : PolicyData) (bytes : List ℕ) (answer : Result ℕ AuditFault) → IsJudgement answer → IsAnswer policy bytes answer → Stands policy bytes answer
+where_it_stands policy bytes (Ok n) judges found =
+    let version_is : found.version ≡ version_of bytes = sym (version_known found.version policy found.records) ∙ ap version_of found.bytes_are in
+    Behind (subst (λ (v : AuditVersion). Ends v policy bytes (Ok n)) version_is
+    (record {
+      before = found.records;
+      legal = found.legal;
+      shown = found.shown;
+      left = [];
+      bytes_are = append-nil (whole_audit found.version policy found.records) ∙ found.bytes_are;
+      ends = (refl, found.count_is);
+    }))
+where_it_stands policy bytes (Err faults.Truncated) judges (inl cut) = Cut cut refl
+where_it_stands policy bytes (Err faults.Truncated) judges (inr found) = Behind (at_fault policy bytes faults.Truncated found)
+where_it_stands policy bytes (Err (faults.BadRecord n)) judges found = Behind (at_fault policy bytes (faults.BadRecord n) found)
+where_it_stands policy bytes (Err (faults.IllegalVerdict n)) judges found = Behind (at_fault policy bytes (faults.IllegalVerdict n) found)
+where_it_stands policy bytes (Err faults.OutOfMemory) judges found = absurd judges
+where_it_stands policy bytes (Err faults.OtherPolicy) judges found = Other found refl
 
-same_answer : (policy : PolicyData) (bytes : List ℕ) (a b : Result ℕ AuditFault) → IsJudgement a → IsJudgement b → (x : Ends policy bytes a) (y : Ends policy bytes b)
-    → Compared x.before y.before x.left y.left → a ≡ b
-same_answer policy bytes a b ja jb x y (Same records left) =
-    same_end policy y.before y.left a b ja jb
-    (subst (λ (l : List ℕ). EndsAt policy y.before l a) left (subst (λ (h : List RecordData). EndsAt policy h x.left a) records x.ends)) y.ends
-same_answer policy bytes a b ja jb x y (Longer r rest behind shown records left) =
-    absurd (stops policy x.before x.left r behind a (follows_in policy y.before x.before r rest y.legal records) shown left ja x.ends)
-same_answer policy bytes a b ja jb x y (Shorter r rest behind shown records left) =
-    absurd (stops policy y.before y.left r behind b (follows_in policy x.before y.before r rest x.legal records) shown left jb y.ends)
+same_behind : (version : AuditVersion) (policy : PolicyData) (bytes : List ℕ) (a b : Result ℕ AuditFault) → IsJudgement a → IsJudgement b
+    → (x : Ends version policy bytes a) (y : Ends version policy bytes b) → Compared version x.before y.before x.left y.left → a ≡ b
+same_behind version policy bytes a b ja jb x y (Same records left) =
+    same_end version policy y.before y.left a b ja jb
+    (subst (λ (l : List ℕ). EndsAt version policy y.before l a) left (subst (λ (h : List RecordData). EndsAt version policy h x.left a) records x.ends)) y.ends
+same_behind version policy bytes a b ja jb x y (Longer r rest behind shown records left) =
+    absurd (stops version policy x.before x.left r behind a (follows_in policy y.before x.before r rest y.legal records) shown left ja x.ends)
+same_behind version policy bytes a b ja jb x y (Shorter r rest behind shown records left) =
+    absurd (stops version policy y.before y.left r behind b (follows_in policy x.before y.before r rest x.legal records) shown left jb y.ends)
+
+-- the same bytes behind the front
+behind_front : (version : AuditVersion) (policy : PolicyData) (bytes : List ℕ) (h k : List RecordData) (l m : List ℕ) → whole_audit version policy h ++ l ≡ bytes
+    → whole_audit version policy k ++ m ≡ bytes → all_bytes version h ++ l ≡ all_bytes version k ++ m
+behind_front version policy bytes h k l m one other =
+    append_cancel_left (front_of version policy) (all_bytes version h ++ l) (all_bytes version k ++ m)
+    (sym (append_assoc (front_of version policy) (all_bytes version h) l) ∙ one ∙ sym other ∙ append_assoc (front_of version policy) (all_bytes version k) m)
+
+-- behind a header that is cut short nothing stands
+not_cut : (policy : PolicyData) (bytes : List ℕ) (a : Result ℕ AuditFault) → HasCutHeader bytes → Ends (version_of bytes) policy bytes a → ⊥
+not_cut policy bytes a cut x =
+    let front = begins_so (version_of bytes) policy x.before x.left bytes cut.version_is x.bytes_are in
+    omega (arith, cut.short, long_enough policy (all_bytes (version_of bytes) x.before ++ x.left) bytes front)
+
+-- nor behind another than the policy's
+not_other : (policy : PolicyData) (bytes : List ℕ) (a : Result ℕ AuditFault) → HasOtherHeader policy bytes → Ends (version_of bytes) policy bytes a → ⊥
+not_other policy bytes a other x =
+    let front = begins_so (version_of bytes) policy x.before x.left bytes other.version_is x.bytes_are in
+    other.other (same_header policy (all_bytes (version_of bytes) x.before ++ x.left) bytes front)
+
+cut_or_other : (policy : PolicyData) (bytes : List ℕ) → HasCutHeader bytes → HasOtherHeader policy bytes → ⊥
+cut_or_other policy bytes cut other = omega (arith, cut.short, other.whole)
+
+same_answer : (policy : PolicyData) (bytes : List ℕ) (a b : Result ℕ AuditFault) → IsJudgement a → IsJudgement b → Stands policy bytes a → Stands policy bytes b → a ≡ b
+same_answer policy bytes a b ja jb (Cut x is) (Cut y other_is) = is ∙ sym other_is
+same_answer policy bytes a b ja jb (Cut x is) (Other y other_is) = absurd (cut_or_other policy bytes x y)
+same_answer policy bytes a b ja jb (Cut x is) (Behind y) = absurd (not_cut policy bytes b x y)
+same_answer policy bytes a b ja jb (Other x is) (Cut y other_is) = absurd (cut_or_other policy bytes y x)
+same_answer policy bytes a b ja jb (Other x is) (Other y other_is) = is ∙ sym other_is
+same_answer policy bytes a b ja jb (Other x is) (Behind y) = absurd (not_other policy bytes b x y)
+same_answer policy bytes a b ja jb (Behind x) (Cut y other_is) = absurd (not_cut policy bytes a y x)
+same_answer policy bytes a b ja jb (Behind x) (Other y other_is) = absurd (not_other policy bytes a y x)
+same_answer policy bytes a b ja jb (Behind x) (Behind y) =
+    same_behind (version_of bytes) policy bytes a b ja jb x y
+    (compare (version_of bytes) x.before y.before x.left y.left x.shown y.shown
+    (behind_front (version_of bytes) policy bytes x.before y.before x.left y.left x.bytes_are y.bytes_are))
 
 -- an answer that says what is so is the only one that does
 pub is_only : (policy : PolicyData) (bytes : List ℕ) (answer : Result ℕ AuditFault) → IsAnswer policy bytes answer → IsOnlyAnswer policy bytes answer
 is_only policy bytes answer so other judges other_so answers =
-    let x : Ends policy bytes other = where_ended policy bytes other judges other_so in
-    let y : Ends policy bytes answer = where_ended policy bytes answer answers so in
-    same_answer policy bytes other answer judges answers x y (compare x.before y.before x.left y.left x.shown y.shown (x.bytes_are ∙ sym y.bytes_are))
+    same_answer policy bytes other answer judges answers (where_it_stands policy bytes other judges other_so) (where_it_stands policy bytes answer answers so)

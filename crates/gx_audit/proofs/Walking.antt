@@ -1,5 +1,5 @@
 -- From a record of an audit to the whole.
-use Rattle.std.proofs.Common.{◌≡◌, ℕ, ◌+◌, ◌*◌, ◌≤◌, ◌<◌, List, [], ◌∷◌, ◌++◌, length, take, drop, refl, sym, ap, ◌∙◌, append_assoc, subst, arith}
+use Rattle.std.proofs.Common.{◌≡◌, ℕ, ◌+◌, ◌≤◌, ◌<◌, List, [], ◌∷◌, ◌++◌, length, take, drop, refl, sym, ap, ◌∙◌, append_assoc, subst, arith, inr}
 use Rattle.std.specs.Prelude.{Result, Ok, Err}
 use Rattle.std.proofs.lemmas.List.{take-append-drop, drop-drop, drop_all, append-nil, length-drop}
 use Rattle.gx_history.specs.declared.record.RecordData.{RecordData}
@@ -8,87 +8,117 @@ use Rattle.gx_history.specs.Verdicts.{IsLegal}
 use Rattle.gx_history_laws.proofs.Pushing.{all_next}
 use Rattle.gx_audit.specs.declared.fault.AuditFault.{AuditFault}
 use Rattle.gx_audit.specs.declared.fault.AuditFault.TheVariants as faults
+use Rattle.gx_audit.specs.declared.version.AuditVersion.{AuditVersion}
+use Rattle.gx_audit.specs.Versions.{version_of}
+use Rattle.gx_audit.specs.Headers.{front_of}
 use Rattle.gx_audit.specs.Records.{record_bytes}
 use Rattle.gx_audit.specs.Reading.{IsShown}
-use Rattle.gx_audit.specs.Auditing.{all_bytes, AreShown, IsAnswer, IsFaultAt, IsRecordFault, IsFirstFault, IsLegalAudit, IsOneMore}
+use Rattle.gx_audit.specs.Auditing.{all_bytes, whole_audit, AreShown, IsAnswer, IsFaultAt, IsRecordFault, IsFirstFault, IsOneMore}
 
-pub no_bytes : all_bytes [] ≡ []
+pub no_bytes : (version : AuditVersion) → all_bytes version [] ≡ []
 unfolding all_bytes
-no_bytes = refl
+no_bytes version = refl
 
-pub more_bytes : (records : List RecordData) (r : RecordData) → all_bytes (records ++ r ∷ []) ≡ all_bytes records ++ record_bytes r
+pub more_bytes : (version : AuditVersion) (records : List RecordData) (r : RecordData) → all_bytes version (records ++ r ∷ []) ≡ all_bytes version records ++ record_bytes version r
 unfolding all_bytes
-more_bytes [] r = append-nil (record_bytes r)
-more_bytes (first ∷ records) r =
-    ap (λ (bytes : List ℕ). record_bytes first ++ bytes) (more_bytes records r) ∙ sym (append_assoc (record_bytes first) (all_bytes records) (record_bytes r))
+more_bytes version [] r = append-nil (record_bytes version r)
+more_bytes version (first ∷ records) r =
+    ap (λ (bytes : List ℕ). record_bytes version first ++ bytes) (more_bytes version records r)
+    ∙ sym (append_assoc (record_bytes version first) (all_bytes version records) (record_bytes version r))
+
+whole_more : (version : AuditVersion) (policy : PolicyData) (records : List RecordData) (r : RecordData)
+    → whole_audit version policy (records ++ r ∷ []) ≡ whole_audit version policy records ++ record_bytes version r
+whole_more version policy records r =
+    ap (λ (bytes : List ℕ). front_of version policy ++ bytes) (more_bytes version records r)
+    ∙ sym (append_assoc (front_of version policy) (all_bytes version records) (record_bytes version r))
 
 -- at the beginning
-pub begins : (records : List RecordData) (bytes : List ℕ) → records ≡ [] → all_bytes records ++ bytes ≡ bytes
-begins records bytes none = ap (λ (rs : List RecordData). all_bytes rs ++ bytes) none ∙ ap (λ (done : List ℕ). done ++ bytes) no_bytes
+pub begins : (version : AuditVersion) (policy : PolicyData) (records : List RecordData) (bytes : List ℕ) (start : ℕ) → records ≡ []
+    → front_of version policy ++ drop start bytes ≡ bytes → whole_audit version policy records ++ drop start bytes ≡ bytes
+begins version policy records bytes start none front =
+    ap (λ (rs : List RecordData). whole_audit version policy rs ++ drop start bytes) none
+    ∙ ap (λ (done : List ℕ). (front_of version policy ++ done) ++ drop start bytes) (no_bytes version)
+    ∙ ap (λ (done : List ℕ). done ++ drop start bytes) (append-nil (front_of version policy))
+    ∙ front
 
-pub none_counted : (records : List RecordData) → records ≡ [] → 0 ≡ 128 * length records
-none_counted records none = sym (ap (λ (rs : List RecordData). 128 * length rs) none)
-
-pub none_shown : (records : List RecordData) → records ≡ [] → AreShown records
-none_shown records none = subst AreShown (sym none) tt
+pub none_shown : (version : AuditVersion) (records : List RecordData) → records ≡ [] → AreShown version records
+none_shown version records none = subst (AreShown version) (sym none) tt
 
 -- one more record of the bytes
-pub bytes_further : (before after : List RecordData) (piece bytes : List ℕ) (at : ℕ) → all_bytes before ++ drop at bytes ≡ bytes → IsOneMore before after piece
-    → piece ≡ take 128 (drop at bytes) → all_bytes after ++ drop (at + 128) bytes ≡ bytes
-bytes_further before after piece bytes at h more cut =
-    ap (λ (rs : List RecordData). all_bytes rs ++ drop (at + 128) bytes) more.grown
-    ∙ ap (λ (front : List ℕ). front ++ drop (at + 128) bytes) (more_bytes before more.added ∙ ap (λ (bs : List ℕ). all_bytes before ++ bs) (more.bytes_are ∙ cut))
-    ∙ append_assoc (all_bytes before) (take 128 (drop at bytes)) (drop (at + 128) bytes)
-    ∙ ap (λ (rest : List ℕ). all_bytes before ++ (take 128 (drop at bytes) ++ rest)) (sym (drop-drop 128 at bytes))
-    ∙ ap (λ (rest : List ℕ). all_bytes before ++ rest) (take-append-drop 128 (drop at bytes))
+pub bytes_further : (version : AuditVersion) (policy : PolicyData) (before after : List RecordData) (piece bytes : List ℕ) (at : ℕ)
+    → whole_audit version policy before ++ drop at bytes ≡ bytes → IsOneMore version before after piece
+    → piece ≡ take 128 (drop at bytes) → whole_audit version policy after ++ drop (at + 128) bytes ≡ bytes
+bytes_further version policy before after piece bytes at h more cut =
+    ap (λ (rs : List RecordData). whole_audit version policy rs ++ drop (at + 128) bytes) more.grown
+    ∙ ap (λ (front : List ℕ). front ++ drop (at + 128) bytes)
+    (whole_more version policy before more.added ∙ ap (λ (bs : List ℕ). whole_audit version policy before ++ bs) (more.bytes_are ∙ cut))
+    ∙ append_assoc (whole_audit version policy before) (take 128 (drop at bytes)) (drop (at + 128) bytes)
+    ∙ ap (λ (rest : List ℕ). whole_audit version policy before ++ (take 128 (drop at bytes) ++ rest)) (sym (drop-drop 128 at bytes))
+    ∙ ap (λ (rest : List ℕ). whole_audit version policy before ++ rest) (take-append-drop 128 (drop at bytes))
     ∙ h
 
-pub shown_further : (before after : List RecordData) (piece : List ℕ) → AreShown before → IsOneMore before after piece → AreShown after
-shown_further before after piece shown more = subst AreShown (sym more.grown) (all_next IsShown before more.added shown more.shown)
+pub shown_further : (version : AuditVersion) (before after : List RecordData) (piece : List ℕ) → AreShown version before → IsOneMore version before after piece → AreShown version after
+shown_further version before after piece shown more = subst (AreShown version) (sym more.grown) (all_next (IsShown version) before more.added shown more.shown)
 
 -- the fault after the records so far is the first
-first_fault : (policy : PolicyData) (records : List RecordData) (bytes : List ℕ) (at : ℕ) (fault : AuditFault) → IsLegal policy records → AreShown records
-    → all_bytes records ++ drop at bytes ≡ bytes → IsFaultAt policy records (drop at bytes) fault → IsFirstFault policy bytes fault
-first_fault policy records bytes at fault legal shown are stands =
-    record { before = records; legal = legal; shown = shown; left = drop at bytes; bytes_are = are; stands = stands }
-
-answer_of : (policy : PolicyData) (records : List RecordData) (piece bytes : List ℕ) (at : ℕ) (fault : AuditFault) → IsLegal policy records → AreShown records
-    → all_bytes records ++ drop at bytes ≡ bytes → 128 ≤ length (drop at bytes) → piece ≡ take 128 (drop at bytes) → IsRecordFault policy records piece fault
-    → IsAnswer policy bytes (Err fault)
-answer_of policy records piece bytes at faults.Truncated legal shown are whole cut stands = absurd stands
-answer_of policy records piece bytes at (faults.BadRecord n) legal shown are whole cut stands =
-    first_fault policy records bytes at (faults.BadRecord n) legal shown are (whole, subst (λ (bs : List ℕ). IsRecordFault policy records bs (faults.BadRecord n)) cut stands)
-answer_of policy records piece bytes at (faults.IllegalVerdict n) legal shown are whole cut stands =
-    first_fault policy records bytes at (faults.IllegalVerdict n) legal shown are (whole, subst (λ (bs : List ℕ). IsRecordFault policy records bs (faults.IllegalVerdict n)) cut stands)
-answer_of policy records piece bytes at faults.OutOfMemory legal shown are whole cut stands = tt
-
--- what is told of the record at hand is told of the bytes
-pub fault_told : (policy held : PolicyData) (records : List RecordData) (piece bytes : List ℕ) (at : ℕ) (fault : AuditFault) → held ≡ policy → IsLegal held records → AreShown records
-    → all_bytes records ++ drop at bytes ≡ bytes → at + 128 ≤ length bytes → piece ≡ take 128 (drop at bytes) → IsRecordFault held records piece fault
-    → IsAnswer policy bytes (Err fault)
-fault_told policy held records piece bytes at fault same legal shown are within cut stands =
-    subst (λ (p : PolicyData). IsAnswer p bytes (Err fault)) same
-    (answer_of held records piece bytes at fault legal shown are (omega (arith, within, length-drop at bytes)) cut stands)
-
--- some bytes are left
-pub left_told : (policy held : PolicyData) (records : List RecordData) (bytes : List ℕ) (at : ℕ) → held ≡ policy → IsLegal held records → AreShown records
-    → all_bytes records ++ drop at bytes ≡ bytes → at < length bytes → length bytes < at + 128 → IsAnswer policy bytes (Err faults.Truncated)
-left_told policy held records bytes at same legal shown are some few =
-    subst (λ (p : PolicyData). IsAnswer p bytes (Err faults.Truncated)) same
-    (first_fault held records bytes at faults.Truncated legal shown are (omega (arith, some, length-drop at bytes), omega (arith, few, length-drop at bytes)))
-
--- no bytes are left
-pub all_legal : (policy held : PolicyData) (records : List RecordData) (bytes : List ℕ) (at count : ℕ) → held ≡ policy → IsLegal held records → AreShown records
-    → all_bytes records ++ drop at bytes ≡ bytes → length bytes ≤ at → count ≡ length records → IsAnswer policy bytes (Ok count)
-all_legal policy held records bytes at count same legal shown are past counted =
-    subst (λ (p : PolicyData). IsLegalAudit p bytes count) same
-    (record {
-      records = records;
+first_fault : (version : AuditVersion) (policy : PolicyData) (records : List RecordData) (bytes : List ℕ) (at : ℕ) (fault : AuditFault) → version_of bytes ≡ version
+    → IsLegal policy records → AreShown version records → whole_audit version policy records ++ drop at bytes ≡ bytes
+    → IsFaultAt version policy records (drop at bytes) fault → IsFirstFault policy bytes fault
+first_fault version policy records bytes at fault is legal shown are stands =
+    record {
+      version = version;
+      version_is = is;
+      before = records;
       legal = legal;
       shown = shown;
-      bytes_are = sym (append-nil (all_bytes records)) ∙ ap (λ (rest : List ℕ). all_bytes records ++ rest) (sym (drop_all at bytes past)) ∙ are;
+      left = drop at bytes;
+      bytes_are = are;
+      stands = stands;
+    }
+
+answer_of : (version : AuditVersion) (policy : PolicyData) (records : List RecordData) (piece bytes : List ℕ) (at : ℕ) (fault : AuditFault) → version_of bytes ≡ version
+    → IsLegal policy records → AreShown version records → whole_audit version policy records ++ drop at bytes ≡ bytes → 128 ≤ length (drop at bytes)
+    → piece ≡ take 128 (drop at bytes) → IsRecordFault version policy records piece fault → IsAnswer policy bytes (Err fault)
+answer_of version policy records piece bytes at faults.Truncated is legal shown are whole cut stands = absurd stands
+answer_of version policy records piece bytes at (faults.BadRecord n) is legal shown are whole cut stands =
+    first_fault version policy records bytes at (faults.BadRecord n) is legal shown are
+    (whole, subst (λ (bs : List ℕ). IsRecordFault version policy records bs (faults.BadRecord n)) cut stands)
+answer_of version policy records piece bytes at (faults.IllegalVerdict n) is legal shown are whole cut stands =
+    first_fault version policy records bytes at (faults.IllegalVerdict n) is legal shown are
+    (whole, subst (λ (bs : List ℕ). IsRecordFault version policy records bs (faults.IllegalVerdict n)) cut stands)
+answer_of version policy records piece bytes at faults.OutOfMemory is legal shown are whole cut stands = tt
+answer_of version policy records piece bytes at faults.OtherPolicy is legal shown are whole cut stands = absurd stands
+
+-- what is told of the record at hand is told of the bytes
+pub fault_told : (version : AuditVersion) (policy held : PolicyData) (records : List RecordData) (piece bytes : List ℕ) (at : ℕ) (fault : AuditFault) → held ≡ policy
+    → version_of bytes ≡ version → IsLegal held records → AreShown version records → whole_audit version policy records ++ drop at bytes ≡ bytes
+    → at + 128 ≤ length bytes → piece ≡ take 128 (drop at bytes) → IsRecordFault version held records piece fault → IsAnswer policy bytes (Err fault)
+fault_told version policy held records piece bytes at fault same is legal shown are within cut stands =
+    answer_of version policy records piece bytes at fault is (subst (λ (p : PolicyData). IsLegal p records) same legal) shown are
+    (omega (arith, within, length-drop at bytes)) cut (subst (λ (p : PolicyData). IsRecordFault version p records piece fault) same stands)
+
+-- some bytes are left
+pub left_told : (version : AuditVersion) (policy held : PolicyData) (records : List RecordData) (bytes : List ℕ) (at : ℕ) → held ≡ policy → version_of bytes ≡ version
+    → IsLegal held records → AreShown version records → whole_audit version policy records ++ drop at bytes ≡ bytes → at < length bytes → length bytes < at + 128
+    → IsAnswer policy bytes (Err faults.Truncated)
+left_told version policy held records bytes at same is legal shown are some few =
+    inr (first_fault version policy records bytes at faults.Truncated is (subst (λ (p : PolicyData). IsLegal p records) same legal) shown are
+    (omega (arith, some, length-drop at bytes), omega (arith, few, length-drop at bytes)))
+
+-- no bytes are left
+pub all_legal : (version : AuditVersion) (policy held : PolicyData) (records : List RecordData) (bytes : List ℕ) (at count : ℕ) → held ≡ policy → IsLegal held records
+    → AreShown version records → whole_audit version policy records ++ drop at bytes ≡ bytes → length bytes ≤ at → count ≡ length records → IsAnswer policy bytes (Ok count)
+all_legal version policy held records bytes at count same legal shown are past counted =
+    record {
+      version = version;
+      records = records;
+      legal = subst (λ (p : PolicyData). IsLegal p records) same legal;
+      shown = shown;
+      bytes_are =
+          sym (append-nil (whole_audit version policy records))
+          ∙ ap (λ (rest : List ℕ). whole_audit version policy records ++ rest) (sym (drop_all at bytes past)) ∙ are;
       count_is = sym counted;
-    })
+    }
 
 -- an answer under the policy that the gate holds
 pub answer_under : (policy held : PolicyData) (bytes : List ℕ) (answer : Result ℕ AuditFault) → held ≡ policy → IsAnswer held bytes answer → IsAnswer policy bytes answer

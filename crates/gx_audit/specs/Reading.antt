@@ -17,6 +17,7 @@ use Rattle.gx_history.specs.declared.record.RecordData.{RecordData}
 use Rattle.gx_history.specs.Payloads.{request_of}
 use Rattle.gx_history.specs.RuleNames.{rule_id, rules_before, rules_behind}
 use Rattle.gx_history.specs.Showing.{is_askable, is_showable, is_rule_shown}
+use Rattle.gx_audit.specs.declared.version.AuditVersion.{AuditVersion}
 use Rattle.gx_audit.specs.Records.{number_place, handed_place, moment_place, line_place, user_place, kind_place, body_place, verdict_place, rule_place, order_place, maker_place, shares_place, price_place, record_bytes, HasPlaces, line_shown, user_shown, kind_shown, body_shown, verdict_letter, rule_shown, order_shown, maker_shown, shares_shown, price_shown}
 use Rattle.gx_audit.specs.Bodies.{zero_padded}
 use Rattle.gx_history.specs.Requests.{handed_moment}
@@ -109,18 +110,18 @@ content_with bytes step verdict =
 unfoldable pub content_in : List ℕ → Option RecordData
 content_in bytes = option_and_then (λ (step : Step). option_map (content_with bytes step) (verdict_shown bytes)) (step_shown bytes)
 
--- it is a record, and these are its bytes
-abbrev pub is_record_of : List ℕ → RecordData → Bool
-is_record_of bytes r = is_showable r && bytes_eq (record_bytes r) bytes
+-- it is a record, and these are its bytes in this version
+abbrev pub is_record_of : AuditVersion → List ℕ → RecordData → Bool
+is_record_of version bytes r = is_showable r && bytes_eq (record_bytes version r) bytes
 
--- the record whose bytes these are
-unfoldable pub record_of : List ℕ → Option RecordData
-record_of bytes = option_and_then (λ (r : RecordData). if is_record_of bytes r then Some r else None) (content_in bytes)
+-- the record whose bytes these are in this version
+unfoldable pub record_of : AuditVersion → List ℕ → Option RecordData
+record_of version bytes = option_and_then (λ (r : RecordData). if is_record_of version bytes r then Some r else None) (content_in bytes)
 
 -- each part of the record has its place, and its bytes show the record
-pub record IsShown (r : RecordData) : Type 0 where
-  pub places : HasPlaces r
-  pub read_back : record_of (record_bytes r) ≡ Some r
+pub record IsShown (version : AuditVersion) (r : RecordData) : Type 0 where
+  pub places : HasPlaces version r
+  pub read_back : record_of version (record_bytes version r) ≡ Some r
 
 -- each number of the record is within its field
 pub record NumbersFit (r : RecordData) : Type 0 where

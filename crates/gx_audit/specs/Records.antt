@@ -10,6 +10,8 @@ use Rattle.gx_history.specs.declared.record.Verdict.TheVariants as verdicts
 use Rattle.gx_history.specs.declared.record.RecordData.{RecordData}
 use Rattle.gx_history.specs.Requests.{handed_moment}
 use Rattle.gx_history.specs.RuleNames.{rule_id}
+use Rattle.gx_audit.specs.declared.version.AuditVersion.{AuditVersion}
+use Rattle.gx_audit.specs.Versions.{mark_of}
 use Rattle.gx_audit.specs.Bodies.{request_kind, request_body, zero_padded}
 
 -- where each part of a record stands behind the first letter of its mark, and how many bytes it has
@@ -55,7 +57,7 @@ shares_place = field 120 4
 abbrev pub price_place : Field
 price_place = field 124 4
 
--- an audit record: `GXA1`, and the parts in their order
+-- an audit record: the mark, and the parts in their order
 abbrev pub audit_record : Layout
 audit_record = record {
   kind = 71;
@@ -129,9 +131,9 @@ price_shown (verdicts.Filled fill) = fill.price
 price_shown other = 0
 
 -- what stands at each place
-abbrev pub record_contents : RecordData → List (List ℕ)
-record_contents r =
-    codes "XA1" ∷
+abbrev pub record_contents : AuditVersion → RecordData → List (List ℕ)
+record_contents version r =
+    mark_of version ∷
     to_be_bytes w64 r.number ∷
     to_be_bytes w64 (handed_moment r.step) ∷
     to_be_bytes w64 r.moment ∷
@@ -147,10 +149,10 @@ record_contents r =
     to_be_bytes w32 (price_shown r.verdict) ∷
     []
 
--- the bytes of a record
-unfoldable pub record_bytes : RecordData → List ℕ
-record_bytes r = laid_out audit_record (record_contents r)
+-- the bytes of a record, in an audit of this version
+unfoldable pub record_bytes : AuditVersion → RecordData → List ℕ
+record_bytes version r = laid_out audit_record (record_contents version r)
 
 -- each part has as many bytes as its place
-abbrev pub HasPlaces : RecordData → Type 0
-HasPlaces r = HasSizes audit_record (record_contents r)
+abbrev pub HasPlaces : AuditVersion → RecordData → Type 0
+HasPlaces version r = HasSizes audit_record (record_contents version r)

@@ -1,44 +1,112 @@
 //! The check that bytes are the records of a legal day.
 
-ghost use Rattle.std.specs.Prelude.{◌≡◌, ◌≢◌, ◌+◌, ◌-◌, ◌<◌, ◌≤◌, ◌^◌, IsTrue, IsFalse, IfOk, IfErr, OnOk, [], length, take, drop, Some};
+ghost use Rattle.std.specs.Prelude.{◌≡◌, ◌≢◌, ◌+◌, ◌-◌, ◌<◌, ◌≤◌, ◌^◌, IsTrue, IsFalse, IfOk, IfErr, OnOk, Err, ◌++◌, [], length, take, drop, Some};
 ghost use Rattle.gx_history.specs.Verdicts.{next, IsLegal};
 ghost use Rattle.gx_core.specs.declared.outcome.StepFault.TheVariants as stepping;
+ghost use Rattle.gx_audit.specs.declared.version.AuditVersion.TheVariants as versions;
 ghost use Rattle.gx_audit.specs.Auditing.{with_left, IsAnswer, IsOneMore, IsOnlyAnswer, IsRecordFault, NoneFollows};
 ghost use Rattle.gx_audit.specs.Reading.{record_of, IsAskableStep, IsShown};
+ghost use Rattle.gx_audit.specs.Headers.{front_of, header_bytes};
 ghost use Rattle.gx_audit.specs.Records.{record_bytes};
+ghost use Rattle.gx_audit.specs.Versions.{version_of};
 
 use crate::draft::{RECORD_SIZE, same_bytes, whole};
 use crate::fault::AuditFault;
-use crate::reading::{is_showable, read_record};
+use crate::header::write_header;
+use crate::reading::{is_showable, read_record_in};
+use crate::version::AuditVersion;
 use crate::writing::write_content;
 use gx_core::{Gate, Outcome, StepFault};
 use gx_history::policy::Policy;
 use gx_history::record::{RecordData, Step};
 use std::alloc::Global;
 
-/// Whether the bytes are the records of a legal day under the policy: how many there are, or the first fault.
-#[tactic(auto, using(crate::proofs::Walking::answer_under, crate::proofs::Only::is_only))]
+/// Whether the bytes are the audit of a legal day under the policy: how many records there are, or the first fault. Bytes
+/// that begin with `GXH2` are taken as version 2, all others as version 1.
+#[tactic(auto, using(crate::proofs::Only::is_only))]
 pub fn check_audit(alloc: Global, policy: &Policy, bytes: &[u8]) -> Result<u64, AuditFault>
     ensures answer { IsAnswer policy.now bytes.now result }
     // Where memory was not refused, no other answer is right.
     ensures only { IsOnlyAnswer policy.now bytes.now result }
 {
+    let version = AuditVersion::of(bytes);
+    match records_start(policy, version, bytes) {
+        Ok(start) => check_behind(alloc, policy, version, bytes, start),
+        Err(fault) => Err(fault),
+    }
+}
+
+/// Where the records begin: behind the header, where there has to be one.
+fn records_start(policy: &Policy, version: AuditVersion, bytes: &[u8]) -> Result<usize, AuditFault>
+    requires version { version_of bytes.now ≡ version }
+    ensures within { IfOk result (λ start. start ≤ length bytes.now) }
+    ensures front { IfOk result (λ start.
+        front_of version policy.now ++ drop start bytes.now ≡ bytes.now) }
+    ensures fault { IfErr result (λ e. IsAnswer policy.now bytes.now (Err e)) }
+{
+    match version {
+        AuditVersion::One => Ok(0),
+        AuditVersion::Two => header_end(policy, bytes),
+    }
+}
+
+/// Where the policy's header ends, with which the bytes have to begin.
+#[tactic(auto, using(crate::proofs::Fronts::cut_header, crate::proofs::Fronts::other_header))]
+fn header_end(policy: &Policy, bytes: &[u8]) -> Result<usize, AuditFault>
+    requires version { version_of bytes.now ≡ versions.Two }
+    ensures within { IfOk result (λ end. end ≤ length bytes.now) }
+    ensures front { IfOk result (λ end.
+        header_bytes policy.now ++ drop end bytes.now ≡ bytes.now) }
+    ensures fault { IfErr result (λ e. IsAnswer policy.now bytes.now (Err e)) }
+{
+    if bytes.len() < RECORD_SIZE {
+        return Err(AuditFault::Truncated);
+    }
+    if same_bytes(&record_at(bytes, 0), &write_header(policy)) {
+        Ok(RECORD_SIZE)
+    } else {
+        Err(AuditFault::OtherPolicy)
+    }
+}
+
+/// Checks the records from this place on, on a gate of its own.
+#[tactic(auto, using(crate::proofs::Walking::answer_under))]
+fn check_behind(
+    alloc: Global,
+    policy: &Policy,
+    version: AuditVersion,
+    bytes: &[u8],
+    start: usize,
+) -> Result<u64, AuditFault>
+    requires version { version_of bytes.now ≡ version }
+    requires within { start ≤ length bytes.now }
+    requires front { front_of version policy.now ++ drop start bytes.now ≡ bytes.now }
+    ensures { IsAnswer policy.now bytes.now result }
+{
     let Ok(mut gate) = Gate::open(alloc, policy) else {
         return Err(AuditFault::OutOfMemory);
     };
-    let answer = check_records(&mut gate, bytes);
+    let answer = check_records(&mut gate, version, bytes, start);
     gate.close();
     answer
 }
 
-/// Makes the steps of the records on a new gate: how many records there are, or the first fault.
-fn check_records(gate: &mut Gate, bytes: &[u8]) -> Result<u64, AuditFault>
+/// Makes the steps of the records from this place on, on a new gate: how many records there are, or the first fault.
+fn check_records(
+    gate: &mut Gate,
+    version: AuditVersion,
+    bytes: &[u8],
+    start: usize,
+) -> Result<u64, AuditFault>
     requires new { gate.old.records ≡ [] }
+    requires version { version_of bytes.now ≡ version }
+    requires within { start ≤ length bytes.now }
+    requires front { front_of version gate.old.policy ++ drop start bytes.now ≡ bytes.now }
     ensures { IsAnswer gate.old.policy bytes.now result }
 {
-    let mut at = 0;
+    let mut at = start;
     while bytes.len() - at >= RECORD_SIZE {
-        match check_record(gate, &record_at(bytes, at)) {
+        match check_record(gate, version, &record_at(bytes, at)) {
             Ok(()) => at += RECORD_SIZE,
             Err(fault) => return Err(fault),
         }
@@ -70,50 +138,55 @@ pub fn record_at(bytes: &[u8], at: usize) -> [u8; RECORD_SIZE]
     whole(&left[..RECORD_SIZE])
 }
 
-/// Checks that these bytes are the gate's next record, by making its step.
+/// Checks that these bytes are the gate's next record in this version, by making its step.
 ///
 /// After `IllegalVerdict` the gate has the record that the step left, if it left one.
-pub fn check_record(gate: &mut Gate, bytes: &[u8; RECORD_SIZE]) -> Result<(), AuditFault>
+pub fn check_record(
+    gate: &mut Gate,
+    version: AuditVersion,
+    bytes: &[u8; RECORD_SIZE],
+) -> Result<(), AuditFault>
     ensures policy { gate.new.policy ≡ gate.old.policy }
     ensures legal { IsLegal gate.old.policy gate.old.records }
-    ensures ok { OnOk result (IsOneMore gate.old.records gate.new.records bytes.now) }
+    ensures ok { OnOk result (IsOneMore version gate.old.records gate.new.records bytes.now) }
     ensures len { OnOk result (length gate.new.records ≡ length gate.old.records + 1) }
     ensures fault { IfErr result (λ e.
-        IsRecordFault gate.old.policy gate.old.records bytes.now e) }
+        IsRecordFault version gate.old.policy gate.old.records bytes.now e) }
 {
     // that the records so far are those of a legal day
     gate.is_legal();
     let number = gate.length() + 1;
-    let Some(record) = read_record(bytes) else {
+    let Some(record) = read_record_in(version, bytes) else {
         return Err(AuditFault::BadRecord(number));
     };
     let shown = record.content();
     if shown.number != number {
         return Err(AuditFault::BadRecord(number));
     }
-    follow(gate, number, &shown, bytes)
+    follow(gate, version, number, &shown, bytes)
 }
 
 /// Makes the step of the record that these bytes show, and checks that it leaves this record.
 fn follow(
     gate: &mut Gate,
+    version: AuditVersion,
     number: u64,
     shown: &RecordData,
     bytes: &[u8; RECORD_SIZE],
 ) -> Result<(), AuditFault>
     requires number { number ≡ length gate.old.records + 1 }
     requires numbered { shown.now.number ≡ number }
-    requires shows { record_of bytes.now ≡ Some shown.now }
+    requires shows { record_of version bytes.now ≡ Some shown.now }
     requires askable { IsAskableStep shown.now.step }
     ensures policy { gate.new.policy ≡ gate.old.policy }
-    ensures ok { OnOk result (IsOneMore gate.old.records gate.new.records bytes.now) }
+    ensures ok { OnOk result (IsOneMore version gate.old.records gate.new.records bytes.now) }
     ensures len { OnOk result (length gate.new.records ≡ length gate.old.records + 1) }
     ensures fault { IfErr result (λ e.
-        IsRecordFault gate.old.policy gate.old.records bytes.now e) }
+        IsRecordFault version gate.old.policy gate.old.records bytes.now e) }
 {
     match made(gate, shown.step) {
         Ok(Some(left)) => {
-            if has_bytes(&left, bytes) {
+            if has_bytes(version, &left, bytes) {
                 Ok(())
             } else {
                 Err(AuditFault::IllegalVerdict(number))
@@ -164,15 +237,15 @@ fn left_by(step: Step, outcome: Outcome) -> RecordData
     }
 }
 
-/// Whether the record can be shown, and these are its bytes.
+/// Whether the record can be shown, and these are its bytes in this version.
 #[tactic(auto, using(crate::proofs::ReadBack::shown_is_showable, crate::proofs::ReadBack::shown_has_bytes))]
-fn has_bytes(left: &RecordData, bytes: &[u8; RECORD_SIZE]) -> bool
-    ensures shown { IsTrue result → IsShown left.now }
-    ensures same { IsTrue result → record_bytes left.now ≡ bytes.now }
-    ensures other { IsFalse result → record_of bytes.now ≢ Some left.now }
+fn has_bytes(version: AuditVersion, left: &RecordData, bytes: &[u8; RECORD_SIZE]) -> bool
+    ensures shown { IsTrue result → IsShown version left.now }
+    ensures same { IsTrue result → record_bytes version left.now ≡ bytes.now }
+    ensures other { IsFalse result → record_of version bytes.now ≢ Some left.now }
 {
     if !is_showable(left) {
         return false;
     }
-    same_bytes(&write_content(left), bytes)
+    same_bytes(&write_content(version, left), bytes)
 }

@@ -1,46 +1,76 @@
 //! A day's records as bytes.
 
 ghost use Rattle.std.specs.Prelude.{◌≡◌, ◌++◌, IfOk, OnOk, length};
-ghost use Rattle.gx_audit.specs.Auditing.{all_bytes, AreShown, IsLegalAudit};
+ghost use Rattle.gx_audit.specs.Auditing.{all_bytes, whole_audit, AreShown, IsLegalAudit};
+ghost use Rattle.gx_audit.specs.Headers.{front_of, header_bytes};
 ghost use Rattle.gx_audit.specs.Reading.{IsShown};
 ghost use Rattle.gx_audit.specs.Records.{record_bytes};
 
-use crate::writing::write_record;
+use crate::draft::RECORD_SIZE;
+use crate::header::write_header;
+use crate::version::AuditVersion;
+use crate::writing::write_record_in;
 use gx_core::Gate;
 use gx_history::record::Record;
 use gx_units::OutOfMemory;
 use std::alloc::Global;
 
 /// Puts the record's bytes last.
-fn put(bytes: &mut Vec<u8>, given: &Record) -> Result<(), OutOfMemory>
-    ensures ok { OnOk result (bytes.new.items ≡ bytes.old.items ++ record_bytes given.now) }
-    ensures shown { IsShown given.now }
+fn put(version: AuditVersion, bytes: &mut Vec<u8>, given: &Record) -> Result<(), OutOfMemory>
+    ensures ok { OnOk result (bytes.new.items
+        ≡ bytes.old.items ++ record_bytes version given.now) }
+    ensures shown { IsShown version given.now }
 {
-    bytes.extend_from_slice(&write_record(given))?;
+    bytes.extend_from_slice(&write_record_in(version, given))?;
     Ok(())
 }
 
-/// The bytes of the records, one behind the other.
+/// The bytes of the records in this version, one behind the other.
 #[tactic(auto, using(crate::proofs::Whole::none_yet))]
-pub fn audit_bytes(alloc: Global, records: &[Record]) -> Result<Vec<u8>, OutOfMemory>
-    ensures bytes { IfOk result (λ v. v.items ≡ all_bytes records.now) }
-    ensures shown { IfOk result (λ v. AreShown records.now) }
+pub fn audit_bytes(
+    alloc: Global,
+    version: AuditVersion,
+    records: &[Record],
+) -> Result<Vec<u8>, OutOfMemory>
+    ensures bytes { IfOk result (λ v. v.items ≡ all_bytes version records.now) }
+    ensures shown { IfOk result (λ v. AreShown version records.now) }
 {
     let mut bytes = Vec::new(alloc);
     for given in records {
-        put(&mut bytes, given)?;
+        put(version, &mut bytes, given)?;
     }
     Ok(bytes)
 }
 
-/// The bytes of the gate's records: those of a legal day under its policy.
-#[tactic(auto, using(crate::proofs::Whole::whole_day, crate::proofs::Whole::is_audit))]
-pub fn audit_of(alloc: Global, gate: &Gate) -> Result<Vec<u8>, OutOfMemory>
-    ensures bytes { IfOk result (λ v. v.items ≡ all_bytes gate.now.records) }
+/// The header of the gate's policy. Takes no memory.
+pub fn header_of(gate: &Gate) -> [u8; RECORD_SIZE]
+    ensures { result ≡ header_bytes gate.now.policy }
+{
+    write_header(gate.policy())
+}
+
+/// What stands in front of the gate's records: in version 2 the policy's header.
+fn front(alloc: Global, version: AuditVersion, gate: &Gate) -> Result<Vec<u8>, OutOfMemory>
+    ensures { IfOk result (λ front. front.items ≡ front_of version gate.now.policy) }
+{
+    match version {
+        AuditVersion::One => Ok(Vec::new(alloc)),
+        AuditVersion::Two => Ok(Vec::from_slice(alloc, &header_of(gate))?),
+    }
+}
+
+/// The audit of the gate's records in this version: that of a legal day under its policy.
+#[tactic(auto, using(crate::proofs::Whole::whole_is, crate::proofs::Whole::is_audit))]
+pub fn audit_of(alloc: Global, version: AuditVersion, gate: &Gate) -> Result<Vec<u8>, OutOfMemory>
+    ensures bytes { IfOk result (λ v.
+        v.items ≡ whole_audit version gate.now.policy gate.now.records) }
     ensures legal { IfOk result (λ v.
         IsLegalAudit gate.now.policy v.items (length gate.now.records)) }
 {
     gate.is_legal();
+    let mut audit = front(alloc, version, gate)?;
     let records = gate.records(1, gate.length())?;
-    audit_bytes(alloc, records.as_slice())
+    let bytes = audit_bytes(alloc, version, records.as_slice())?;
+    audit.extend_from_slice(bytes.as_slice())?;
+    Ok(audit)
 }

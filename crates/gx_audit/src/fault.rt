@@ -5,7 +5,7 @@ use thiserror::Error;
 /// Why an audit is no legal day's.
 #[derive(Clone, Copy, Debug, PartialEq, Eq, Error)]
 pub enum AuditFault {
-    /// Behind the last whole record there are bytes.
+    /// Behind the last whole record there are bytes, or a header is cut short.
     #[error("truncated")]
     Truncated,
     /// The bytes of this record are no record's, or its number is not this one.
@@ -18,4 +18,7 @@ pub enum AuditFault {
     /// A growth was refused.
     #[error("out of memory")]
     OutOfMemory,
+    /// The header is not the policy's.
+    #[error("other policy")]
+    OtherPolicy,
 }

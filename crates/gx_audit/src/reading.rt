@@ -9,11 +9,13 @@ ghost use Rattle.gx_history.specs.declared.record.Request.TheVariants as request
 ghost use Rattle.gx_history.specs.Payloads.{request_of};
 ghost use Rattle.gx_history.specs.RuleNames.{rule_id, is_built_in};
 ghost use Rattle.gx_history.specs.Showing.{is_showable, is_verdict_of, is_askable, answers, is_rule_shown, has_its_first};
+ghost use Rattle.gx_audit.specs.declared.version.AuditVersion.TheVariants as versions;
 ghost use Rattle.gx_audit.specs.Records.{record_bytes};
 ghost use Rattle.gx_audit.specs.Reading.{record_of, content_in, step_in, verdict_in, rule_in, request_in, login_in, unreadable_in, message_size, step_shown, verdict_shown};
 
 use crate::draft::{RECORD_SIZE, same_bytes, whole};
-use crate::writing::{rule_bytes, write_record};
+use crate::version::AuditVersion;
+use crate::writing::{rule_bytes, write_record_in};
 use gx_desk::{Action, Command, Tag, WrittenName};
 use gx_history::record::{
     Asked, Fill, Login, Record, RecordData, Request, RuleName, Step, Unreadable, Verdict,
@@ -50,18 +52,34 @@ const BUILT_IN: [RuleName; 25] = [
     RuleName::Q4,
 ];
 
-/// The record whose bytes these are; None where they are no record's. Takes no memory.
-#[tactic(auto, unfolding(crate::specs::Reading::record_of))]
+/// The record whose bytes these are in version 1; None where they are no record's. Takes no memory.
 pub fn read_record(bytes: &[u8; RECORD_SIZE]) -> Option<Record>
-    ensures shown { result ≡ record_of bytes.now }
-    ensures bytes { IfSome result (λ r. record_bytes r ≡ bytes.now) }
+    ensures shown { result ≡ record_of versions.One bytes.now }
+    ensures bytes { IfSome result (λ r. record_bytes versions.One r ≡ bytes.now) }
+{
+    read_record_in(AuditVersion::One, bytes)
+}
+
+/// The record whose bytes these are in version 2; None where they are no record's. Takes no memory.
+pub fn read_record_2(bytes: &[u8; RECORD_SIZE]) -> Option<Record>
+    ensures shown { result ≡ record_of versions.Two bytes.now }
+    ensures bytes { IfSome result (λ r. record_bytes versions.Two r ≡ bytes.now) }
+{
+    read_record_in(AuditVersion::Two, bytes)
+}
+
+/// The record whose bytes these are in this version; None where they are no record's. Takes no memory.
+#[tactic(auto, unfolding(crate::specs::Reading::record_of))]
+pub fn read_record_in(version: AuditVersion, bytes: &[u8; RECORD_SIZE]) -> Option<Record>
+    ensures shown { result ≡ record_of version bytes.now }
+    ensures bytes { IfSome result (λ r. record_bytes version r ≡ bytes.now) }
 {
     let content = content(bytes)?;
     if !is_showable(&content) {
         return None;
     }
     let shown = Record::new(content);
-    if same_bytes(&write_record(&shown), bytes) {
+    if same_bytes(&write_record_in(version, &shown), bytes) {
         Some(shown)
     } else {
         None

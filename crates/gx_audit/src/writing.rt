@@ -1,58 +1,80 @@
 //! A record, written as bytes.
 
-ghost use Rattle.std.specs.Prelude.{◌≡◌, ◌++◌, Some, length, take, codes, IsTrue};
+ghost use Rattle.std.specs.Prelude.{◌≡◌, ◌++◌, ◌∷◌, Some, length, take, codes, IsTrue};
 ghost use Rattle.gx_ouch.specs.Layout.{LiesIn};
 ghost use Rattle.gx_history.specs.RuleNames.{rule_id};
 ghost use Rattle.gx_history.specs.Requests.{handed_moment};
 ghost use Rattle.gx_history.specs.Showing.{is_showable};
+ghost use Rattle.gx_audit.specs.declared.version.AuditVersion.TheVariants as versions;
 ghost use Rattle.gx_audit.specs.Bodies.{zero_padded};
 ghost use Rattle.gx_audit.specs.Reading.{record_of, shows_rule, IsShown, NameFits, NumbersFit, StepIsRead, VerdictIsRead};
 ghost use Rattle.gx_audit.specs.Records.{audit_record, record_contents, record_bytes, line_shown, user_shown, kind_shown, body_shown, verdict_letter, rule_shown, order_shown, maker_shown, shares_shown, price_shown, HasPlaces};
+ghost use Rattle.gx_audit.specs.Versions.{mark_of};
 
 use crate::bodies::{request_body, request_kind};
 use crate::draft::{Draft, RECORD_SIZE, whole, zero_padded};
+use crate::version::AuditVersion;
 use gx_history::record::{Record, RecordData, RuleName, Step, Verdict};
 use gx_units::RuleId;
-
-const MARK: [u8; 4] = *b"GXA1";
 
 const NO_USER: [u8; 6] = *b"      ";
 
 const NO_RULE: [u8; 8] = *b"        ";
 
-/// The record as the audit shows it: each part at its place. Takes no memory.
+/// The record as an audit of version 1 shows it: each part at its place. Takes no memory.
 pub fn write_record(given: &Record) -> [u8; RECORD_SIZE]
-    ensures bytes { result ≡ record_bytes given.now }
-    ensures fields { LiesIn audit_record (record_contents given.now) result }
-    ensures read_back { record_of result ≡ Some given.now }
-    ensures shown { IsShown given.now }
+    ensures bytes { result ≡ record_bytes versions.One given.now }
+    ensures fields { LiesIn audit_record (record_contents versions.One given.now) result }
+    ensures read_back { record_of versions.One result ≡ Some given.now }
+    ensures shown { IsShown versions.One given.now }
 {
-    write_content(&given.content())
+    write_record_in(AuditVersion::One, given)
+}
+
+/// The record as an audit of version 2 shows it: each part at its place. Takes no memory.
+pub fn write_record_2(given: &Record) -> [u8; RECORD_SIZE]
+    ensures bytes { result ≡ record_bytes versions.Two given.now }
+    ensures fields { LiesIn audit_record (record_contents versions.Two given.now) result }
+    ensures read_back { record_of versions.Two result ≡ Some given.now }
+    ensures shown { IsShown versions.Two given.now }
+{
+    write_record_in(AuditVersion::Two, given)
+}
+
+/// The record as an audit of this version shows it. Takes no memory.
+pub fn write_record_in(version: AuditVersion, given: &Record) -> [u8; RECORD_SIZE]
+    ensures bytes { result ≡ record_bytes version given.now }
+    ensures fields { LiesIn audit_record (record_contents version given.now) result }
+    ensures read_back { record_of version result ≡ Some given.now }
+    ensures shown { IsShown version given.now }
+{
+    write_content(version, &given.content())
 }
 
 /// What stands in a record, as the audit shows it.
 #[tactic(auto, using(crate::proofs::ReadBack::read_back, crate::proofs::ReadBack::fields_lie, crate::proofs::ReadBack::is_shown))]
-pub(crate) fn write_content(content: &RecordData) -> [u8; RECORD_SIZE]
-    ensures bytes { result ≡ record_bytes content.now }
-    ensures fields { LiesIn audit_record (record_contents content.now) result }
-    ensures read_back { IsTrue (is_showable content.now) → record_of result ≡ Some content.now }
-    ensures shown { IsTrue (is_showable content.now) → IsShown content.now }
+pub(crate) fn write_content(version: AuditVersion, content: &RecordData) -> [u8; RECORD_SIZE]
+    ensures bytes { result ≡ record_bytes version content.now }
+    ensures fields { LiesIn audit_record (record_contents version content.now) result }
+    ensures read_back { IsTrue (is_showable content.now)
+        → record_of version result ≡ Some content.now }
+    ensures shown { IsTrue (is_showable content.now) → IsShown version content.now }
 {
-    whole(record_draft(content).as_slice())
+    whole(record_draft(version, content).as_slice())
 }
 
 #[tactic(auto, unfolding(crate::specs::Records::record_bytes))]
-fn record_draft(content: &RecordData) -> Draft
-    ensures bytes { result ≡ record_bytes content.now }
+fn record_draft(version: AuditVersion, content: &RecordData) -> Draft
+    ensures bytes { result ≡ record_bytes version content.now }
     ensures len { length result ≡ 128 }
-    ensures places { HasPlaces content.now }
+    ensures places { HasPlaces version content.now }
     ensures fit { NumbersFit content.now }
     ensures step { StepIsRead content.now.step }
     ensures verdict { IsTrue (shows_rule content.now.verdict)
         → VerdictIsRead content.now.verdict }
 {
     let mut draft = Draft::new();
-    draft.put(&MARK);
+    draft.put(&mark(version));
     draft.put(&content.number.to_be_bytes());
     draft.put(&handed(&content.step).to_be_bytes());
     draft.put(&content.moment.to_be_bytes());
@@ -67,6 +89,16 @@ fn record_draft(content: &RecordData) -> Draft
     draft.put(&shares(&content.verdict).to_be_bytes());
     draft.put(&price(&content.verdict).to_be_bytes());
     draft
+}
+
+fn mark(version: AuditVersion) -> [u8; 4]
+    ensures bytes { result ≡ 71 ∷ mark_of version }
+    ensures len { length (mark_of version) ≡ 3 }
+{
+    match version {
+        AuditVersion::One => *b"GXA1",
+        AuditVersion::Two => *b"GXA2",
+    }
 }
 
 fn handed(step: &Step) -> u64

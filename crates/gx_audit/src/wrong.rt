@@ -2,6 +2,7 @@
 
 use crate::draft::RECORD_SIZE;
 use crate::reading::{content, has_no_lower_case, is_showable, message_size, step_shown};
+use crate::version::AuditVersion;
 use crate::writing::write_content;
 use gx_history::record::{RecordData, Step, Verdict};
 
@@ -46,8 +47,11 @@ fn unshown(content: &RecordData) -> &'static str {
     }
 }
 
-fn has_mark(bytes: &[u8]) -> bool {
-    matches!(bytes, [b'G', b'X', b'A', b'1', ..])
+fn has_mark(version: AuditVersion, bytes: &[u8]) -> bool {
+    match version {
+        AuditVersion::One => matches!(bytes, [b'G', b'X', b'A', b'1', ..]),
+        AuditVersion::Two => matches!(bytes, [b'G', b'X', b'A', b'2', ..]),
+    }
 }
 
 /// The field that can't be read: the kind, or else the verdict.
@@ -68,9 +72,10 @@ fn first_difference(bytes: &[u8; RECORD_SIZE], others: &[u8; RECORD_SIZE]) -> &'
     "number"
 }
 
-/// The field of a bad record that is wrong: the first that no record has so, or the number, where another was due.
-pub fn wrong_field(bytes: &[u8; RECORD_SIZE]) -> &'static str {
-    if !has_mark(bytes) {
+/// The field of a bad record that is wrong: the first that no record of the version has so, or the number, where another
+/// was due.
+pub fn wrong_field(version: AuditVersion, bytes: &[u8; RECORD_SIZE]) -> &'static str {
+    if !has_mark(version, bytes) {
         return "mark";
     }
     let Some(content) = content(bytes) else {
@@ -79,7 +84,7 @@ pub fn wrong_field(bytes: &[u8; RECORD_SIZE]) -> &'static str {
     if !is_showable(&content) {
         return unshown(&content);
     }
-    first_difference(bytes, &write_content(&content))
+    first_difference(bytes, &write_content(version, &content))
 }
 
 /// The message that a record shows, as it was sent; empty where it shows none.

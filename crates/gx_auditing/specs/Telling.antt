@@ -10,6 +10,7 @@ answer_words (Ok count) = codes "legal " ++ decimal count
 answer_words (Err faults.Truncated) = codes "truncated"
 answer_words (Err (faults.BadRecord number)) = codes "bad record " ++ decimal number
 answer_words (Err (faults.IllegalVerdict number)) = codes "illegal verdict " ++ decimal number
+answer_words (Err faults.OtherPolicy) = codes "other policy"
 answer_words (Err other) = []
 
 -- the line on standard output

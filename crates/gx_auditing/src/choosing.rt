@@ -1,7 +1,7 @@
 //! Which records of an audit are shown.
 
 use crate::places::bytes_at;
-use gx_audit::read_record;
+use gx_audit::{AuditVersion, read_record_in};
 use gx_desk::{Action, Command};
 use gx_history::policy::{Policy, Role};
 use gx_history::record::{Asked, Fill, RecordData, Request, Step, Verdict};
@@ -81,7 +81,7 @@ fn is_order_chosen(policy: &Policy, choice: &Choice, audit: &[u8], number: u64) 
     let Some(bytes) = bytes_at(audit, number) else {
         return false;
     };
-    match read_record(&bytes) {
+    match read_record_in(AuditVersion::of(audit), &bytes) {
         Some(record) => match &record.content().step {
             Step::Asked(asked) => is_asked_chosen(policy, choice, asked),
             Step::Matching(_) => false,

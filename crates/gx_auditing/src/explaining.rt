@@ -1,7 +1,7 @@
 //! What is wrong with a record that the check refuses.
 
 use crate::places::bytes_at;
-use gx_audit::{AuditFault, RECORD_SIZE, check_record, read_record, wrong_field};
+use gx_audit::{AuditFault, AuditVersion, RECORD_SIZE, check_record, read_record_in, wrong_field};
 use gx_core::Gate;
 use gx_history::policy::Policy;
 use gx_history::record::RecordData;
@@ -19,7 +19,10 @@ pub fn more_of_audit(
 ) -> Result<Option<Vec<u8>>, OutOfMemory> {
     match answer {
         Err(AuditFault::BadRecord(number)) => match bytes_at(audit, number) {
-            Some(bytes) => Ok(Some(field_line(alloc, wrong_field(&bytes))?)),
+            Some(bytes) => {
+                let field = wrong_field(AuditVersion::of(audit), &bytes);
+                Ok(Some(field_line(alloc, field)?))
+            }
             None => Ok(None),
         },
         Err(AuditFault::IllegalVerdict(number)) => match bytes_at(audit, number) {
@@ -46,7 +49,7 @@ fn illegal_line(
     number: u64,
     bytes: &[u8; RECORD_SIZE],
 ) -> Result<Option<Vec<u8>>, OutOfMemory> {
-    let Some(recorded) = read_record(bytes) else {
+    let Some(recorded) = read_record_in(AuditVersion::of(audit), bytes) else {
         return Ok(None);
     };
     let mut line = Vec::from_slice(alloc, b"record: ")?;
@@ -97,11 +100,12 @@ fn left_behind(
 
 /// Makes the steps of the records up to this number, as far as each leaves its record.
 fn replay(gate: &mut Gate, audit: &[u8], number: u64) -> Result<(), OutOfMemory> {
+    let version = AuditVersion::of(audit);
     for at in 0..number {
         let Some(bytes) = bytes_at(audit, at + 1) else {
             return Ok(());
         };
-        match check_record(gate, &bytes) {
+        match check_record(gate, version, &bytes) {
             Ok(()) => {}
             Err(AuditFault::OutOfMemory) => return Err(OutOfMemory),
             Err(_) => return Ok(()),

@@ -2,13 +2,15 @@
 
 ghost use Rattle.std.specs.Prelude.{◌≡◌, ◌^◌, ◌<◌, ◌-◌, IfErr, OnErr, OnOk};
 ghost use Rattle.std.specs.Io.KnownBytes.{Appends};
-ghost use Rattle.gx_audit.specs.Auditing.{all_bytes};
+ghost use Rattle.gx_audit.specs.declared.version.AuditVersion.TheVariants as versions;
+ghost use Rattle.gx_audit.specs.Auditing.{all_bytes, whole_audit};
+ghost use Rattle.gx_audit.specs.Headers.{header_bytes};
 ghost use Rattle.gx_auditing.specs.Faults.{IsBlamed};
 ghost use Rattle.gx_devices.specs.Devices.{IsFront};
 ghost use Rattle.gx_history.specs.Lists.{slice};
 
 use crate::fault::AuditingFault;
-use gx_audit::audit_bytes;
+use gx_audit::{AuditVersion, audit_bytes, header_of};
 use gx_core::Gate;
 use gx_devices::{Counted, write_whole};
 use std::alloc::Global;
@@ -17,7 +19,9 @@ use std::io::Write;
 /// How many records are written at a time.
 const PIECE: u64 = 256;
 
-/// Writes the gate's records, each as its 128 bytes, one behind the other. After a fault a front of that is written.
+/// Writes the audit of the gate's records in version 2: the policy's header, and then each record as its 128 bytes, one
+/// behind the other. After a fault a front of that is written.
+#[tactic(auto, using(crate::proofs::Pieces::behind_front, crate::proofs::Pieces::front_cut, crate::proofs::Pieces::records_cut))]
 pub fn write_audit<W: Write>(
     alloc: Global,
     gate: &Gate,
@@ -26,10 +30,46 @@ pub fn write_audit<W: Write>(
     requires { writer.old.failed < 2 ^ 64 - 1 }
     ensures written { OnOk result (Appends
         (W.contents writer.old.device) (W.contents writer.new.device)
-        (all_bytes gate.now.records)) }
+        (whole_audit versions.Two gate.now.policy gate.now.records)) }
     ensures front { OnErr result (IsFront
         (W.contents writer.old.device) (W.contents writer.new.device)
-        (all_bytes gate.now.records)) }
+        (whole_audit versions.Two gate.now.policy gate.now.records)) }
+    ensures kept { OnOk result (writer.new.failed ≡ writer.old.failed) }
+    ensures told { IfErr result (IsBlamed writer.old.failed writer.new.failed) }
+{
+    write_front(gate, writer)?;
+    write_records(alloc, gate, writer)
+}
+
+/// Writes the header of the gate's policy.
+fn write_front<W: Write>(gate: &Gate, writer: &mut Counted<W>) -> Result<(), AuditingFault>
+    requires { writer.old.failed < 2 ^ 64 - 1 }
+    ensures written { OnOk result (Appends
+        (W.contents writer.old.device) (W.contents writer.new.device)
+        (header_bytes gate.now.policy)) }
+    ensures front { OnErr result (IsFront
+        (W.contents writer.old.device) (W.contents writer.new.device)
+        (header_bytes gate.now.policy)) }
+    ensures kept { OnOk result (writer.new.failed ≡ writer.old.failed) }
+    ensures told { IfErr result (IsBlamed writer.old.failed writer.new.failed) }
+{
+    write_whole(writer, &header_of(gate))?;
+    Ok(())
+}
+
+/// Writes the gate's records.
+fn write_records<W: Write>(
+    alloc: Global,
+    gate: &Gate,
+    writer: &mut Counted<W>,
+) -> Result<(), AuditingFault>
+    requires { writer.old.failed < 2 ^ 64 - 1 }
+    ensures written { OnOk result (Appends
+        (W.contents writer.old.device) (W.contents writer.new.device)
+        (all_bytes versions.Two gate.now.records)) }
+    ensures front { OnErr result (IsFront
+        (W.contents writer.old.device) (W.contents writer.new.device)
+        (all_bytes versions.Two gate.now.records)) }
     ensures kept { OnOk result (writer.new.failed ≡ writer.old.failed) }
     ensures told { IfErr result (IsBlamed writer.old.failed writer.new.failed) }
 {
@@ -54,15 +94,15 @@ fn write_piece<W: Write>(
     requires { writer.old.failed < 2 ^ 64 - 1 }
     ensures written { OnOk result (Appends
         (W.contents writer.old.device) (W.contents writer.new.device)
-        (all_bytes (slice gate.now.records from size))) }
+        (all_bytes versions.Two (slice gate.now.records from size))) }
     ensures front { OnErr result (IsFront
         (W.contents writer.old.device) (W.contents writer.new.device)
-        (all_bytes (slice gate.now.records from size))) }
+        (all_bytes versions.Two (slice gate.now.records from size))) }
     ensures kept { OnOk result (writer.new.failed ≡ writer.old.failed) }
     ensures told { IfErr result (IsBlamed writer.old.failed writer.new.failed) }
 {
     let piece = gate.records(from, size)?;
-    let bytes = audit_bytes(alloc, piece.as_slice())?;
+    let bytes = audit_bytes(alloc, AuditVersion::Two, piece.as_slice())?;
     write_whole(writer, bytes.as_slice())?;
     Ok(())
 }

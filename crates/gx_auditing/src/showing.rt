@@ -5,7 +5,7 @@ ghost use Rattle.std.specs.Prelude.{◌^◌, ◌-◌, ◌<◌};
 use crate::choosing::{Choice, is_chosen};
 use crate::fault::AuditingFault;
 use crate::places::bytes_at;
-use gx_audit::{RECORD_SIZE, message_shown, read_record};
+use gx_audit::{AuditVersion, RECORD_SIZE, message_shown, read_record_in};
 use gx_devices::{Counted, write_whole};
 use gx_history::policy::Policy;
 use gx_history::record::{Asked, Login, RecordData, Request, Step, Unreadable};
@@ -196,11 +196,12 @@ pub fn show_audit<W: Write>(
 ) -> Result<Option<u64>, AuditingFault>
     requires writer { writer.old.failed < 2 ^ 64 - 1 }
 {
+    let version = AuditVersion::of(audit);
     for number in 1..u64::MAX {
         let Some(bytes) = bytes_at(audit, number) else {
             return Ok(None);
         };
-        let Some(record) = read_record(&bytes) else {
+        let Some(record) = read_record_in(version, &bytes) else {
             return Ok(Some(number));
         };
         let shown = record.content();

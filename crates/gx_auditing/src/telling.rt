@@ -31,7 +31,7 @@ impl AuditAnswer {
     }
 }
 
-/// Checks that the bytes are the records of a legal day under the policy.
+/// Checks that the bytes are the audit of a legal day under the policy.
 pub fn told_of_audit(
     alloc: Global,
     policy: &Policy,
@@ -60,6 +60,7 @@ fn line_of(alloc: Global, answer: Result<u64, AuditFault>) -> Result<Vec<u8>, Au
             Ok(numbered(alloc, b"illegal verdict ", number)?)
         }
         Err(AuditFault::OutOfMemory) => Err(AuditingFault::OutOfMemory),
+        Err(AuditFault::OtherPolicy) => Ok(words(alloc, b"other policy\n")?),
     }
 }
 

@@ -5,6 +5,7 @@ use Rattle.gx_units.specs.declared.names.UserName.{UserName}
 use Rattle.gx_desk.specs.declared.Action.{Action}
 use Rattle.gx_desk.specs.declared.Action.TheVariants as actions
 use Rattle.gx_desk.specs.declared.Command.{Command}
+use Rattle.gx_history.specs.declared.facts.StockSide.{StockSide}
 use Rattle.gx_history.specs.declared.policy.PolicyData.{PolicyData}
 use Rattle.gx_history.specs.declared.record.Asked.{Asked}
 use Rattle.gx_history.specs.declared.record.RecordData.{RecordData}
@@ -17,11 +18,12 @@ use Rattle.gx_history.specs.declared.record.Verdict.TheVariants as verdicts
 use Rattle.gx_history.specs.Commanded.{ChangesRule, ChangesSight, ClosesDay}
 use Rattle.gx_history.specs.Effects.{ChangesLine, CutsOrder, DeniesRequest, KillsAccount, LiftsAccount, ReplacesOrder, TakesEffect}
 use Rattle.gx_effects.specs.Lifts.{EndsKill}
+use Rattle.gx_history.specs.Figures.{of_accounts, on_side}
 use Rattle.gx_history.specs.InForce.{is_killed, adding, removing, with_limit, with_stocks}
 use Rattle.gx_history.specs.Rules.{first_forbidding, IsFirstForbidding}
 use Rattle.gx_history.specs.Verdicts.{day_limit, facts_now, next, rules_now, verdict}
 use Rattle.gx_places.specs.Places.{has_kept_places}
-use Rattle.gx_exposure.specs.Exposure.{HasNothing, NoneIsGranted}
+use Rattle.gx_exposure.specs.Exposure.{HasNothing, NoneIsGranted, side_shares}
 use Rattle.gx_core.specs.declared.outcome.Outcome.{Outcome}
 use Rattle.gx_core.specs.Gates.{GateData, left_by}
 
@@ -96,4 +98,9 @@ EndsKills old new r = (account : AccountName) →
 
 -- accounts that were granted no order have nothing open and nothing executed
 abbrev pub NoneHeldWhereNoneAsked : GateData → Type 0
-NoneHeldWhereNoneAsked gate = (among : AccountName → Bool) → NoneIsGranted gate.policy gate.records among → HasNothing gate.policy gate.records among
+NoneHeldWhereNoneAsked gate = (among : AccountName → Bool) → NoneIsGranted gate.policy gate.records (of_accounts among) → HasNothing gate.policy gate.records among
+
+-- accounts that were granted no order on a side of a stock have nothing open and nothing executed there
+abbrev pub NoneOnSideWhereNoneAsked : GateData → Type 0
+NoneOnSideWhereNoneAsked gate = (among : AccountName → Bool) (side : StockSide) →
+    NoneIsGranted gate.policy gate.records (on_side among side) → side_shares gate.policy gate.records among side ≡ 0

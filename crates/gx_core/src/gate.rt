@@ -1,7 +1,7 @@
 //! The gate.
 
 ghost use Rattle.std.specs.Prelude.{◌≡◌, ◌+◌, ◌<◌, ◌^◌, max, [], length, IsFalse, IsOk, IsTrue, IfOk, IfErr, IfSome, OnErr, None, Some, is_some, option_map};
-ghost use Rattle.gx_exposure.specs.Exposure.{SharesStayWithin, ValuesStayWithin};
+ghost use Rattle.gx_exposure.specs.Exposure.{NetStaysWithin, SharesStayWithin, ValuesStayWithin};
 ghost use Rattle.gx_history.specs.Effects.{HasNoOrders};
 ghost use Rattle.gx_history.specs.InForce.{line_of, is_closed, is_killed};
 ghost use Rattle.gx_history.specs.Lists.{slice};
@@ -16,12 +16,12 @@ ghost use Rattle.gx_core.specs.Logins.{login_answered};
 ghost use Rattle.gx_core.specs.Matches.{matches_left, matching_of, next_match, settled_gate, with_match, HasMatched};
 ghost use Rattle.gx_core.specs.Told.{copies_of, ends_before, login_of, reads, stream_of};
 ghost use Rattle.gx_core.specs.Steps.{has_its_places, next_of, verdict_of, with_record, EndsKills, HasEffect};
-ghost use Rattle.gx_core.specs.Steps.{IsFull, IsJudged, NoneHeldWhereNoneAsked};
+ghost use Rattle.gx_core.specs.Steps.{IsFull, IsJudged, NoneHeldWhereNoneAsked, NoneOnSideWhereNoneAsked};
 
 use crate::login::{login_answered, login_asked};
 use crate::matching::record_of_match;
 use crate::outcome::{LoginAnswer, Outcome, StepFault};
-use crate::places::{keep_first, keep_for, keep_one};
+use crate::places::{first_history, keep_for, keep_one};
 use crate::pulling::{Pulled, pull};
 use gx_history::history::History;
 use gx_history::policy::Policy;
@@ -75,9 +75,9 @@ impl Gate {
         ensures records { IfOk result (λ gate. gate.records ≡ []) }
     {
         let policy = policy.copied(alloc)?;
+        let history = first_history(alloc, &policy)?;
+        // The keepers come last, so that no exit drops them.
         let keepers = Keepers::new(alloc, &policy)?;
-        let mut history = History::new(alloc);
-        keep_first(&mut history, &policy)?;
         Ok(Gate {
             alloc,
             policy,
@@ -177,6 +177,13 @@ impl Gate {
         Ok(Some(outcome))
     }
 
+    /// The policy that the day is run under.
+    pub fn policy(&self) -> &Policy
+        ensures { result.now ≡ self.now.policy }
+    {
+        &self.policy
+    }
+
     /// How many records there are.
     pub fn length(&self) -> u64
         ensures count { result ≡ length self.now.records }
@@ -191,12 +198,18 @@ impl Gate {
     /// What accounts have open and executed is within the limit of each gross rule, as it was in force when one of them
     /// was last granted an order: in shares always, in value but for what their sells got above their own prices since.
     /// Accounts that were granted no order have nothing.
+    ///
+    /// What accounts have open and executed on one side of a stock is within the limit of each net rule, as it was in
+    /// force when one of them was last granted an order there, and what they executed on the other side. Accounts that
+    /// were granted no order on a side have nothing there.
     pub fn is_legal(&self)
         ensures legal { IsLegal self.now.policy self.now.records }
         ensures uncrossed { AreUncrossed self.now.policy self.now.records }
         ensures shares_within { SharesStayWithin self.now.policy self.now.records }
         ensures values_within { ValuesStayWithin self.now.policy self.now.records }
         ensures none_held { NoneHeldWhereNoneAsked self.now }
+        ensures net_within { NetStaysWithin self.now.policy self.now.records }
+        ensures none_on_side { NoneOnSideWhereNoneAsked self.now }
     {
         // The type says so: a look at a field is enough.
         let _ = &self.history;

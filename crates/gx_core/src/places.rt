@@ -1,6 +1,6 @@
 //! The places of records.
 
-ghost use Rattle.std.specs.Prelude.{◌≡◌, ◌+◌, ◌-◌, ◌<◌, ◌≤◌, ◌^◌, length, IfErr, IsFalse, IsOk, IsTrue, OnOk};
+ghost use Rattle.std.specs.Prelude.{◌≡◌, ◌+◌, ◌-◌, ◌<◌, ◌≤◌, ◌^◌, [], length, IfErr, IfOk, IsFalse, IsOk, IsTrue, OnOk};
 ghost use Rattle.gx_core.specs.declared.outcome.StepFault.TheVariants as faults;
 ghost use Rattle.gx_history.specs.Verdicts.{day_limit};
 ghost use Rattle.gx_places.specs.Places.{has_kept_places, most_record_places};
@@ -11,6 +11,7 @@ use gx_history::policy::Policy;
 use gx_history::record::{Asked, Verdict};
 use gx_keepers::request::has_kept_places;
 use gx_units::OutOfMemory;
+use std::alloc::Global;
 
 /// The most records of a day, but for granted Kills and Logouts.
 const DAY_LIMIT: usize = 16_777_216;
@@ -23,12 +24,14 @@ fn most_record_places(policy: &Policy) -> usize
     policy.accounts().len() + policy.users().len()
 }
 
-/// The places that are kept at the beginning of a day.
-pub(crate) fn keep_first(history: &mut History, policy: &Policy) -> Result<(), OutOfMemory>
-    ensures records { history.new.records ≡ history.old.records }
-    ensures enough { OnOk result (most_record_places policy.now ≤ history.new.spare) }
+/// No record yet, and the places that are kept at the beginning of a day.
+pub(crate) fn first_history(alloc: Global, policy: &Policy) -> Result<History, OutOfMemory>
+    ensures records { IfOk result (λ history. history.records ≡ []) }
+    ensures enough { IfOk result (λ history. most_record_places policy.now ≤ history.spare) }
 {
-    history.reserve(most_record_places(policy))
+    let mut history = History::new(alloc);
+    history.reserve(most_record_places(policy))?;
+    Ok(history)
 }
 
 /// Makes a place for one more record, beside those that are kept.

@@ -67,6 +67,7 @@ is_named policy history a (Some token) (Some s) legal e = record {
   standing = s;
   is_found = last_such_is (λ (x : Standing). standing_numbered (live_orders policy history) x.order.number ≡ Some x)
       (λ (x : Standing). same_user x.order.user a.user && same_token x.order.token token) (live_orders policy history) s (live_are_found policy history legal) e;
+  side = refl;
   stock = refl;
   price = refl;
   open_shares = refl;

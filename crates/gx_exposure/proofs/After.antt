@@ -9,18 +9,19 @@ use Rattle.gx_units.specs.declared.names.AccountName.{AccountName}
 use Rattle.gx_history.specs.declared.policy.PolicyData.{PolicyData}
 use Rattle.gx_history.specs.declared.record.RecordData.{RecordData}
 use Rattle.gx_history.specs.Executions.{Execution, executions, sides}
-use Rattle.gx_history.specs.Figures.{Positions}
+use Rattle.gx_history.specs.Figures.{Positions, done_of_chosen, of_accounts}
 use Rattle.gx_history.specs.Lists.{each_after, each_with_earlier}
 use Rattle.gx_history.specs.Orders.{Order, orders, orders_added}
 use Rattle.gx_history.specs.Verdicts.{Follows, IsLegal}
+use Rattle.gx_history_laws.proofs.NextFigures.{done_more}
 use Rattle.gx_history_laws.proofs.NextOrders.{executions_next, orders_next}
 use Rattle.gx_history_laws.proofs.NextReports.{legal_next}
 use Rattle.gx_effects.specs.OneMore.{change_of}
 use Rattle.gx_positions.specs.Changing.{live_positions}
 use Rattle.gx_positions.specs.Laws.{PositionsAreSound, PositionsGoOn, RecordsMayCome}
 use Rattle.gx_positions.proofs.Sums.{sum_of_filter, sum_where-append}
-use Rattle.gx_exposure.specs.Exposure.{executions_after, gain, gained, gross_shares, gross_value, is_theirs}
-use Rattle.gx_exposure.proofs.Live.{gross_shares_are, gross_value_is}
+use Rattle.gx_exposure.specs.Exposure.{executions_after, gain, gained, gross_value, shares_of_chosen}
+use Rattle.gx_exposure.proofs.Live.{gross_value_is, shares_are}
 use Rattle.gx_exposure.proofs.Steps.{AddsNone, AreWorth, adds_none, no_more_shares, no_more_value, shares_held, value_held}
 use Rattle.gx_exposure.proofs.Worth.{executions_are_worth}
 
@@ -65,16 +66,16 @@ kept_to_the_end policy Keeps step earlier later legal kept =
     let parts = legal_in_parts policy earlier later legal in
     kept_after policy Keeps step earlier later parts.0 kept parts.1
 
--- how many orders of these accounts were granted
-abbrev pub granted_to : PolicyData → (AccountName → Bool) → List RecordData → ℕ
-granted_to policy among history = length (filter (is_theirs among) (orders policy history))
+-- how many orders that are chosen were granted
+abbrev pub granted_to : PolicyData → (Order → Bool) → List RecordData → ℕ
+granted_to policy chosen history = length (filter chosen (orders policy history))
 
-grants_grow : (policy : PolicyData) (among : AccountName → Bool) (history : List RecordData) (r : RecordData) → granted_to policy among history ≤ granted_to policy among (history ++ r ∷ [])
-grants_grow policy among history r =
+grants_grow : (policy : PolicyData) (chosen : Order → Bool) (history : List RecordData) (r : RecordData) → granted_to policy chosen history ≤ granted_to policy chosen (history ++ r ∷ [])
+grants_grow policy chosen history r =
     let added : List Order = orders_added policy (orders policy history) r in
-    let more = ap (λ (os : List Order). length (filter (is_theirs among) os)) (orders_next policy history r)
-    ∙ ap length (filter-append (is_theirs among) (orders policy history) added)
-    ∙ length-append (filter (is_theirs among) (orders policy history)) (filter (is_theirs among) added) in
+    let more = ap (λ (os : List Order). length (filter chosen os)) (orders_next policy history r)
+    ∙ ap length (filter-append chosen (orders policy history) added)
+    ∙ length-append (filter chosen (orders policy history)) (filter chosen added) in
     omega (arith, more)
 
 -- gains add up
@@ -92,80 +93,43 @@ gained-append made more among =
 abbrev IsFront : List Execution → List Execution → Type 0
 IsFront made all = (more : List Execution) × (all ≡ made ++ more)
 
-module _ (laws : GoOn) (policy : PolicyData) (among : AccountName → Bool) where
-  none_added : (history : List RecordData) (r : RecordData) → IsLegal policy history → Follows policy (history, r) → granted_to policy among (history ++ r ∷ []) ≤ granted_to policy among history
-      → AddsNone among (change_of policy history r)
+module _ (laws : GoOn) (policy : PolicyData) (chosen : Order → Bool) where
+  none_added : (history : List RecordData) (r : RecordData) → IsLegal policy history → Follows policy (history, r) → granted_to policy chosen (history ++ r ∷ []) ≤ granted_to policy chosen history
+      → AddsNone chosen (change_of policy history r)
   none_added history r legal follows few =
-      let grow = grants_grow policy among history r in
-      let same : granted_to policy among (history ++ r ∷ []) ≡ granted_to policy among history = omega (arith, few, grow) in
-      adds_none among (change_of policy history r) (orders policy history)
-      (sym (ap (λ (held : Positions). length (filter (is_theirs among) held.grants)) (laws.go_on policy history r.step r legal follows.is_next)) ∙ same)
+      let grow = grants_grow policy chosen history r in
+      let same : granted_to policy chosen (history ++ r ∷ []) ≡ granted_to policy chosen history = omega (arith, few, grow) in
+      adds_none chosen (change_of policy history r) (orders policy history)
+      (sym (ap (λ (held : Positions). length (filter chosen held.grants)) (laws.go_on policy history r.step r legal follows.is_next)) ∙ same)
 
-  no_more_by_record : (history : List RecordData) (r : RecordData) → IsLegal policy history → Follows policy (history, r) → granted_to policy among (history ++ r ∷ []) ≤ granted_to policy among history
-      → gross_shares policy (history ++ r ∷ []) among ≤ gross_shares policy history among
+  no_more_by_record : (history : List RecordData) (r : RecordData) → IsLegal policy history → Follows policy (history, r) → granted_to policy chosen (history ++ r ∷ []) ≤ granted_to policy chosen history
+      → shares_of_chosen policy (history ++ r ∷ []) chosen ≤ shares_of_chosen policy history chosen
   no_more_by_record history r legal follows few =
       let held : Positions = live_positions policy history in
-      let fall = no_more_shares policy held among (laws.are_sound policy history legal).numbers_differ (change_of policy history r) (laws.may_come policy history r.step r legal follows.is_next) (none_added history r legal follows few) in
-      let after = gross_shares_are policy (history ++ r ∷ []) among ∙ ap (λ (p : Positions). shares_held p among) (laws.go_on policy history r.step r legal follows.is_next) in
-      let before = gross_shares_are policy history among in
+      let fall = no_more_shares policy held chosen (laws.are_sound policy history legal).numbers_differ (change_of policy history r) (laws.may_come policy history r.step r legal follows.is_next) (none_added history r legal follows few) in
+      let after = shares_are policy (history ++ r ∷ []) chosen ∙ ap (λ (p : Positions). shares_held p chosen) (laws.go_on policy history r.step r legal follows.is_next) in
+      let before = shares_are policy history chosen in
       omega (arith, fall, after, before)
-
-  no_more_value_by_record : (history : List RecordData) (r : RecordData) → IsLegal policy history → Follows policy (history, r) → granted_to policy among (history ++ r ∷ []) ≤ granted_to policy among history
-      → gross_value policy (history ++ r ∷ []) among + gained (executions policy history) among ≤ gross_value policy history among + gained (executions policy (history ++ r ∷ [])) among
-  no_more_value_by_record history r legal follows few =
-      let held : Positions = live_positions policy history in
-      let goes = laws.go_on policy history r.step r legal follows.is_next in
-      let worth : AreWorth (executions policy (history ++ r ∷ [])) = executions_are_worth policy (history ++ r ∷ []) (legal_next policy history r legal follows) in
-      let made = ap (λ (p : Positions). p.executions) goes in
-      let fall = no_more_value policy held among (laws.are_sound policy history legal).numbers_differ (change_of policy history r) (laws.may_come policy history r.step r legal follows.is_next) (none_added history r legal follows few) (subst AreWorth made worth) in
-      let after = gross_value_is policy (history ++ r ∷ []) among ∙ ap (λ (p : Positions). value_held p among) goes in
-      let before = gross_value_is policy history among in
-      let same = ap (λ (es : List Execution). gained es among) made in
-      omega (arith, fall, after, before, same)
 
   -- no order is granted after these, so no more shares
   abbrev KeepsTheShares : List RecordData → List RecordData → Type 0
-  KeepsTheShares earlier history = (granted_to policy among earlier ≤ granted_to policy among history)
-      × (granted_to policy among history ≤ granted_to policy among earlier → gross_shares policy history among ≤ gross_shares policy earlier among)
+  KeepsTheShares earlier history = (granted_to policy chosen earlier ≤ granted_to policy chosen history)
+      × (granted_to policy chosen history ≤ granted_to policy chosen earlier → shares_of_chosen policy history chosen ≤ shares_of_chosen policy earlier chosen)
 
-  pub no_more_shares_after : (earlier later : List RecordData) → IsLegal policy (earlier ++ later) → granted_to policy among (earlier ++ later) ≤ granted_to policy among earlier
-      → gross_shares policy (earlier ++ later) among ≤ gross_shares policy earlier among
+  pub no_more_shares_after : (earlier later : List RecordData) → IsLegal policy (earlier ++ later) → granted_to policy chosen (earlier ++ later) ≤ granted_to policy chosen earlier
+      → shares_of_chosen policy (earlier ++ later) chosen ≤ shares_of_chosen policy earlier chosen
   no_more_shares_after earlier later legal few =
       (kept_to_the_end policy (KeepsTheShares earlier) one_more earlier later legal (omega arith, λ _. omega arith)).1 few
     where
       one_more : (history : List RecordData) (r : RecordData) → IsLegal policy history → Follows policy (history, r) → KeepsTheShares earlier history → KeepsTheShares earlier (history ++ r ∷ [])
       one_more history r legal follows kept =
-          let grow = grants_grow policy among history r in
+          let grow = grants_grow policy chosen history r in
           let before = kept.0 in (
             omega (arith, grow, before),
             λ few.
-                let few_before : granted_to policy among history ≤ granted_to policy among earlier = omega (arith, few, grow) in
-                let few_now : granted_to policy among (history ++ r ∷ []) ≤ granted_to policy among history = omega (arith, few, before) in
+                let few_before : granted_to policy chosen history ≤ granted_to policy chosen earlier = omega (arith, few, grow) in
+                let few_now : granted_to policy chosen (history ++ r ∷ []) ≤ granted_to policy chosen history = omega (arith, few, before) in
                 let less = no_more_by_record history r legal follows few_now in
-                let so_far = kept.1 few_before in
-                omega (arith, less, so_far),
-          )
-
-  -- and no more value, but for the gain
-  abbrev KeepsTheValue : List RecordData → List RecordData → Type 0
-  KeepsTheValue earlier history = (granted_to policy among earlier ≤ granted_to policy among history)
-      × (granted_to policy among history ≤ granted_to policy among earlier
-      → gross_value policy history among + gained (executions policy earlier) among ≤ gross_value policy earlier among + gained (executions policy history) among)
-
-  value_after : (earlier later : List RecordData) → IsLegal policy (earlier ++ later) → granted_to policy among (earlier ++ later) ≤ granted_to policy among earlier
-      → gross_value policy (earlier ++ later) among + gained (executions policy earlier) among ≤ gross_value policy earlier among + gained (executions policy (earlier ++ later)) among
-  value_after earlier later legal few =
-      (kept_to_the_end policy (KeepsTheValue earlier) one_more earlier later legal (omega arith, λ _. omega arith)).1 few
-    where
-      one_more : (history : List RecordData) (r : RecordData) → IsLegal policy history → Follows policy (history, r) → KeepsTheValue earlier history → KeepsTheValue earlier (history ++ r ∷ [])
-      one_more history r legal follows kept =
-          let grow = grants_grow policy among history r in
-          let before = kept.0 in (
-            omega (arith, grow, before),
-            λ few.
-                let few_before : granted_to policy among history ≤ granted_to policy among earlier = omega (arith, few, grow) in
-                let few_now : granted_to policy among (history ++ r ∷ []) ≤ granted_to policy among history = omega (arith, few, before) in
-                let less = no_more_value_by_record history r legal follows few_now in
                 let so_far = kept.1 few_before in
                 omega (arith, less, so_far),
           )
@@ -179,11 +143,56 @@ module _ (laws : GoOn) (policy : PolicyData) (among : AccountName → Bool) wher
       ))
       earlier later legal ([], sym (append-nil (executions policy earlier)))
 
+  -- and what was executed stays so
+  pub done_stays : (earlier later : List RecordData) → IsLegal policy (earlier ++ later) → done_of_chosen (executions policy earlier) chosen ≤ done_of_chosen (executions policy (earlier ++ later)) chosen
+  done_stays earlier later legal =
+      let front = executions_stay earlier later legal in
+      let parts = ap (λ (es : List Execution). done_of_chosen es chosen) front.1 ∙ done_more (executions policy earlier) front.0 chosen in
+      omega (arith, parts)
+
+module _ (laws : GoOn) (policy : PolicyData) (among : AccountName → Bool) where
+  no_more_value_by_record : (history : List RecordData) (r : RecordData) → IsLegal policy history → Follows policy (history, r) → granted_to policy (of_accounts among) (history ++ r ∷ []) ≤ granted_to policy (of_accounts among) history
+      → gross_value policy (history ++ r ∷ []) among + gained (executions policy history) among ≤ gross_value policy history among + gained (executions policy (history ++ r ∷ [])) among
+  no_more_value_by_record history r legal follows few =
+      let held : Positions = live_positions policy history in
+      let goes = laws.go_on policy history r.step r legal follows.is_next in
+      let worth : AreWorth (executions policy (history ++ r ∷ [])) = executions_are_worth policy (history ++ r ∷ []) (legal_next policy history r legal follows) in
+      let made = ap (λ (p : Positions). p.executions) goes in
+      let fall = no_more_value policy held among (laws.are_sound policy history legal).numbers_differ (change_of policy history r) (laws.may_come policy history r.step r legal follows.is_next) (none_added laws policy (of_accounts among) history r legal follows few) (subst AreWorth made worth) in
+      let after = gross_value_is policy (history ++ r ∷ []) among ∙ ap (λ (p : Positions). value_held p among) goes in
+      let before = gross_value_is policy history among in
+      let same = ap (λ (es : List Execution). gained es among) made in
+      omega (arith, fall, after, before, same)
+
+  -- and no more value, but for the gain
+  abbrev KeepsTheValue : List RecordData → List RecordData → Type 0
+  KeepsTheValue earlier history = (granted_to policy (of_accounts among) earlier ≤ granted_to policy (of_accounts among) history)
+      × (granted_to policy (of_accounts among) history ≤ granted_to policy (of_accounts among) earlier
+      → gross_value policy history among + gained (executions policy earlier) among ≤ gross_value policy earlier among + gained (executions policy history) among)
+
+  value_after : (earlier later : List RecordData) → IsLegal policy (earlier ++ later) → granted_to policy (of_accounts among) (earlier ++ later) ≤ granted_to policy (of_accounts among) earlier
+      → gross_value policy (earlier ++ later) among + gained (executions policy earlier) among ≤ gross_value policy earlier among + gained (executions policy (earlier ++ later)) among
+  value_after earlier later legal few =
+      (kept_to_the_end policy (KeepsTheValue earlier) one_more earlier later legal (omega arith, λ _. omega arith)).1 few
+    where
+      one_more : (history : List RecordData) (r : RecordData) → IsLegal policy history → Follows policy (history, r) → KeepsTheValue earlier history → KeepsTheValue earlier (history ++ r ∷ [])
+      one_more history r legal follows kept =
+          let grow = grants_grow policy (of_accounts among) history r in
+          let before = kept.0 in (
+            omega (arith, grow, before),
+            λ few.
+                let few_before : granted_to policy (of_accounts among) history ≤ granted_to policy (of_accounts among) earlier = omega (arith, few, grow) in
+                let few_now : granted_to policy (of_accounts among) (history ++ r ∷ []) ≤ granted_to policy (of_accounts among) history = omega (arith, few, before) in
+                let less = no_more_value_by_record history r legal follows few_now in
+                let so_far = kept.1 few_before in
+                omega (arith, less, so_far),
+          )
+
   -- no order is granted after these, so no more value, but for what sells gained since
-  pub no_more_value_after : (earlier later : List RecordData) → IsLegal policy (earlier ++ later) → granted_to policy among (earlier ++ later) ≤ granted_to policy among earlier
+  pub no_more_value_after : (earlier later : List RecordData) → IsLegal policy (earlier ++ later) → granted_to policy (of_accounts among) (earlier ++ later) ≤ granted_to policy (of_accounts among) earlier
       → gross_value policy (earlier ++ later) among ≤ gross_value policy earlier among + gained (executions_after policy earlier (earlier ++ later)) among
   no_more_value_after earlier later legal few =
-      let front = executions_stay earlier later legal in
+      let front = executions_stay laws policy (of_accounts among) earlier later legal in
       let rest : executions_after policy earlier (earlier ++ later) ≡ front.0 =
       ap (λ (es : List Execution). drop (length (executions policy earlier)) es) front.1 ∙ drop-append_seam (executions policy earlier) front.0 in
       let parts = ap (λ (es : List Execution). gained es among) front.1 ∙ gained-append (executions policy earlier) front.0 among in

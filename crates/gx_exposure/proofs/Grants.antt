@@ -11,6 +11,7 @@ use Rattle.gx_ouch.specs.declared.inbound.EnterOrder.{EnterOrder}
 use Rattle.gx_ouch.specs.declared.inbound.ReplaceOrder.{ReplaceOrder}
 use Rattle.gx_history.specs.declared.facts.NamedOrder.{NamedOrder}
 use Rattle.gx_history.specs.declared.facts.ProposedOrder.{ProposedOrder}
+use Rattle.gx_history.specs.declared.facts.StockSide.{StockSide}
 use Rattle.gx_history.specs.declared.policy.PolicyData.{PolicyData}
 use Rattle.gx_history.specs.declared.record.Asked.{Asked}
 use Rattle.gx_history.specs.declared.record.RecordData.{RecordData}
@@ -20,9 +21,10 @@ use Rattle.gx_history.specs.declared.record.Step.{Step}
 use Rattle.gx_history.specs.declared.record.Step.TheVariants as steps
 use Rattle.gx_history.specs.declared.record.Verdict.TheVariants as verdicts
 use Rattle.gx_history.specs.Asking.{facts, live_named, named_order}
+use Rattle.gx_history.specs.Book.{is_buy}
 use Rattle.gx_history.specs.Effects.{ReplacesOrder, TakesEffect, replacement, whole_order}
 use Rattle.gx_history.specs.Executions.{Execution, Standing, executions, is_live, live_orders, standing_numbered, standings}
-use Rattle.gx_history.specs.Figures.{done_shares, done_value, live_shares, live_value, open_value}
+use Rattle.gx_history.specs.Figures.{done_of_chosen, done_value, live_value, of_accounts, on_side, open_of_chosen, open_value, side_asked}
 use Rattle.gx_history.specs.Orders.{Order, entered, orders, orders_added, orders_made, replacing}
 use Rattle.gx_history.specs.People.{account_of}
 use Rattle.gx_history.specs.Requests.{granted}
@@ -42,29 +44,32 @@ use Rattle.gx_effects.proofs.Orderly.{legal_is_orderly}
 use Rattle.gx_effects.proofs.Replacing.{replace_takes_effect}
 use Rattle.gx_effects.proofs.Taking.{takes_effect}
 use Rattle.gx_positions.proofs.Sums.{shares_added, shares_replaced, value_added, value_replaced}
-use Rattle.gx_exposure.specs.Exposure.{gross_shares, gross_value, is_theirs}
+use Rattle.gx_exposure.specs.Exposure.{gross_value, shares_of_chosen}
 use Rattle.gx_exposure.proofs.After.{GoOn}
-use Rattle.gx_exposure.proofs.Live.{gross_shares_are, gross_value_is}
+use Rattle.gx_exposure.proofs.Live.{gross_value_is, shares_are}
 
 -- the order that a request names, among all orders
 abbrev pub replaced_by : PolicyData → List RecordData → Asked → Option Standing
 replaced_by policy before a = option_and_then (standing_numbered (standings policy before)) (option_map (λ (o : NamedOrder). o.order) (facts_now policy before a).named)
 
--- the record grants an order to the asker's account
+-- the record grants an order to the asker's account, on the side that the request is for, where the order stood that it replaces
 pub record GrantsOrder (policy : PolicyData) (before : List RecordData) (r : RecordData) : Type 0 where
   pub asked : Asked
-  pub asker : AccountName
+  pub order : Order
   pub shown : ProposedOrder
   pub old : Option Standing
   pub is_left : next policy before (steps.Asked asked) ≡ Some r
   pub is_granted : r.verdict ≡ verdicts.Granted
-  pub is_his : account_of policy asked.user ≡ Some asker
+  pub is_his : account_of policy asked.user ≡ Some order.account
   pub is_shown : proposed (facts_now policy before asked) asked.request ≡ Some shown
   pub is_replaced : replaced_by policy before asked ≡ old
-  pub theirs : (among : AccountName → Bool) → list_any (is_theirs among) (orders_added policy (orders policy before) r) ≡ true → among asker ≡ true
-  pub shares_then : (among : AccountName → Bool) → among asker ≡ true
-      → gross_shares policy (before ++ r ∷ []) among + option_map_or (λ (s : Standing). s.open_shares) old 0 ≡ gross_shares policy before among + new_open shown
-  pub value_then : (among : AccountName → Bool) → among asker ≡ true
+  pub is_there : side_asked asked.request old ≡ Some (record { stock = order.terms.stock; buys = is_buy order.terms.side })
+  pub theirs : (chosen : Order → Bool) → list_any chosen (orders_added policy (orders policy before) r) ≡ true → chosen order ≡ true
+  pub old_theirs : (among : AccountName → Bool) → among order.account ≡ true → option_map_or (λ (s : Standing). of_accounts among s.order) old true ≡ true
+  pub old_there : (among : AccountName → Bool) (side : StockSide) → on_side among side order ≡ true → option_map_or (λ (s : Standing). on_side among side s.order) old true ≡ true
+  pub shares_then : (chosen : Order → Bool) → chosen order ≡ true → option_map_or (λ (s : Standing). chosen s.order) old true ≡ true
+      → shares_of_chosen policy (before ++ r ∷ []) chosen + option_map_or (λ (s : Standing). s.open_shares) old 0 ≡ shares_of_chosen policy before chosen + new_open shown
+  pub value_then : (among : AccountName → Bool) → among order.account ≡ true
       → gross_value policy (before ++ r ∷ []) among + option_map_or open_value old 0 ≡ gross_value policy before among + value (new_open shown) shown.price
 
 -- what an Enter asks for
@@ -117,7 +122,7 @@ by_enter policy before a r m legal left asks is_granted =
     let after : List RecordData = before ++ r ∷ [] in
     record {
       asked = a;
-      asker = t.account;
+      order = new.order;
       shown = asked_by_enter m;
       old = None;
       is_left = left;
@@ -125,15 +130,18 @@ by_enter policy before a r m legal left asks is_granted =
       is_his = t.is_his;
       is_shown = ap (proposed (facts_now policy before a)) asks;
       is_replaced = ap (λ (q : Request). option_and_then (standing_numbered (standings policy before)) (option_map (λ (o : NamedOrder). o.order) (option_map (named_order (executions policy before)) (live_named policy before a.user q)))) asks;
-      theirs = λ among h.
-          one_theirs (among t.account)
-          (sym (ap (list_any (is_theirs among)) (adds_by policy (orders policy before) r a (requests.Enter m) grants ∙ ap (λ (found : Option AccountName). option_map_or (λ account. entered policy r a.user account m ∷ []) found []) t.is_his)) ∙ h);
-      shares_then = λ among h.
-          let now = gross_shares_are policy after among in
-          let was = gross_shares_are policy before among in
-          let lives = ap (λ (ss : List Standing). live_shares ss among) t.live_more ∙ shares_added among (live_orders policy before) new in
-          let made = ap (λ (es : List Execution). done_shares es among) t.executions_kept in
-          let counts = when (among t.account) m.shares h in
+      is_there = ap (λ (q : Request). side_asked q None) asks;
+      old_theirs = λ among h. refl;
+      old_there = λ among side h. refl;
+      theirs = λ chosen h.
+          one_theirs (chosen new.order)
+          (sym (ap (list_any chosen) (adds_by policy (orders policy before) r a (requests.Enter m) grants ∙ ap (λ (found : Option AccountName). option_map_or (λ account. entered policy r a.user account m ∷ []) found []) t.is_his)) ∙ h);
+      shares_then = λ chosen h was_chosen.
+          let now = shares_are policy after chosen in
+          let was = shares_are policy before chosen in
+          let lives = ap (λ (ss : List Standing). open_of_chosen ss chosen) t.live_more ∙ shares_added chosen (live_orders policy before) new in
+          let made = ap (λ (es : List Execution). done_of_chosen es chosen) t.executions_kept in
+          let counts = when (chosen new.order) m.shares h in
           omega (arith, now, was, lives, made, counts);
       value_then = λ among h.
           let now = gross_value_is policy after among in
@@ -162,7 +170,7 @@ by_replace laws policy before a r m legal left asks is_granted =
     named_is policy before a (requests.Replace m) m.existing_token asks refl ∙ ap (option_map (named_order (executions policy before))) t.is_named in
     record {
       asked = a;
-      asker = t.old.order.account;
+      order = new.order;
       shown = asked_by_replace m (named_order (executions policy before) t.old);
       old = Some t.old;
       is_left = left;
@@ -170,17 +178,20 @@ by_replace laws policy before a r m legal left asks is_granted =
       is_his = ap (account_of policy) (sym (user_is t.old.order.user a.user parts.0)) ∙ of_all (IsHisAccounts policy) t.old.order (orders policy before) (orders_are_their_users policy before) one.is_known;
       is_shown = ap (proposed (facts_now policy before a)) asks ∙ ap (option_map (asked_by_replace m)) names;
       is_replaced = ap (λ (o : Option NamedOrder). option_and_then (standing_numbered (standings policy before)) (option_map (λ (o : NamedOrder). o.order) o)) names ∙ known.0.is_found;
-      theirs = λ among h.
-          one_theirs (among t.old.order.account)
-          (sym (ap (list_any (is_theirs among)) (adds_by policy (orders policy before) r a (requests.Replace m) grants ∙ ap (λ (o : Option Order). option_map_or (λ (o : Order). replacing r m o ∷ []) o []) one.is_last)) ∙ h);
-      shares_then = λ among h.
-          let now = gross_shares_are policy after among in
-          let was = gross_shares_are policy before among in
-          let lives = ap (λ (ss : List Standing). live_shares ss among) t.live_then in
-          let turn = shares_replaced among (live_orders policy before) t.old.order.number t.old new distinct found in
-          let made = ap (λ (es : List Execution). done_shares es among) t.executions_kept in
-          let goes = when (among t.old.order.account) t.old.open_shares h in
-          let comes = when (among t.old.order.account) new.open_shares h in
+      is_there = ap (λ (q : Request). side_asked q (Some t.old)) asks;
+      old_theirs = λ among h. h;
+      old_there = λ among side h. h;
+      theirs = λ chosen h.
+          one_theirs (chosen new.order)
+          (sym (ap (list_any chosen) (adds_by policy (orders policy before) r a (requests.Replace m) grants ∙ ap (λ (o : Option Order). option_map_or (λ (o : Order). replacing r m o ∷ []) o []) one.is_last)) ∙ h);
+      shares_then = λ chosen h was_chosen.
+          let now = shares_are policy after chosen in
+          let was = shares_are policy before chosen in
+          let lives = ap (λ (ss : List Standing). open_of_chosen ss chosen) t.live_then in
+          let turn = shares_replaced chosen (live_orders policy before) t.old.order.number t.old new distinct found in
+          let made = ap (λ (es : List Execution). done_of_chosen es chosen) t.executions_kept in
+          let goes = when (chosen t.old.order) t.old.open_shares was_chosen in
+          let comes = when (chosen new.order) new.open_shares h in
           omega (arith, now, was, lives, turn, made, goes, comes);
       value_then = λ among h.
           let now = gross_value_is policy after among in
@@ -193,13 +204,13 @@ by_replace laws policy before a r m legal left asks is_granted =
           omega (arith, now, was, lives, turn, made, goes, comes);
     }
 
--- a record that adds an order of some accounts
-pub grants_order : (laws : GoOn) (policy : PolicyData) (before : List RecordData) (r : RecordData) (among : AccountName → Bool) → IsLegal policy before → Follows policy (before, r)
-    → list_any (is_theirs among) (orders_added policy (orders policy before) r) ≡ true → GrantsOrder policy before r
-grants_order laws policy before r among legal follows adds = at (granted r) refl adds
+-- a record that adds an order that is chosen
+pub grants_order : (laws : GoOn) (policy : PolicyData) (before : List RecordData) (r : RecordData) (chosen : Order → Bool) → IsLegal policy before → Follows policy (before, r)
+    → list_any chosen (orders_added policy (orders policy before) r) ≡ true → GrantsOrder policy before r
+grants_order laws policy before r chosen legal follows adds = at (granted r) refl adds
   where
     by_request : (a : Asked) → next policy before (steps.Asked a) ≡ Some r → r.verdict ≡ verdicts.Granted → (q : Request) → a.request ≡ q
-        → list_any (is_theirs among) (orders_made policy (orders policy before) r a.user q) ≡ true → GrantsOrder policy before r
+        → list_any chosen (orders_made policy (orders policy before) r a.user q) ≡ true → GrantsOrder policy before r
     by_request a left is_granted (requests.Enter m) asks h = by_enter policy before a r m legal left asks is_granted
     by_request a left is_granted (requests.Replace m) asks h = by_replace laws policy before a r m legal left asks is_granted
     by_request a left is_granted (requests.Login m) asks h = cc
@@ -208,7 +219,7 @@ grants_order laws policy before r among legal follows adds = at (granted r) refl
     by_request a left is_granted (requests.Cancel m) asks h = cc
     by_request a left is_granted (requests.Command c) asks h = cc
 
-    at : (found : Option Asked) → granted r ≡ found → list_any (is_theirs among) (option_map_or (λ (a : Asked). orders_made policy (orders policy before) r a.user a.request) found []) ≡ true → GrantsOrder policy before r
+    at : (found : Option Asked) → granted r ≡ found → list_any chosen (option_map_or (λ (a : Asked). orders_made policy (orders policy before) r a.user a.request) found []) ≡ true → GrantsOrder policy before r
     at None e h = cc
     at (Some a) e h =
         let parts = granted_parts r a e in

@@ -1,10 +1,11 @@
--- What gross rules keep, by the laws of orders, fills and grants.
+-- What rules on running sums keep, by the laws of orders, fills and grants.
 use Rattle.gx_positions.proofs.GoingOn.{positions_go_on, records_may_come}
 use Rattle.gx_positions.proofs.Sound.{positions_are_sound}
-use Rattle.gx_exposure.specs.Laws.{GrossSharesAreKept, GrossValuesAreKept, NoneAskedNoneHeld}
+use Rattle.gx_history.specs.Figures.{on_side}
+use Rattle.gx_exposure.specs.Laws.{GrossSharesAreKept, GrossValuesAreKept, NetSharesAreKept, NoneAskedNoneHeld, NoneAskedNoneOnSide}
 use Rattle.gx_exposure.proofs.After.{GoOn}
-use Rattle.gx_exposure.proofs.Kept.{shares_stay_within, values_stay_within}
-use Rattle.gx_exposure.proofs.None.{none_asked}
+use Rattle.gx_exposure.proofs.Kept.{net_stays_within, shares_stay_within, values_stay_within}
+use Rattle.gx_exposure.proofs.None.{no_shares, none_asked}
 
 go_on : GoOn
 go_on = record { go_on = positions_go_on; may_come = records_may_come; are_sound = positions_are_sound }
@@ -17,3 +18,9 @@ gross_values_are_kept = values_stay_within go_on
 
 pub none_asked_none_held : NoneAskedNoneHeld
 none_asked_none_held = none_asked
+
+pub net_shares_are_kept : NetSharesAreKept
+net_shares_are_kept = net_stays_within go_on
+
+pub none_asked_none_on_side : NoneAskedNoneOnSide
+none_asked_none_on_side policy history among side legal none = no_shares policy history (on_side among side) legal none

@@ -1,16 +1,19 @@
--- A rule on gross shares or value that was in force at the last grant of some accounts keeps its limit.
-use Rattle.std.proofs.Common.{◌≡◌, ℕ, ◌+◌, ◌-◌, ◌≤◌, Bool, true, false, cond, List, [], ◌∷◌, ◌++◌, length, refl, sym, ap, ◌∙◌, arith, append_assoc}
+-- A rule on gross shares, gross value or net shares that was in force at the last grant of some accounts keeps its limit.
+use Rattle.std.proofs.Common.{◌≡◌, ℕ, ◌+◌, ◌-◌, ◌≤◌, pos, ◌+ℤ◌, ◌-ℤ◌, int_lt, Bool, true, false, cond, not, List, [], ◌∷◌, ◌++◌, length, refl, sym, ap, ◌∙◌, arith, append_assoc}
 use Rattle.std.proofs.Math.Path.{subst}
 use Rattle.std.specs.Prelude.{Option, Some, option_and_then, option_map, ◌&&◌, ◌||◌}
 use Rattle.std.specs.Option.{option_map_or}
 use Rattle.std.specs.List.{AllByRecursion, list_any}
 use Rattle.std.proofs.lemmas.Bool.{ltb-false}
+use Rattle.std.proofs.lemmas.Int.{ints}
+use Rattle.gx_units.specs.Names.{same_stock}
 use Rattle.gx_units.specs.Money.{value}
 use Rattle.gx_units.specs.declared.names.AccountName.{AccountName}
 use Rattle.gx_history.specs.declared.facts.Facts.{Facts}
 use Rattle.gx_history.specs.declared.facts.NamedOrder.{NamedOrder}
 use Rattle.gx_history.specs.declared.facts.ProposedOrder.{ProposedOrder}
 use Rattle.gx_history.specs.declared.facts.RuleFigures.{RuleFigures}
+use Rattle.gx_history.specs.declared.facts.StockSide.{StockSide}
 use Rattle.gx_history.specs.declared.policy.Count.{Count}
 use Rattle.gx_history.specs.declared.policy.Count.TheVariants as counts
 use Rattle.gx_history.specs.declared.policy.FileRule.{FileRule}
@@ -24,21 +27,23 @@ use Rattle.gx_history.specs.declared.record.Request.{Request}
 use Rattle.gx_history.specs.declared.record.Step.TheVariants as steps
 use Rattle.gx_history.specs.declared.record.Verdict.TheVariants as verdicts
 use Rattle.gx_history.specs.Asking.{facts}
-use Rattle.gx_history.specs.Executions.{Standing, standing_numbered, standings}
-use Rattle.gx_history.specs.Figures.{counts_account, figures, kind_figures, no_figures, open_value, positions}
+use Rattle.gx_history.specs.Book.{is_buy}
+use Rattle.gx_history.specs.Executions.{Standing, executions, standing_numbered, standings}
+use Rattle.gx_history.specs.Figures.{counts_account, figures, is_on, kind_figures, net_done, no_figures, of_accounts, on_side, open_value, other_side, positions, side_done, side_live}
 use Rattle.gx_history.specs.InForce.{rules_in_force}
 use Rattle.gx_history.specs.Orders.{Order}
 use Rattle.gx_history.specs.People.{covers}
 use Rattle.gx_history.specs.Rules.{kind_forbids, new_open, of_proposed, rule_forbids}
 use Rattle.gx_history.specs.Verdicts.{Follows, IsLegal, facts_now, figures_asked, next, rules_now, with_figures}
 use Rattle.gx_history_laws.proofs.Granting.{granted_passes, none_of_file}
-use Rattle.gx_history_laws.proofs.Names.{account_is}
+use Rattle.gx_history_laws.proofs.Judging.{both}
+use Rattle.gx_history_laws.proofs.Names.{account_is, stock_is}
 use Rattle.gx_history_laws.proofs.NextReports.{legal_before}
 use Rattle.gx_history_laws.proofs.Numbers.{all_weaker}
-use Rattle.gx_exposure.specs.Exposure.{IsLastGrant, KeepsShares, KeepsValue, executions_after, gained, gross_shares, gross_value}
+use Rattle.gx_exposure.specs.Exposure.{IsLastGrant, KeepsNet, KeepsShares, KeepsValue, executions_after, gained, gross_shares, gross_value, side_shares}
 use Rattle.gx_effects.proofs.Among.{IsIn, all_are_in, of_all}
-use Rattle.gx_exposure.specs.Laws.{GrossSharesAreKept, GrossValuesAreKept}
-use Rattle.gx_exposure.proofs.After.{GoOn, granted_to, legal_in_parts, no_more_shares_after, no_more_value_after}
+use Rattle.gx_exposure.specs.Laws.{GrossSharesAreKept, GrossValuesAreKept, NetSharesAreKept}
+use Rattle.gx_exposure.proofs.After.{GoOn, done_stays, granted_to, legal_in_parts, no_more_shares_after, no_more_value_after}
 use Rattle.gx_exposure.proofs.Grants.{GrantsOrder, grants_order}
 
 -- the file's rule passes the request
@@ -73,19 +78,19 @@ figures_in_scope policy before asker q replaced moment rule covered =
     ap (λ b. cond b (kind_figures policy (positions policy before) (λ count. counts_account count rule.scope asker) q (option_and_then (standing_numbered (standings policy before)) replaced) moment rule.kind) no_figures) covered
 
 -- the figures on which the rule passed it
-kind_passes : (policy : PolicyData) (before : List RecordData) (r : RecordData) (g : GrantsOrder policy before r) (rule : FileRule) (kind : RuleKind) → rule.kind ≡ kind → covers rule.scope g.asker ≡ true
+kind_passes : (policy : PolicyData) (before : List RecordData) (r : RecordData) (g : GrantsOrder policy before r) (rule : FileRule) (kind : RuleKind) → rule.kind ≡ kind → covers rule.scope g.order.account ≡ true
     → Passes policy before g.asked rule
-    → kind_forbids kind (kind_figures policy (positions policy before) (λ count. counts_account count rule.scope g.asker) g.asked.request g.old (facts_now policy before g.asked).moment kind) g.shown ≡ false
+    → kind_forbids kind (kind_figures policy (positions policy before) (λ count. counts_account count rule.scope g.order.account) g.asked.request g.old (facts_now policy before g.asked).moment kind) g.shown ≡ false
 unfolding facts
 kind_passes policy before r g rule kind is covered passes =
     let given : Facts = facts_now policy before g.asked in
     let q : Request = g.asked.request in
     let number : Option ℕ = option_map (λ (o : NamedOrder). o.order) given.named in
-    let of_kind : (k : RuleKind) → RuleFigures = λ k. kind_figures policy (positions policy before) (λ count. counts_account count rule.scope g.asker) q g.old given.moment k in
+    let of_kind : (k : RuleKind) → RuleFigures = λ k. kind_figures policy (positions policy before) (λ count. counts_account count rule.scope g.order.account) q g.old given.moment k in
     let asked_of : figures_asked policy (positions policy before) q given rule ≡ of_kind rule.kind =
     ap (λ (account : Option AccountName). option_map_or (λ (account : AccountName). figures policy (positions policy before) account q number given.moment rule) account no_figures) g.is_his
-    ∙ figures_in_scope policy before g.asker q number given.moment rule covered
-    ∙ ap (λ (o : Option Standing). kind_figures policy (positions policy before) (λ count. counts_account count rule.scope g.asker) q o given.moment rule.kind) g.is_replaced in
+    ∙ figures_in_scope policy before g.order.account q number given.moment rule covered
+    ∙ ap (λ (o : Option Standing). kind_figures policy (positions policy before) (λ count. counts_account count rule.scope g.order.account) q o given.moment rule.kind) g.is_replaced in
     sym
     (ap (λ (account : Option AccountName). option_map_or (covers rule.scope) account false && of_proposed given q (kind_forbids rule.kind (figures_asked policy (positions policy before) q given rule))) g.is_his
     ∙ ap (λ b. b && of_proposed given q (kind_forbids rule.kind (figures_asked policy (positions policy before) q given rule))) covered
@@ -104,6 +109,26 @@ counts_the_same counts.Each scope account asker covered counted =
     (ap (covers scope) (sym same) ∙ covered, ap (counts_account counts.Each scope) (sym same))
 counts_the_same counts.Together scope account asker covered counted = (counted, refl)
 
+-- an order on a side of a stock: whose it is, and which side
+stands_there : (among : AccountName → Bool) (side : StockSide) (o : Order) → on_side among side o ≡ true
+    → (among o.account ≡ true) × (record { stock = o.terms.stock; buys = is_buy o.terms.side } ≡ side)
+stands_there among side o h =
+    let first = both (among o.account && same_stock o.terms.stock side.stock) (is_on side.buys o.terms.side) h in
+    let theirs = both (among o.account) (same_stock o.terms.stock side.stock) first.0 in
+    (theirs.0, λ i. record { stock = stock_is o.terms.stock side.stock theirs.1 i; buys = buys_is side.buys first.1 i })
+  where
+    turned : (b : Bool) → not b ≡ true → b ≡ false
+    turned true k = sym k
+    turned false k = refl
+
+    buys_is : (b : Bool) → is_on b o.terms.side ≡ true → is_buy o.terms.side ≡ b
+    buys_is true k = k
+    buys_is false k = turned (is_buy o.terms.side) k
+
+-- what a rule passes is within its limit
+net_low : (limit done other live new old : ℕ) → int_lt (pos limit) ((pos done -ℤ pos other) +ℤ pos live +ℤ pos new -ℤ pos old) ≡ false → live + done + new ≤ limit + old + other
+net_low limit done other live new old h = omega (arith, ints)
+
 module _ (laws : GoOn) (policy : PolicyData) (before : List RecordData) (r : RecordData) (after : List RecordData) (legal : IsLegal policy (before ++ r ∷ after)) where
   whole : (before ++ r ∷ []) ++ after ≡ before ++ r ∷ after
   whole = append_assoc before (r ∷ []) after
@@ -114,44 +139,62 @@ module _ (laws : GoOn) (policy : PolicyData) (before : List RecordData) (r : Rec
   legal_at : IsLegal policy before × Follows policy (before, r)
   legal_at = legal_before policy before r (legal_in_parts policy (before ++ r ∷ []) after legal_on).0
 
-  few : (among : AccountName → Bool) → IsLastGrant policy among before r after → granted_to policy among ((before ++ r ∷ []) ++ after) ≤ granted_to policy among (before ++ r ∷ [])
-  few among last =
-      let same : granted_to policy among ((before ++ r ∷ []) ++ after) ≡ granted_to policy among (before ++ r ∷ []) = ap (granted_to policy among) whole ∙ ap (λ (os : List Order). length os) last.is_last in
+  few : (chosen : Order → Bool) → IsLastGrant policy chosen before r after → granted_to policy chosen ((before ++ r ∷ []) ++ after) ≤ granted_to policy chosen (before ++ r ∷ [])
+  few chosen last =
+      let same : granted_to policy chosen ((before ++ r ∷ []) ++ after) ≡ granted_to policy chosen (before ++ r ∷ []) = ap (granted_to policy chosen) whole ∙ ap (λ (os : List Order). length os) last.is_last in
       omega (arith, same)
 
   keeps_shares : (g : GrantsOrder policy before r) (rule : FileRule) → Passes policy before g.asked rule → KeepsShares policy before r after rule
   keeps_shares g rule passes limit count account is covered last =
       let among : AccountName → Bool = counts_account count rule.scope account in
-      let counted : among g.asker ≡ true = g.theirs among last.is_granted in
-      let same : CountsTheSame count rule.scope account g.asker = counts_the_same count rule.scope account g.asker covered counted in
+      let counted : among g.order.account ≡ true = g.theirs (of_accounts among) last.is_granted in
+      let same : CountsTheSame count rule.scope account g.order.account = counts_the_same count rule.scope account g.order.account covered counted in
       let old_open : ℕ = option_map_or (λ (s : Standing). s.open_shares) g.old 0 in
-      let low = ltb-false limit (gross_shares policy before (counts_account count rule.scope g.asker) + new_open g.shown - old_open) (kind_passes policy before r g rule (kinds.GrossShares limit count) is same.0 passes) in
+      let low = ltb-false limit (gross_shares policy before (counts_account count rule.scope g.order.account) + new_open g.shown - old_open) (kind_passes policy before r g rule (kinds.GrossShares limit count) is same.0 passes) in
       let theirs = ap (gross_shares policy before) same.1 in
-      let then_has = g.shares_then among counted in
-      let no_more = no_more_shares_after laws policy among (before ++ r ∷ []) after legal_on (few among last) in
+      let then_has = g.shares_then (of_accounts among) counted (g.old_theirs among counted) in
+      let no_more = no_more_shares_after laws policy (of_accounts among) (before ++ r ∷ []) after legal_on (few (of_accounts among) last) in
       let now = ap (λ (h : List RecordData). gross_shares policy h among) whole in
       omega (arith, low, theirs, then_has, no_more, now)
 
   keeps_value : (g : GrantsOrder policy before r) (rule : FileRule) → Passes policy before g.asked rule → KeepsValue policy before r after rule
   keeps_value g rule passes limit count account is covered last =
       let among : AccountName → Bool = counts_account count rule.scope account in
-      let counted : among g.asker ≡ true = g.theirs among last.is_granted in
-      let same : CountsTheSame count rule.scope account g.asker = counts_the_same count rule.scope account g.asker covered counted in
+      let counted : among g.order.account ≡ true = g.theirs (of_accounts among) last.is_granted in
+      let same : CountsTheSame count rule.scope account g.order.account = counts_the_same count rule.scope account g.order.account covered counted in
       let old_value : ℕ = option_map_or open_value g.old 0 in
-      let low = ltb-false limit (gross_value policy before (counts_account count rule.scope g.asker) + value (new_open g.shown) g.shown.price - old_value) (kind_passes policy before r g rule (kinds.GrossValue limit count) is same.0 passes) in
+      let low = ltb-false limit (gross_value policy before (counts_account count rule.scope g.order.account) + value (new_open g.shown) g.shown.price - old_value) (kind_passes policy before r g rule (kinds.GrossValue limit count) is same.0 passes) in
       let theirs = ap (gross_value policy before) same.1 in
       let then_has = g.value_then among counted in
-      let no_more = no_more_value_after laws policy among (before ++ r ∷ []) after legal_on (few among last) in
+      let no_more = no_more_value_after laws policy among (before ++ r ∷ []) after legal_on (few (of_accounts among) last) in
       let now = ap (λ (h : List RecordData). gross_value policy h among) whole in
       let since = ap (λ (h : List RecordData). gained (executions_after policy (before ++ r ∷ []) h) among) whole in
       omega (arith, low, theirs, then_has, no_more, now, since)
+
+  keeps_net : (g : GrantsOrder policy before r) (rule : FileRule) → Passes policy before g.asked rule → KeepsNet policy before r after rule
+  keeps_net g rule passes limit count account side is covered last =
+      let among : AccountName → Bool = counts_account count rule.scope account in
+      let chosen : on_side among side g.order ≡ true = g.theirs (on_side among side) last.is_granted in
+      let parts = stands_there among side g.order chosen in
+      let same : CountsTheSame count rule.scope account g.order.account = counts_the_same count rule.scope account g.order.account covered parts.0 in
+      let old_open : ℕ = option_map_or (λ (s : Standing). s.open_shares) g.old 0 in
+      let before_it : (AccountName → Bool) → Option StockSide → Bool = λ who there.
+      int_lt (pos limit) (option_map_or (net_done (executions policy before) who) there (pos 0) +ℤ pos (option_map_or (side_live (standings policy before) who) there 0) +ℤ pos (new_open g.shown) -ℤ pos old_open) in
+      let passed : before_it among (Some side) ≡ false =
+      (λ i. before_it (sym same.1 i) (sym (g.is_there ∙ ap Some parts.1) i)) ∙ kind_passes policy before r g rule (kinds.NetShares limit count) is same.0 passes in
+      let low = net_low limit (side_done (executions policy before) among side) (side_done (executions policy before) among (other_side side)) (side_live (standings policy before) among side) (new_open g.shown) old_open passed in
+      let then_has = g.shares_then (on_side among side) chosen (g.old_there among side chosen) in
+      let no_more = no_more_shares_after laws policy (on_side among side) (before ++ r ∷ []) after legal_on (few (on_side among side) last) in
+      let stays = done_stays laws policy (on_side among (other_side side)) before (r ∷ after) legal in
+      let now = ap (λ (h : List RecordData). side_shares policy h among side) whole in
+      omega (arith, low, then_has, no_more, stays, now)
 
   -- each rule that was in force
   all_keep_shares : AllByRecursion (KeepsShares policy before r after) (rules_in_force policy before)
   all_keep_shares =
       let rules : List FileRule = rules_in_force policy before in
       all_weaker (λ (rule : FileRule). IsIn rule rules) (KeepsShares policy before r after) (λ rule among_them limit count account is covered last.
-      let g : GrantsOrder policy before r = grants_order laws policy before r (counts_account count rule.scope account) legal_at.0 legal_at.1 last.is_granted in
+      let g : GrantsOrder policy before r = grants_order laws policy before r (of_accounts (counts_account count rule.scope account)) legal_at.0 legal_at.1 last.is_granted in
       keeps_shares g rule (of_all (Passes policy before g.asked) rule rules (rules_pass policy before g.asked r g.is_left g.is_granted) among_them) limit count account is covered last)
       rules (all_are_in rules)
 
@@ -159,8 +202,16 @@ module _ (laws : GoOn) (policy : PolicyData) (before : List RecordData) (r : Rec
   all_keep_value =
       let rules : List FileRule = rules_in_force policy before in
       all_weaker (λ (rule : FileRule). IsIn rule rules) (KeepsValue policy before r after) (λ rule among_them limit count account is covered last.
-      let g : GrantsOrder policy before r = grants_order laws policy before r (counts_account count rule.scope account) legal_at.0 legal_at.1 last.is_granted in
+      let g : GrantsOrder policy before r = grants_order laws policy before r (of_accounts (counts_account count rule.scope account)) legal_at.0 legal_at.1 last.is_granted in
       keeps_value g rule (of_all (Passes policy before g.asked) rule rules (rules_pass policy before g.asked r g.is_left g.is_granted) among_them) limit count account is covered last)
+      rules (all_are_in rules)
+
+  all_keep_net : AllByRecursion (KeepsNet policy before r after) (rules_in_force policy before)
+  all_keep_net =
+      let rules : List FileRule = rules_in_force policy before in
+      all_weaker (λ (rule : FileRule). IsIn rule rules) (KeepsNet policy before r after) (λ rule among_them limit count account side is covered last.
+      let g : GrantsOrder policy before r = grants_order laws policy before r (on_side (counts_account count rule.scope account) side) legal_at.0 legal_at.1 last.is_granted in
+      keeps_net g rule (of_all (Passes policy before g.asked) rule rules (rules_pass policy before g.asked r g.is_left g.is_granted) among_them) limit count account side is covered last)
       rules (all_are_in rules)
 
 -- in every legal history
@@ -170,3 +221,7 @@ shares_stay_within laws policy history legal before after r is = all_keep_shares
 -- and their value
 pub values_stay_within : GoOn → GrossValuesAreKept
 values_stay_within laws policy history legal before after r is = all_keep_value laws policy before r after (subst (IsLegal policy) is legal)
+
+-- and their net position
+pub net_stays_within : GoOn → NetSharesAreKept
+net_stays_within laws policy history legal before after r is = all_keep_net laws policy before r after (subst (IsLegal policy) is legal)

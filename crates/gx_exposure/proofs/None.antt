@@ -13,6 +13,7 @@ use Rattle.gx_history.specs.declared.record.RecordData.{RecordData}
 use Rattle.gx_history.specs.declared.record.Verdict.{Verdict}
 use Rattle.gx_history.specs.declared.record.Verdict.TheVariants as verdicts
 use Rattle.gx_history.specs.Executions.{Execution, Standing, executions, side_of, sides, standing, standings}
+use Rattle.gx_history.specs.Figures.{of_accounts}
 use Rattle.gx_history.specs.Orders.{Order, order_numbered, orders, orders_added}
 use Rattle.gx_history.specs.Verdicts.{IsLegal}
 use Rattle.gx_history_laws.proofs.Granting.{legal_keeps}
@@ -20,8 +21,8 @@ use Rattle.gx_history_laws.proofs.NextOrders.{executions_next, executions_none, 
 use Rattle.gx_history_laws.proofs.Owners.{all_both}
 use Rattle.gx_effects.proofs.Entered.{all_mapped}
 use Rattle.gx_effects.proofs.NewOrders.{found_is}
-use Rattle.gx_positions.proofs.Sums.{as_shares, done_shares_are, done_value_are, is_among, live_shares_are, live_value_are, open_of, sum_where}
-use Rattle.gx_exposure.specs.Exposure.{HasNothing, NoneIsGranted, is_theirs}
+use Rattle.gx_positions.proofs.Sums.{as_shares, done_are, done_value_are, is_chosen, live_value_are, open_are, open_of, sum_where}
+use Rattle.gx_exposure.specs.Exposure.{HasNothing, NoneIsGranted, shares_of_chosen}
 use Rattle.gx_exposure.proofs.After.{all_in_parts}
 
 none_passes : {X : Type 0} (p : X → Bool) (xs : List X) → filter p xs ≡ [] → AllByRecursion (λ (x : X). p x ≡ false) xs
@@ -70,20 +71,32 @@ module _ (P : Order → Type 0) where
       history legal
 
 -- all orders stand as they were granted
-standings_have : (policy : PolicyData) (history : List RecordData) (among : AccountName → Bool) → AllByRecursion (λ (o : Order). is_theirs among o ≡ false) (orders policy history)
-    → AllByRecursion (λ (s : Standing). is_among among s ≡ false) (standings policy history)
+standings_have : (policy : PolicyData) (history : List RecordData) (chosen : Order → Bool) → AllByRecursion (λ (o : Order). chosen o ≡ false) (orders policy history)
+    → AllByRecursion (λ (s : Standing). is_chosen chosen s ≡ false) (standings policy history)
 unfolding standings
-standings_have policy history among h = all_mapped (λ (s : Standing). is_among among s ≡ false) (standing (executions policy history) history) (orders policy history) h
+standings_have policy history chosen h = all_mapped (λ (s : Standing). is_chosen chosen s ≡ false) (standing (executions policy history) history) (orders policy history) h
+
+module _ (policy : PolicyData) (history : List RecordData) (chosen : Order → Bool) (legal : IsLegal policy history) (none : NoneIsGranted policy history chosen) where
+  not_chosen : AllByRecursion (λ (o : Order). chosen o ≡ false) (orders policy history)
+  not_chosen = none_passes chosen (orders policy history) none
+
+  none_stands : AllByRecursion (λ (s : Standing). is_chosen chosen s ≡ false) (standings policy history)
+  none_stands = standings_have policy history chosen not_chosen
+
+  none_executed : AllByRecursion (λ (e : Execution). chosen e.order ≡ false) (executions policy history)
+  none_executed = executions_have (λ (o : Order). chosen o ≡ false) policy history legal not_chosen
+
+  -- none granted, no shares
+  pub no_shares : shares_of_chosen policy history chosen ≡ 0
+  no_shares =
+      let still = open_are (standings policy history) chosen ∙ sum_of_none (is_chosen chosen) (open_of as_shares) (standings policy history) none_stands in
+      let done = done_are (executions policy history) chosen ∙ sum_of_none (λ (e : Execution). chosen e.order) (λ (e : Execution). e.fill.shares) (executions policy history) none_executed in
+      omega (arith, still, done)
 
 -- none granted, none held
-pub none_asked : (policy : PolicyData) (history : List RecordData) (among : AccountName → Bool) → IsLegal policy history → NoneIsGranted policy history among → HasNothing policy history among
+pub none_asked : (policy : PolicyData) (history : List RecordData) (among : AccountName → Bool) → IsLegal policy history → NoneIsGranted policy history (of_accounts among) → HasNothing policy history among
 none_asked policy history among legal none =
-    let not_theirs : AllByRecursion (λ (o : Order). is_theirs among o ≡ false) (orders policy history) = none_passes (is_theirs among) (orders policy history) none in
-    let stand = standings_have policy history among not_theirs in
-    let executed = executions_have (λ (o : Order). is_theirs among o ≡ false) policy history legal not_theirs in
     let theirs : Execution → Bool = λ e. among e.order.account in
-    let shares_open = live_shares_are (standings policy history) among ∙ sum_of_none (is_among among) (open_of as_shares) (standings policy history) stand in
-    let value_open = live_value_are (standings policy history) among ∙ sum_of_none (is_among among) (open_of value) (standings policy history) stand in
-    let shares_done = done_shares_are (executions policy history) among ∙ sum_of_none theirs (λ (e : Execution). e.fill.shares) (executions policy history) executed in
-    let value_done = done_value_are (executions policy history) among ∙ sum_of_none theirs (λ (e : Execution). value e.fill.shares e.fill.price) (executions policy history) executed in
-    record { no_shares = omega (arith, shares_open, shares_done); no_value = omega (arith, value_open, value_done) }
+    let value_open = live_value_are (standings policy history) among ∙ sum_of_none (is_chosen (of_accounts among)) (open_of value) (standings policy history) (none_stands policy history (of_accounts among) legal none) in
+    let value_done = done_value_are (executions policy history) among ∙ sum_of_none theirs (λ (e : Execution). value e.fill.shares e.fill.price) (executions policy history) (none_executed policy history (of_accounts among) legal none) in
+    record { no_shares = no_shares policy history (of_accounts among) legal none; no_value = omega (arith, value_open, value_done) }

@@ -3,6 +3,7 @@ use Rattle.std.specs.Prelude.{ℕ, ◌+◌, ◌-◌, ◌≤◌, ◌≡◌, Bool,
 use Rattle.std.specs.List.{filter, list_any, AllByRecursion}
 use Rattle.gx_units.specs.Money.{value}
 use Rattle.gx_units.specs.declared.names.AccountName.{AccountName}
+use Rattle.gx_history.specs.declared.facts.StockSide.{StockSide}
 use Rattle.gx_history.specs.declared.policy.Count.{Count}
 use Rattle.gx_history.specs.declared.policy.FileRule.{FileRule}
 use Rattle.gx_history.specs.declared.policy.PolicyData.{PolicyData}
@@ -10,14 +11,22 @@ use Rattle.gx_history.specs.declared.policy.RuleKind.TheVariants as kinds
 use Rattle.gx_history.specs.declared.record.RecordData.{RecordData}
 use Rattle.gx_history.specs.Book.{is_buy_order}
 use Rattle.gx_history.specs.Executions.{Execution, executions, standings}
-use Rattle.gx_history.specs.Figures.{counts_account, live_shares, live_value, done_shares, done_value}
+use Rattle.gx_history.specs.Figures.{counts_account, done_of_chosen, done_value, live_value, of_accounts, on_side, open_of_chosen, other_side, side_done}
 use Rattle.gx_history.specs.InForce.{rules_in_force}
 use Rattle.gx_history.specs.Orders.{Order, orders, orders_added}
 use Rattle.gx_history.specs.People.{covers}
 
--- the open shares of these accounts, and those that they executed
+-- the open shares of the orders that are chosen, and those that they executed
+abbrev pub shares_of_chosen : PolicyData → List RecordData → (Order → Bool) → ℕ
+shares_of_chosen policy history chosen = open_of_chosen (standings policy history) chosen + done_of_chosen (executions policy history) chosen
+
+-- those of these accounts
 abbrev pub gross_shares : PolicyData → List RecordData → (AccountName → Bool) → ℕ
-gross_shares policy history among = live_shares (standings policy history) among + done_shares (executions policy history) among
+gross_shares policy history among = shares_of_chosen policy history (of_accounts among)
+
+-- those of these accounts on one side of a stock
+abbrev pub side_shares : PolicyData → List RecordData → (AccountName → Bool) → StockSide → ℕ
+side_shares policy history among side = shares_of_chosen policy history (on_side among side)
 
 -- the value of their open shares at the prices of their orders, and of those that they executed at the prices of the fills
 abbrev pub gross_value : PolicyData → List RecordData → (AccountName → Bool) → ℕ
@@ -35,21 +44,17 @@ gained made among = sum_by gain (filter (λ (e : Execution). among e.order.accou
 abbrev pub executions_after : PolicyData → List RecordData → List RecordData → List Execution
 executions_after policy earlier history = drop (length (executions policy earlier)) (executions policy history)
 
--- the order is one of these accounts
-abbrev pub is_theirs : (AccountName → Bool) → Order → Bool
-is_theirs among o = among o.account
-
--- the record grants an order of these accounts, and no later record does
-pub record IsLastGrant (policy : PolicyData) (among : AccountName → Bool) (before : List RecordData) (r : RecordData) (after : List RecordData) : Type 0 where
-  pub is_granted : IsTrue (list_any (is_theirs among) (orders_added policy (orders policy before) r))
-  pub is_last : filter (is_theirs among) (orders policy (before ++ r ∷ after)) ≡ filter (is_theirs among) (orders policy (before ++ r ∷ []))
+-- the record grants an order that is chosen, and no later record does
+pub record IsLastGrant (policy : PolicyData) (chosen : Order → Bool) (before : List RecordData) (r : RecordData) (after : List RecordData) : Type 0 where
+  pub is_granted : IsTrue (list_any chosen (orders_added policy (orders policy before) r))
+  pub is_last : filter chosen (orders policy (before ++ r ∷ after)) ≡ filter chosen (orders policy (before ++ r ∷ []))
 
 -- The rule limits the shares of an account of its scope, or of all of them together: after their last grant they have no more.
 abbrev pub KeepsShares : PolicyData → List RecordData → RecordData → List RecordData → FileRule → Type 0
 KeepsShares policy before r after rule = (limit : ℕ) (count : Count) (account : AccountName)
     → rule.kind ≡ kinds.GrossShares limit count → IsTrue (covers rule.scope account)
     → let among = counts_account count rule.scope account in
-    IsLastGrant policy among before r after → gross_shares policy (before ++ r ∷ after) among ≤ limit
+    IsLastGrant policy (of_accounts among) before r after → gross_shares policy (before ++ r ∷ after) among ≤ limit
 
 -- The rule limits the value of an account of its scope, or of all of them together: after their last grant they have no
 -- more, but for what their sells have got above their own prices since.
@@ -57,8 +62,17 @@ abbrev pub KeepsValue : PolicyData → List RecordData → RecordData → List R
 KeepsValue policy before r after rule = (limit : ℕ) (count : Count) (account : AccountName)
     → rule.kind ≡ kinds.GrossValue limit count → IsTrue (covers rule.scope account)
     → let among = counts_account count rule.scope account in
-    IsLastGrant policy among before r after
+    IsLastGrant policy (of_accounts among) before r after
     → gross_value policy (before ++ r ∷ after) among ≤ limit + gained (executions_after policy (before ++ r ∷ []) (before ++ r ∷ after)) among
+
+-- The rule limits what an account of its scope, or all of them together, have on one side of a stock: after their last
+-- grant there it is no more than the limit and what they executed on the other side.
+abbrev pub KeepsNet : PolicyData → List RecordData → RecordData → List RecordData → FileRule → Type 0
+KeepsNet policy before r after rule = (limit : ℕ) (count : Count) (account : AccountName) (side : StockSide)
+    → rule.kind ≡ kinds.NetShares limit count → IsTrue (covers rule.scope account)
+    → let among = counts_account count rule.scope account in
+    IsLastGrant policy (on_side among side) before r after
+    → side_shares policy (before ++ r ∷ after) among side ≤ limit + side_done (executions policy (before ++ r ∷ after)) among (other_side side)
 
 -- each rule that was in force at a record keeps the shares of accounts whose last grant it was
 abbrev pub SharesStayWithin : PolicyData → List RecordData → Type 0
@@ -70,9 +84,14 @@ abbrev pub ValuesStayWithin : PolicyData → List RecordData → Type 0
 ValuesStayWithin policy history = (before after : List RecordData) (r : RecordData)
     → history ≡ before ++ r ∷ after → AllByRecursion (KeepsValue policy before r after) (rules_in_force policy before)
 
--- no order of these accounts was granted
-abbrev pub NoneIsGranted : PolicyData → List RecordData → (AccountName → Bool) → Type 0
-NoneIsGranted policy history among = filter (is_theirs among) (orders policy history) ≡ []
+-- and their net position
+abbrev pub NetStaysWithin : PolicyData → List RecordData → Type 0
+NetStaysWithin policy history = (before after : List RecordData) (r : RecordData)
+    → history ≡ before ++ r ∷ after → AllByRecursion (KeepsNet policy before r after) (rules_in_force policy before)
+
+-- no order that is chosen was granted
+abbrev pub NoneIsGranted : PolicyData → List RecordData → (Order → Bool) → Type 0
+NoneIsGranted policy history chosen = filter chosen (orders policy history) ≡ []
 
 -- the accounts have nothing open and nothing executed
 pub record HasNothing (policy : PolicyData) (history : List RecordData) (among : AccountName → Bool) : Type 0 where

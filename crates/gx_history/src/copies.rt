@@ -38,6 +38,7 @@ fn copied_kind(alloc: Global, kind: &RuleKind) -> Result<RuleKind, OutOfMemory>
         RuleKind::Collar(limit) => Ok(RuleKind::Collar(*limit)),
         RuleKind::GrossShares(limit, count) => Ok(RuleKind::GrossShares(*limit, *count)),
         RuleKind::GrossValue(limit, count) => Ok(RuleKind::GrossValue(*limit, *count)),
+        RuleKind::NetShares(limit, count) => Ok(RuleKind::NetShares(*limit, *count)),
         RuleKind::Rate(rate, count) => Ok(RuleKind::Rate(*rate, *count)),
         RuleKind::Repeat(repeat, count) => Ok(RuleKind::Repeat(*repeat, *count)),
     }

@@ -2,8 +2,9 @@
 use Rattle.std.proofs.Common.{◌≡◌, ℕ, ◌≤◌, arith, length, nat_le, true, List, refl, ap}
 use Rattle.std.specs.Cmp.Lexicographic.{nat_list_eq_equiv}
 use Rattle.std.proofs.lemmas.Slice.Eq.{bytes_eq-Decides}
-use Rattle.gx_units.specs.Names.{same_account, same_token, same_user}
+use Rattle.gx_units.specs.Names.{same_account, same_stock, same_token, same_user}
 use Rattle.gx_units.specs.declared.names.AccountName.{AccountName}
+use Rattle.gx_units.specs.declared.names.Symbol.{Symbol}
 use Rattle.gx_units.specs.declared.names.Token.{Token}
 use Rattle.gx_units.specs.declared.names.UserName.{UserName}
 use Rattle.gx_history.specs.declared.policy.Account.{Account}
@@ -24,6 +25,9 @@ same_token_flip a b = nat_list_eq_equiv.symm a.bytes b.bytes
 
 pub account_is : (a b : AccountName) → same_account a b ≡ true → a ≡ b
 account_is a b h = let name : List ℕ → AccountName = λ (bytes : List ℕ). record { bytes = bytes } in ap name ((bytes_eq-Decides a.bytes b.bytes).0 h)
+
+pub stock_is : (a b : Symbol) → same_stock a b ≡ true → a ≡ b
+stock_is a b h = let name : List ℕ → Symbol = λ (bytes : List ℕ). record { bytes = bytes } in ap name ((bytes_eq-Decides a.bytes b.bytes).0 h)
 
 pub account_is_itself : (a : AccountName) → same_account a a ≡ true
 account_is_itself a = (bytes_eq-Decides a.bytes a.bytes).1 refl

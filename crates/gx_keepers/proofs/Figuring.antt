@@ -152,6 +152,7 @@ is_held policy history o named k is =
       standing = k.standing;
       is_found = ap (λ (x : OpenOrder). standing_numbered (live_orders policy history) x.order) it ∙ k.is_found;
       account = sym (ap (λ (x : OpenOrder). x.account) it);
+      side = sym (ap (λ (x : OpenOrder). x.side) it);
       stock = sym (ap (λ (x : OpenOrder). x.stock) it);
       price = sym (ap (λ (x : OpenOrder). x.price) it);
       open_shares = k.is_open ∙ sym (ap (λ (x : OpenOrder). x.open_shares) it);

@@ -21,6 +21,7 @@ abbrev pub open_order : LiveOrder → OpenOrder
 open_order o = record {
   order = o.number;
   account = o.account;
+  side = o.terms.side;
   stock = o.terms.stock;
   price = o.terms.price;
   open_shares = o.total - o.done;

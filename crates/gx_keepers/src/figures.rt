@@ -14,6 +14,7 @@ pub fn open_order(order: &LiveOrder) -> OpenOrder
     OpenOrder {
         order: order.number,
         account: order.account,
+        side: order.terms.side,
         stock: order.terms.stock,
         price: order.terms.price,
         open_shares: order.open(),

@@ -44,6 +44,7 @@ fn reason_of_kind(kind: &RuleKind) -> RejectReason
         RuleKind::Collar(_) => RejectReason::InvalidPrice,
         RuleKind::GrossShares(_, _) => RejectReason::SharesLimit,
         RuleKind::GrossValue(_, _) => RejectReason::DollarLimit,
+        RuleKind::NetShares(_, _) => RejectReason::SharesLimit,
         RuleKind::Rate(_, _) => RejectReason::Other,
         RuleKind::Repeat(_, _) => RejectReason::Other,
     }

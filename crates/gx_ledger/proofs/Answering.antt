@@ -1,7 +1,8 @@
 -- The figures that a ledger gives are those of what it stands for.
-use Rattle.std.proofs.Common.{◌≡◌, ℕ, suc, Bool, true, false, cond, ◌&&◌, List, [], ◌∷◌, map, refl, sym, ap, ◌∙◌, true≢false}
+use Rattle.std.proofs.Common.{◌≡◌, ℕ, suc, ◌<◌, ◌^◌, pos, ◌-ℤ◌, arith, not, Bool, true, false, cond, ◌&&◌, List, [], ◌∷◌, map, refl, sym, ap, ◌∙◌, true≢false}
 use Rattle.std.specs.Prelude.{Option, Some, None, is_some, find, option_and_then, option_map, slice_get, unwrap_or}
 use Rattle.std.specs.Option.{option_map_or}
+use Rattle.std.specs.List.{AllByRecursion}
 use Rattle.std.specs.Map.{lookup}
 use Rattle.std.specs.Cmp.Lexicographic.{nat_list_eq_equiv}
 use Rattle.gx_units.specs.Money.{value}
@@ -10,6 +11,7 @@ use Rattle.gx_units.specs.declared.names.AccountName.{AccountName}
 use Rattle.gx_units.specs.declared.names.Symbol.{Symbol}
 use Rattle.gx_history.specs.declared.facts.NamedOrder.{NamedOrder}
 use Rattle.gx_history.specs.declared.facts.RuleFigures.{RuleFigures}
+use Rattle.gx_history.specs.declared.facts.StockSide.{StockSide}
 use Rattle.gx_history.specs.declared.policy.Account.{Account}
 use Rattle.gx_history.specs.declared.policy.Count.{Count}
 use Rattle.gx_history.specs.declared.policy.Count.TheVariants as counts
@@ -21,25 +23,32 @@ use Rattle.gx_history.specs.declared.policy.Scope.{Scope}
 use Rattle.gx_history.specs.declared.policy.Stock.{Stock}
 use Rattle.gx_history.specs.declared.record.Request.{Request}
 use Rattle.gx_history.specs.declared.record.Request.TheVariants as requests
-use Rattle.gx_history.specs.Executions.{Standing, standing_numbered}
-use Rattle.gx_history.specs.Figures.{Positions, counts_account, figures, kind_figures, no_figures, open_value, reference, stock_asked}
+use Rattle.gx_history.specs.Book.{is_buy}
+use Rattle.gx_history.specs.Executions.{Execution, Standing, standing_numbered}
+use Rattle.gx_history.specs.Figures.{Positions, counts_account, figures, is_on, kind_figures, net_done, no_figures, on_side, open_value, other_side, reference, side_asked, side_done, side_live, stock_asked}
+use Rattle.gx_history.specs.Orders.{Order}
 use Rattle.gx_history.specs.People.{account_named, covers, stock_named}
 use Rattle.gx_history.specs.Rules.{figured, figured_from}
 use Rattle.gx_history.specs.Verdicts.{with_figures}
-use Rattle.gx_history_laws.proofs.Names.{account_is, same_account_flip}
-use Rattle.gx_positions.specs.Sound.{NeverFall}
+use Rattle.gx_history_laws.proofs.Names.{account_is, same_account_flip, stock_is}
+use Rattle.gx_history_laws.proofs.Numbers.{all_weaker}
+use Rattle.gx_positions.specs.Sound.{AreSound, IsListed}
+use Rattle.gx_positions.proofs.Sums.{as_shares, done_are, open_are, open_of, sum_where}
 use Rattle.gx_ledger.specs.declared.group.Group.{Group}
+use Rattle.gx_ledger.specs.declared.sides.SideSums.{SideSums}
+use Rattle.gx_ledger.specs.declared.sides.StockSums.{StockSums}
 use Rattle.gx_ledger.specs.declared.tally.Asks.{Asks}
 use Rattle.gx_ledger.specs.declared.tally.Asks.TheVariants as asks
 use Rattle.gx_ledger.specs.declared.tally.Tally.{Tally}
 use Rattle.gx_ledger.specs.declared.tally.Wanted.{Wanted}
-use Rattle.gx_ledger.specs.Keeping.{Kept, account_names, account_place, price_of, reference_for, stock_wanted}
-use Rattle.gx_ledger.specs.StandsFor.{GivesFigures, IsNamedIfAny, StandsFor, group_of, members_of, tally_of, total_of}
-use Rattle.gx_ledger.specs.Tallies.{asks_of, count_of, figures_among, figures_of_group, place_in, tally_figures}
+use Rattle.gx_ledger.specs.Keeping.{Kept, account_names, account_place, price_of, reference_for, side_wanted, stock_wanted}
+use Rattle.gx_ledger.specs.Running.{capped_signed, net_of, no_sides, on_its_side, sides_at}
+use Rattle.gx_ledger.specs.StandsFor.{GivesFigures, IsMadeIn, IsNamedIfAny, StandsFor, both_sides, group_of, members_of, side_sums_of, sides_of, tally_of, total_of}
+use Rattle.gx_ledger.specs.Tallies.{asks_of, count_of, figures_among, figures_of_group, live_in, net_in, place_in, tally_figures}
 use Rattle.gx_ledger.specs.Told.{figures_at}
 use Rattle.gx_ledger.proofs.Counted.{alike_is, recent_counted}
 use Rattle.gx_ledger.proofs.Counting.{map_twice, place-cons}
-use Rattle.gx_ledger.proofs.Entries.{stock_is}
+use Rattle.gx_ledger.proofs.Totals.{done_fit}
 
 later_group : {X : Type 0} (y : X) (ys : List X) (place : Option ℕ) → option_and_then (slice_get (y ∷ ys)) (option_map suc place) ≡ option_and_then (slice_get ys) place
 later_group y ys None = refl
@@ -75,18 +84,110 @@ alone_in_scope scope account inside other = by (same_account account other) refl
 
 -- the group of a known account in scope
 group_found : (policy : PolicyData) (held : Positions) (asked : Asks) (account : AccountName) (scope : Scope) (count : Count) → is_some (account_named policy account) ≡ true → covers scope account ≡ true
-    → option_and_then (slice_get (map (λ (among : AccountName → Bool). group_of asked (total_of held among)) (members_of (Some count) scope (account_names policy.accounts))))
+    → option_and_then (slice_get (map (λ (among : AccountName → Bool). group_of policy.stocks asked (total_of held among)) (members_of (Some count) scope (account_names policy.accounts))))
     (place_in (Some count) (account_place (account_names policy.accounts) account))
-    ≡ Some (group_of asked (total_of held (counts_account count scope account)))
+    ≡ Some (group_of policy.stocks asked (total_of held (counts_account count scope account)))
 group_found policy held asked account scope counts.Together known inside = refl
 group_found policy held asked account scope counts.Each known inside =
     ap (λ groups. option_and_then (slice_get groups) (account_place (account_names policy.accounts) account))
-    (map_twice (λ (among : AccountName → Bool). group_of asked (total_of held among)) (λ (name : AccountName). λ other. covers scope other && same_account name other) (account_names policy.accounts))
-    ∙ found_at (λ name. group_of asked (total_of held (λ other. covers scope other && same_account name other))) account policy.accounts known
-    ∙ (λ i. Some (group_of asked (total_of held (λ other. alone_in_scope scope account inside other i))))
+    (map_twice (λ (among : AccountName → Bool). group_of policy.stocks asked (total_of held among)) (λ (name : AccountName). λ other. covers scope other && same_account name other) (account_names policy.accounts))
+    ∙ found_at (λ name. group_of policy.stocks asked (total_of held (λ other. covers scope other && same_account name other))) account policy.accounts known
+    ∙ (λ i. Some (group_of policy.stocks asked (total_of held (λ other. alone_in_scope scope account inside other i))))
+
+-- the value that is kept of a listed stock
+value_kept : {V : Type 0} (value : Symbol → V) (stock : Symbol) (stocks : List Stock)
+    → lookup (same_stock stock) (map (λ (s : Stock). (s.name, value s.name)) stocks) ≡ option_map (λ (s : Stock). value stock) (find (λ (s : Stock). same_stock s.name stock) stocks)
+value_kept value stock [] = refl
+value_kept value stock (s ∷ stocks) =
+    ap (λ b. cond b (Some (value s.name)) (lookup (same_stock stock) (map (λ (s : Stock). (s.name, value s.name)) stocks))) (nat_list_eq_equiv.symm stock.bytes s.name.bytes)
+    ∙ by (same_stock s.name stock) refl (value_kept value stock stocks)
+  where
+    by : (b : Bool) → same_stock s.name stock ≡ b
+        → lookup (same_stock stock) (map (λ (s : Stock). (s.name, value s.name)) stocks) ≡ option_map (λ (s : Stock). value stock) (find (λ (s : Stock). same_stock s.name stock) stocks)
+        → cond b (Some (value s.name)) (lookup (same_stock stock) (map (λ (s : Stock). (s.name, value s.name)) stocks))
+        ≡ option_map (λ (s : Stock). value stock) (cond b (Some s) (find (λ (s : Stock). same_stock s.name stock) stocks))
+    by true h deeper = ap (λ name. Some (value name)) (stock_is s.name stock h)
+    by false h deeper = deeper
+
+-- of any other stock there is none, as is right where the value of such a stock is this one
+value_answers : {V : Type 0} (policy : PolicyData) (value : Symbol → V) (none : V) (stock : Symbol) → (is_some (stock_named policy stock) ≡ false → value stock ≡ none)
+    → unwrap_or (lookup (same_stock stock) (map (λ (s : Stock). (s.name, value s.name)) policy.stocks)) none ≡ value stock
+value_answers {V} policy value none stock other = ap (λ found. unwrap_or found none) (value_kept value stock policy.stocks) ∙ by (stock_named policy stock) refl
+  where
+    by : (found : Option Stock) → stock_named policy stock ≡ found → unwrap_or (option_map (λ (s : Stock). value stock) found) none ≡ value stock
+    by None h = sym (other (ap is_some h))
+    by (Some s) h = refl
+
+-- a sum over none
+none_of : {X : Type 0} (p : X → Bool) (m : X → ℕ) (xs : List X) → AllByRecursion (λ (x : X). p x ≡ false) xs → sum_where p m xs ≡ 0
+none_of p m [] h = refl
+none_of p m (x ∷ xs) h =
+    let here = ap (λ b. cond b (m x) 0) h.0 in
+    let rest = none_of p m xs h.1 in
+    omega (arith, here, rest)
+
+module _ (policy : PolicyData) (held : Positions) (among : AccountName → Bool) (sound : AreSound policy held) (all_made : AllByRecursion (IsMadeIn policy) held.executions) where
+  -- an order in a listed stock is in no other
+  elsewhere : (side : StockSide) (o : Order) → is_some (stock_named policy side.stock) ≡ false → is_some (stock_named policy o.terms.stock) ≡ true → on_side among side o ≡ false
+  elsewhere side o other listed = by (among o.account) (same_stock o.terms.stock side.stock) refl (is_on side.buys o.terms.side)
+    where
+      by : (a b : Bool) → same_stock o.terms.stock side.stock ≡ b → (c : Bool) → (a && b && c) ≡ false
+      by a true h c = absurd (true≢false (sym listed ∙ ap (λ name. is_some (stock_named policy name)) (stock_is o.terms.stock side.stock h) ∙ other))
+      by true false h c = refl
+      by false false h c = refl
+
+  none_there : (stock : Symbol) (buys : Bool) → is_some (stock_named policy stock) ≡ false → side_sums_of held among stock buys ≡ record { live = 0; done = 0 }
+  none_there stock buys other = λ i. record {
+    live = (open_are held.standings (on_side among side)
+        ∙ none_of (λ (s : Standing). on_side among side s.order) (open_of as_shares) held.standings
+        (all_weaker (IsListed policy) (λ (s : Standing). on_side among side s.order ≡ false) (λ s. elsewhere side s.order other) held.standings sound.all_listed)) i;
+    done = (done_are held.executions (on_side among side)
+        ∙ none_of (λ (e : Execution). on_side among side e.order) (λ (e : Execution). e.fill.shares) held.executions
+        (all_weaker (IsMadeIn policy) (λ (e : Execution). on_side among side e.order ≡ false) (λ e. elsewhere side e.order other) held.executions all_made)) i;
+  }
+    where
+      side : StockSide
+      side = record { stock = stock; buys = buys }
+
+  abbrev kept_sides : List (Symbol × StockSums)
+  kept_sides = sides_of (side_sums_of held among) policy.stocks
+
+  sides_answer : (stock : Symbol) → sides_at kept_sides stock ≡ both_sides (side_sums_of held among) stock
+  sides_answer stock =
+      value_answers policy (both_sides (side_sums_of held among)) no_sides stock
+      (λ other i. record { buys = none_there stock true other i; sells = none_there stock false other i })
+
+  side_answers : (stock : Symbol) (buys : Bool) → on_its_side buys (sides_at kept_sides stock) ≡ side_sums_of held among stock buys
+  side_answers stock buys = ap (on_its_side buys) (sides_answer stock) ∙ by buys
+    where
+      by : (b : Bool) → on_its_side b (both_sides (side_sums_of held among) stock) ≡ side_sums_of held among stock b
+      by true = refl
+      by false = refl
+
+  -- the difference of sums that fit
+  net_fits : (done other : ℕ) → done < 2 ^ 127 → other < 2 ^ 127 → net_of done other ≡ pos done -ℤ pos other
+  net_fits done other few also = λ i. pos (uncapped done few i) -ℤ pos (uncapped other also i)
+    where
+      uncapped : (n : ℕ) → n < 2 ^ 127 → capped_signed n ≡ n
+      uncapped n small = omega (arith, small)
+
+  done_fits : (side : StockSide) → side_done held.executions among side < 2 ^ 127
+  done_fits side = let most = done_fit held.executions (on_side among side) in let fit = sound.fit.done_shares in omega (arith, most, fit)
+
+  -- what was executed on a side, less what was on the other
+  net_answers : (side : Option StockSide) → option_map_or (net_in kept_sides) side (pos 0) ≡ option_map_or (net_done held.executions among) side (pos 0)
+  net_answers None = refl
+  net_answers (Some side) =
+      (λ i. net_of (side_answers side.stock side.buys i).done (side_answers side.stock (not side.buys) i).done)
+      ∙ net_fits (side_done held.executions among side) (side_done held.executions among (other_side side)) (done_fits side) (done_fits (other_side side))
+
+  -- what is open there
+  live_answers : (side : Option StockSide) → option_map_or (live_in kept_sides) side 0 ≡ option_map_or (side_live held.standings among) side 0
+  live_answers None = refl
+  live_answers (Some side) = ap (λ (s : SideSums). s.live) (side_answers side.stock side.buys)
 
 -- for one request
-module _ (policy : PolicyData) (held : Positions) (account : AccountName) (q : Request) (replaced : Option NamedOrder) (r : Option Standing) (moment : ℕ) (falls : NeverFall held.grants)
+module _ (policy : PolicyData) (held : Positions) (account : AccountName) (q : Request) (replaced : Option NamedOrder) (r : Option Standing) (moment : ℕ) (sound : AreSound policy held) (all_made : AllByRecursion (IsMadeIn policy) held.executions)
     (known : is_some (account_named policy account) ≡ true)
     (open_is : option_map_or (λ (o : NamedOrder). o.open_shares) replaced 0 ≡ option_map_or (λ (s : Standing). s.open_shares) r 0)
     (value_is : option_map_or (λ (o : NamedOrder). value o.open_shares o.price) replaced 0 ≡ option_map_or open_value r 0) where
@@ -96,6 +197,7 @@ module _ (policy : PolicyData) (held : Positions) (account : AccountName) (q : R
     place = account_place (account_names policy.accounts) account;
     request = q;
     replaced = replaced;
+    side = side_asked q r;
     reference = option_map_or (reference policy held.executions) (stock_asked q r) 0;
     moment = moment;
   }
@@ -103,7 +205,7 @@ module _ (policy : PolicyData) (held : Positions) (account : AccountName) (q : R
   module _ (scope : Scope) (inside : covers scope account ≡ true) where
     abbrev group : Asks → Option Count → Option Group
     group asked count =
-        option_and_then (slice_get (map (λ (among : AccountName → Bool). group_of asked (total_of held among)) (members_of count scope (account_names policy.accounts)))) (place_in count asking.place)
+        option_and_then (slice_get (map (λ (among : AccountName → Bool). group_of policy.stocks asked (total_of held among)) (members_of count scope (account_names policy.accounts)))) (place_in count asking.place)
 
     abbrev theirs : Count → AccountName → Bool
     theirs count = counts_account count scope account
@@ -123,56 +225,43 @@ module _ (policy : PolicyData) (held : Positions) (account : AccountName) (q : R
     kind_answers (kinds.GrossValue limit count) =
         ap (λ (g : Option Group). option_map_or (figures_of_group asks.Values asking) g no_figures) (group_found policy held asks.Values account scope count known inside)
         ∙ ap (λ n. record no_figures { live_value = (total_of held (theirs count)).sums.live_value; done_value = (total_of held (theirs count)).sums.done_value; replaced_value = n }) value_is
+    kind_answers (kinds.NetShares limit count) =
+        ap (λ (g : Option Group). option_map_or (figures_of_group asks.Sides asking) g no_figures) (group_found policy held asks.Sides account scope count known inside)
+        ∙ (λ i. record no_figures {
+          net_done = net_answers policy held (theirs count) sound all_made (side_asked q r) i;
+          side_live = live_answers policy held (theirs count) sound all_made (side_asked q r) i;
+          replaced_shares = open_is i;
+        })
     kind_answers (kinds.Rate rate count) =
         ap (λ (g : Option Group). option_map_or (figures_of_group (asks.Recent rate) asking) g no_figures) (group_found policy held (asks.Recent rate) account scope count known inside)
-        ∙ ap (λ n. record no_figures { recent = n }) (recent_counted rate.limit held.grants (theirs count) rate.window moment falls)
+        ∙ ap (λ n. record no_figures { recent = n }) (recent_counted rate.limit held.grants (theirs count) rate.window moment sound.never_fall)
     kind_answers (kinds.Repeat repeat count) =
         ap (λ (g : Option Group). option_map_or (figures_of_group (asks.Alike repeat) asking) g no_figures) (group_found policy held (asks.Alike repeat) account scope count known inside)
         ∙ ap (λ n. record no_figures { equal_recent = n }) (alike_is repeat.span held.grants (theirs count) q)
 
   -- the figures of one rule
   rule_answers : (number : Option ℕ) → r ≡ option_and_then (standing_numbered held.standings) number → (rule : FileRule)
-      → tally_figures asking (tally_of (account_names policy.accounts) (total_of held) rule) ≡ figures policy held account q number moment rule
+      → tally_figures asking (tally_of policy.stocks (account_names policy.accounts) (total_of held) rule) ≡ figures policy held account q number moment rule
   unfolding figures
   rule_answers number is rule =
       by (covers rule.scope account) refl
       ∙ ap (λ found. cond (covers rule.scope account) (kind_figures policy held (λ count. counts_account count rule.scope account) q found moment rule.kind) no_figures) is
     where
       by : (b : Bool) → covers rule.scope account ≡ b
-          → cond b (figures_among (asks_of rule.kind) asking (option_and_then (slice_get (map (λ (among : AccountName → Bool). group_of (asks_of rule.kind) (total_of held among)) (members_of (count_of rule.kind) rule.scope (account_names policy.accounts)))) (place_in (count_of rule.kind) asking.place))) no_figures
+          → cond b (figures_among (asks_of rule.kind) asking (option_and_then (slice_get (map (λ (among : AccountName → Bool). group_of policy.stocks (asks_of rule.kind) (total_of held among)) (members_of (count_of rule.kind) rule.scope (account_names policy.accounts)))) (place_in (count_of rule.kind) asking.place))) no_figures
           ≡ cond b (kind_figures policy held (λ count. counts_account count rule.scope account) q r moment rule.kind) no_figures
       by true inside = kind_answers rule.scope inside rule.kind
       by false inside = refl
 
--- the price that is kept of a listed stock, and 0 of any other
-price_kept : (policy : PolicyData) (held : Positions) (stock : Symbol) (stocks : List Stock)
-    → lookup (same_stock stock) (map (λ (s : Stock). (s.name, reference policy held.executions s.name)) stocks)
-    ≡ option_map (λ (s : Stock). reference policy held.executions stock) (find (λ (s : Stock). same_stock s.name stock) stocks)
-price_kept policy held stock [] = refl
-price_kept policy held stock (s ∷ stocks) =
-    ap (λ b. cond b (Some (reference policy held.executions s.name)) (lookup (same_stock stock) (map (λ (s : Stock). (s.name, reference policy held.executions s.name)) stocks))) (nat_list_eq_equiv.symm stock.bytes s.name.bytes)
-    ∙ by (same_stock s.name stock) refl (price_kept policy held stock stocks)
-  where
-    by : (b : Bool) → same_stock s.name stock ≡ b
-        → lookup (same_stock stock) (map (λ (s : Stock). (s.name, reference policy held.executions s.name)) stocks) ≡ option_map (λ (s : Stock). reference policy held.executions stock) (find (λ (s : Stock). same_stock s.name stock) stocks)
-        → cond b (Some (reference policy held.executions s.name)) (lookup (same_stock stock) (map (λ (s : Stock). (s.name, reference policy held.executions s.name)) stocks))
-        ≡ option_map (λ (s : Stock). reference policy held.executions stock) (cond b (Some s) (find (λ (s : Stock). same_stock s.name stock) stocks))
-    by true h deeper = ap (λ name. Some (reference policy held.executions name)) (stock_is s.name stock h)
-    by false h deeper = deeper
-
 price_answers : (policy : PolicyData) (k : Kept) (held : Positions) → StandsFor policy k held → (stock : Symbol) → price_of k.prices stock ≡ reference policy held.executions stock
-price_answers policy k held stands stock =
-    ap (λ prices. price_of prices stock) stands.prices ∙ ap (λ found. unwrap_or found 0) (price_kept policy held stock policy.stocks) ∙ by (stock_named policy stock) refl
-  where
-    by : (found : Option Stock) → stock_named policy stock ≡ found → unwrap_or (option_map (λ (s : Stock). reference policy held.executions stock) found) 0 ≡ reference policy held.executions stock
-    by None h = sym (stands.unlisted stock (ap is_some h))
-    by (Some s) h = refl
+price_answers policy k held stands stock = ap (λ prices. price_of prices stock) stands.prices ∙ value_answers policy (reference policy held.executions) 0 stock (stands.unlisted stock)
 
 -- the order that is named, and the standing of its number
 record Agrees (q : Request) (replaced : Option NamedOrder) (r : Option Standing) : Type 0 where
   open_is : option_map_or (λ (o : NamedOrder). o.open_shares) replaced 0 ≡ option_map_or (λ (s : Standing). s.open_shares) r 0
   value_is : option_map_or (λ (o : NamedOrder). value o.open_shares o.price) replaced 0 ≡ option_map_or open_value r 0
   stock_is : stock_wanted q replaced ≡ stock_asked q r
+  side_is : side_wanted q replaced ≡ side_asked q r
 
 same_stock_asked : (q : Request) (replaced : Option NamedOrder) (r : Option Standing) → option_map (λ (o : NamedOrder). o.stock) replaced ≡ option_map (λ (s : Standing). s.order.terms.stock) r → stock_wanted q replaced ≡ stock_asked q r
 same_stock_asked (requests.Enter m) replaced r same = refl
@@ -183,13 +272,26 @@ same_stock_asked requests.Logout replaced r same = same
 same_stock_asked (requests.Unreadable m) replaced r same = same
 same_stock_asked (requests.Command m) replaced r same = same
 
+same_side_asked : (q : Request) (replaced : Option NamedOrder) (r : Option Standing)
+    → option_map {U = StockSide} (λ (o : NamedOrder). record { stock = o.stock; buys = is_buy o.side }) replaced ≡ option_map {U = StockSide} (λ (s : Standing). record { stock = s.order.terms.stock; buys = is_buy s.order.terms.side }) r
+    → side_wanted q replaced ≡ side_asked q r
+same_side_asked (requests.Enter m) replaced r same = refl
+same_side_asked (requests.Replace m) replaced r same = same
+same_side_asked (requests.Cancel m) replaced r same = same
+same_side_asked (requests.Login m) replaced r same = same
+same_side_asked requests.Logout replaced r same = same
+same_side_asked (requests.Unreadable m) replaced r same = same
+same_side_asked (requests.Command m) replaced r same = same
+
 agree : (held : Positions) (q : Request) (replaced : Option NamedOrder) → IsNamedIfAny held replaced → Agrees q replaced (option_and_then (standing_numbered held.standings) (option_map (λ (o : NamedOrder). o.order) replaced))
-agree held q None named = record { open_is = refl; value_is = refl; stock_is = same_stock_asked q None None refl }
+agree held q None named = record { open_is = refl; value_is = refl; stock_is = same_stock_asked q None None refl; side_is = same_side_asked q None None refl }
 agree held q (Some o) named =
     record {
       open_is = sym (ap (λ found. option_map_or (λ (s : Standing). s.open_shares) found 0) named.is_found ∙ named.open_shares);
       value_is = sym (ap (λ found. option_map_or open_value found 0) named.is_found ∙ (λ i. value (named.open_shares i) (named.price i)));
       stock_is = same_stock_asked q (Some o) (standing_numbered held.standings o.order) (sym (ap (option_map (λ (s : Standing). s.order.terms.stock)) named.is_found ∙ ap Some named.stock));
+      side_is = same_side_asked q (Some o) (standing_numbered held.standings o.order)
+          (sym (ap (option_map {U = StockSide} (λ (s : Standing). record { stock = s.order.terms.stock; buys = is_buy s.order.terms.side })) named.is_found ∙ (λ i. Some (record { stock = named.stock i; buys = is_buy (named.side i) }))));
     }
 
 same_price : (f g : Symbol → ℕ) → ((stock : Symbol) → f stock ≡ g stock) → (o : Option Symbol) → option_map_or f o 0 ≡ option_map_or g o 0
@@ -217,6 +319,7 @@ pub figures_answer : (k : Kept) (account : AccountName) (q : Request) (replaced 
         place = account_place k.accounts account;
         request = q;
         replaced = replaced;
+        side = side_wanted q replaced;
         reference = reference_for k.prices q replaced;
         moment = moment;
       };
@@ -230,10 +333,10 @@ figures_answer k account q replaced moment policy held stands sound known named 
     same_price (price_of k.prices) (reference policy held.executions) (price_answers policy k held stands) (stock_wanted q replaced)
     ∙ ap (λ o. option_map_or (reference policy held.executions) o 0) agrees.stock_is
     in
-    let tallies : k.tallies ≡ map (tally_of names (total_of held)) policy.rules = stands.tallies ∙ ap (λ accounts. map (tally_of accounts (total_of held)) policy.rules) stands.accounts in
+    let tallies : k.tallies ≡ map (tally_of policy.stocks names (total_of held)) policy.rules = stands.tallies ∙ ap (λ accounts. map (tally_of policy.stocks accounts (total_of held)) policy.rules) stands.accounts in
     (λ i. figured (figures_at (record {
       tallies = tallies i;
-      wanted = record { account = account; place = account_place (stands.accounts i) account; request = q; replaced = replaced; reference = price i; moment = moment };
+      wanted = record { account = account; place = account_place (stands.accounts i) account; request = q; replaced = replaced; side = agrees.side_is i; reference = price i; moment = moment };
     })) policy.rules)
-    ∙ told_by_rule (tally_figures (asking policy held account q replaced r moment sound.never_fall known agrees.open_is agrees.value_is)) (tally_of names (total_of held)) (figures policy held account q number moment)
-    (rule_answers policy held account q replaced r moment sound.never_fall known agrees.open_is agrees.value_is number refl) policy.rules
+    ∙ told_by_rule (tally_figures (asking policy held account q replaced r moment sound stands.all_made known agrees.open_is agrees.value_is)) (tally_of policy.stocks names (total_of held)) (figures policy held account q number moment)
+    (rule_answers policy held account q replaced r moment sound stands.all_made known agrees.open_is agrees.value_is number refl) policy.rules

@@ -12,8 +12,8 @@ use Rattle.gx_ledger.proofs.Totals.{accepted_total, left_total}
 
 -- the tallies are those of other totals, where these agree
 pub tallies_same : (policy : PolicyData) (k : Kept) (first second : Totals) → ((among : AccountName → Bool) → first among ≡ second among)
-    → map (tally_of k.accounts first) policy.rules ≡ map (tally_of k.accounts second) policy.rules
-tallies_same policy k first second same = λ i. map (tally_of k.accounts (λ among. same among i)) policy.rules
+    → map (tally_of policy.stocks k.accounts first) policy.rules ≡ map (tally_of policy.stocks k.accounts second) policy.rules
+tallies_same policy k first second same = λ i. map (tally_of policy.stocks k.accounts (λ among. same among i)) policy.rules
 
 pub accept_carries : (placed : Placed) (k : Kept) → Accepts placed k (kept_noted (changes.Accepted placed) k)
 accept_carries placed k s is policy held stands sound may after = record {
@@ -21,6 +21,7 @@ accept_carries placed k s is policy held stands sound may after = record {
   accounts_differ = stands.accounts_differ;
   prices = stands.prices;
   unlisted = stands.unlisted;
+  all_made = stands.all_made;
   tallies =
       kept_follows policy k (total_of held) (changes.Accepted placed) stands.accounts_differ stands.tallies
       ∙ tallies_same policy k _ _ (accepted_total held placed s is after.fit);
@@ -32,6 +33,7 @@ cut_carries o shares k policy held stands sound has after = record {
   accounts_differ = stands.accounts_differ;
   prices = stands.prices;
   unlisted = stands.unlisted;
+  all_made = stands.all_made;
   tallies =
       kept_follows policy k (total_of held) (changes.Left (part o shares o.price)) stands.accounts_differ stands.tallies
       ∙ tallies_same policy k _ _ (left_total held o shares (o.open_shares - shares) sound.numbers_differ has.is_held (rest has.enough));
@@ -46,6 +48,7 @@ close_carries o k policy held stands sound is after = record {
   accounts_differ = stands.accounts_differ;
   prices = stands.prices;
   unlisted = stands.unlisted;
+  all_made = stands.all_made;
   tallies =
       kept_follows policy k (total_of held) (changes.Left (part o o.open_shares o.price)) stands.accounts_differ stands.tallies
       ∙ tallies_same policy k _ _ (left_total held o o.open_shares 0 sound.numbers_differ is (omega arith));

@@ -4,7 +4,6 @@ use Rattle.std.specs.Prelude.{Option, Some, None}
 use Rattle.std.specs.List.{list_any, AllByRecursion, IsDistinct}
 use Rattle.std.specs.Map.{keys_of, lookup, set_value}
 use Rattle.std.proofs.lemmas.List.{map-append, take_more}
-use Rattle.std.proofs.lemmas.Slice.Eq.{bytes_eq-Decides}
 use Rattle.std.specs.Cmp.Lexicographic.{nat_list_eq_equiv}
 use Rattle.indexmap.specs.IndexMap.{insert_entry}
 use Rattle.indexmap.specs.IndexSet.{insert_key}
@@ -14,7 +13,11 @@ use Rattle.gx_units.specs.declared.names.Symbol.{Symbol}
 use Rattle.gx_history.specs.declared.policy.Account.{Account}
 use Rattle.gx_history.specs.declared.policy.Stock.{Stock}
 use Rattle.gx_history.specs.Lists.{are_distinct}
-use Rattle.gx_ledger.specs.Keeping.{account_names, priced, reference_prices}
+use Rattle.gx_history_laws.proofs.Names.{stock_is}
+use Rattle.gx_ledger.specs.Keeping.{account_names, priced}
+use Rattle.gx_ledger.specs.declared.placed.Change.{Change}
+use Rattle.gx_ledger.specs.declared.sides.StockSums.{StockSums}
+use Rattle.gx_ledger.specs.Running.{noted_sides}
 use Rattle.gx_ledger.specs.Tables.{accounts_differ, names_differ}
 
 pub some_is : {X : Type 0} {x y : X} → Some x ≡ Some y → x ≡ y
@@ -57,15 +60,26 @@ module _ {K V : Type 0} (eq : K → K → Bool) (is : (a b : K) → eq a b ≡ t
       by false h found deeper =
           (λ i. (e.0, sym (ap (λ b. cond b (change e.1) e.1) h) i) ∷ deeper found i)
 
-pub stock_is : (a b : Symbol) → same_stock a b ≡ true → a ≡ b
-stock_is a b h = let name : List ℕ → Symbol = λ (bytes : List ℕ). record { bytes = bytes } in ap name ((bytes_eq-Decides a.bytes b.bytes).0 h)
-
 pub price_set : (stock : Symbol) (price : ℕ) (es : List (Symbol × ℕ)) (before : ℕ) → IsDistinct same_stock (keys_of es) → lookup (same_stock stock) es ≡ Some before
     → set_value (same_stock stock) es price ≡ priced stock price es
 price_set stock price es before distinct found = written same_stock stock_is stock (λ last. price) es before distinct found
 
 pub no_price_set : (stock : Symbol) (price : ℕ) (es : List (Symbol × ℕ)) → lookup (same_stock stock) es ≡ None → es ≡ priced stock price es
 no_price_set stock price es none = absent same_stock stock_is stock (λ last. price) es none
+
+-- the sums of one stock written
+pub sums_set : (stock : Symbol) (change : StockSums → StockSums) (es : List (Symbol × StockSums)) (before : StockSums) → IsDistinct same_stock (keys_of es) → lookup (same_stock stock) es ≡ Some before
+    → set_value (same_stock stock) es (change before) ≡ map (λ (e : Symbol × StockSums). (e.0, cond (same_stock stock e.0) (change e.1) e.1)) es
+sums_set stock change es before distinct found = written same_stock stock_is stock change es before distinct found
+
+-- of no stock
+pub none_noted : (change : Change) (es : List (Symbol × StockSums)) → length es ≡ 0 → es ≡ noted_sides change es
+none_noted change [] none = refl
+none_noted change (e ∷ es) none = absurd (omega (arith, none))
+
+pub no_sums_set : (stock : Symbol) (change : StockSums → StockSums) (es : List (Symbol × StockSums)) → lookup (same_stock stock) es ≡ None
+    → es ≡ map (λ (e : Symbol × StockSums). (e.0, cond (same_stock stock e.0) (change e.1) e.1)) es
+no_sums_set stock change es none = absent same_stock stock_is stock change es none
 
 left_false : (a b : Bool) → (a || b) ≡ false → a ≡ false
 left_false true b h = h
@@ -97,28 +111,33 @@ none_before same symm (x ∷ xs) (suc i) d distinct within =
     ap (λ b. b || list_any (same (get_or xs i d)) (take i xs)) here
     ∙ none_before same symm xs i d (right_true (not (list_any (same x) xs)) (are_distinct same xs) distinct) (omega (arith, within))
 
-price_last : (before : List Stock) (s : Stock) → list_any (λ (b : Stock). same_stock s.name b.name) before ≡ false
-    → insert_entry same_stock (reference_prices before) s.name s.reference ≡ reference_prices before ++ (s.name, s.reference) ∷ []
-price_last [] s none = refl
-price_last (b ∷ before) s none =
-    let others = list_any (λ (b : Stock). same_stock s.name b.name) before in
-    ap (λ t. cond t ((b.name, s.reference) ∷ reference_prices before) ((b.name, b.reference) ∷ insert_entry same_stock (reference_prices before) s.name s.reference)) (left_false (same_stock s.name b.name) others none)
-    ∙ ap (λ l. (b.name, b.reference) ∷ l) (price_last before s (right_false (same_stock s.name b.name) others none))
+module _ {V : Type 0} (value : Stock → V) where
+  -- each stock with its value
+  abbrev pub valued : List Stock → List (Symbol × V)
+  valued stocks = map (λ (s : Stock). (s.name, value s)) stocks
 
-map_last : (before : List Stock) (s : Stock) → reference_prices before ++ (s.name, s.reference) ∷ [] ≡ reference_prices (before ++ s ∷ [])
-map_last [] s = refl
-map_last (b ∷ before) s = ap (λ l. (b.name, b.reference) ∷ l) (map_last before s)
+  value_last : (before : List Stock) (s : Stock) → list_any (λ (b : Stock). same_stock s.name b.name) before ≡ false
+      → insert_entry same_stock (valued before) s.name (value s) ≡ valued before ++ (s.name, value s) ∷ []
+  value_last [] s none = refl
+  value_last (b ∷ before) s none =
+      let others = list_any (λ (b : Stock). same_stock s.name b.name) before in
+      ap (λ t. cond t ((b.name, value s) ∷ valued before) ((b.name, value b) ∷ insert_entry same_stock (valued before) s.name (value s))) (left_false (same_stock s.name b.name) others none)
+      ∙ ap (λ l. (b.name, value b) ∷ l) (value_last before s (right_false (same_stock s.name b.name) others none))
 
--- the next of the stocks goes last
-pub next_price : (stocks : List Stock) (es : List (Symbol × ℕ)) (i : ℕ) (s d : Stock) → names_differ stocks ≡ true → i < length stocks → es ≡ reference_prices (take i stocks)
-    → s ≡ get_or stocks i d → insert_entry same_stock es s.name s.reference ≡ reference_prices (take (i + 1) stocks)
-next_price stocks es i s d differ within so_far is =
-    let same : Stock → Stock → Bool = λ (a b : Stock). same_stock a.name b.name in
-    let none : list_any (same s) (take i stocks) ≡ false = ap (λ (x : Stock). list_any (same x) (take i stocks)) is ∙ none_before same (λ a b. nat_list_eq_equiv.symm a.name.bytes b.name.bytes) stocks i d differ within in
-    ap (λ l. insert_entry same_stock l s.name s.reference) so_far
-    ∙ price_last (take i stocks) s none
-    ∙ map_last (take i stocks) s
-    ∙ ap reference_prices (ap (λ x. take i stocks ++ x ∷ []) is ∙ sym (take_more stocks i d within))
+  map_last : (before : List Stock) (s : Stock) → valued before ++ (s.name, value s) ∷ [] ≡ valued (before ++ s ∷ [])
+  map_last [] s = refl
+  map_last (b ∷ before) s = ap (λ l. (b.name, value b) ∷ l) (map_last before s)
+
+  -- the next of the stocks goes last
+  pub next_value : (stocks : List Stock) (es : List (Symbol × V)) (i : ℕ) (s d : Stock) → names_differ stocks ≡ true → i < length stocks → es ≡ valued (take i stocks)
+      → s ≡ get_or stocks i d → insert_entry same_stock es s.name (value s) ≡ valued (take (i + 1) stocks)
+  next_value stocks es i s d differ within so_far is =
+      let same : Stock → Stock → Bool = λ (a b : Stock). same_stock a.name b.name in
+      let none : list_any (same s) (take i stocks) ≡ false = ap (λ (x : Stock). list_any (same x) (take i stocks)) is ∙ none_before same (λ a b. nat_list_eq_equiv.symm a.name.bytes b.name.bytes) stocks i d differ within in
+      ap (λ l. insert_entry same_stock l s.name (value s)) so_far
+      ∙ value_last (take i stocks) s none
+      ∙ map_last (take i stocks) s
+      ∙ ap valued (ap (λ x. take i stocks ++ x ∷ []) is ∙ sym (take_more stocks i d within))
 
 name_last : (before : List Account) (a : Account) → list_any (λ (b : Account). same_account a.name b.name) before ≡ false
     → insert_key same_account (account_names before) a.name ≡ account_names (before ++ a ∷ [])

@@ -9,7 +9,7 @@ use Rattle.gx_units.specs.Money.{value}
 use Rattle.gx_history.specs.declared.policy.PolicyData.{PolicyData}
 use Rattle.gx_history.specs.Effects.{with_left, without}
 use Rattle.gx_history.specs.Executions.{Standing, standing_numbered}
-use Rattle.gx_history.specs.Figures.{Positions, live_shares, live_value}
+use Rattle.gx_history.specs.Figures.{Positions, live_shares, live_value, of_accounts}
 use Rattle.gx_history.specs.Orders.{ends_account}
 use Rattle.gx_effects.specs.OneMore as ones
 use Rattle.gx_effects.specs.OneMore.{not_ended}
@@ -17,7 +17,7 @@ use Rattle.gx_effects.proofs.Lessening.{filter_agrees}
 use Rattle.gx_history_laws.proofs.Pushing.{all_before}
 use Rattle.gx_positions.specs.Changing.{positions_with}
 use Rattle.gx_positions.specs.Sound.{AreSound, IsListed, IsLive, MayCome, anyone, numbers_of}
-use Rattle.gx_positions.proofs.Sums.{as_shares, live_shares_are, live_value_are, open_of, sum_filtered}
+use Rattle.gx_positions.proofs.Sums.{as_shares, live_value_are, open_are, open_of, sum_filtered}
 use Rattle.gx_ledger.specs.declared.placed.OpenOrder.{OpenOrder}
 use Rattle.gx_ledger.specs.Following.{AllAreEnded, EndedThenAccepted, NoneCloses, OneMoreCloses, all_closed, closed, numbers}
 use Rattle.gx_ledger.specs.StandsFor.{IsHeld, StandsFor}
@@ -78,14 +78,14 @@ sound_filtered policy held q sound = record {
   where
     fewer_shares : live_shares held.standings anyone < 2 ^ 128 → live_shares (filter q held.standings) anyone < 2 ^ 128
     fewer_shares fit =
-        let few = sum_filtered anyone (open_of as_shares) q held.standings in
-        let left = live_shares_are (filter q held.standings) anyone in
-        let all = live_shares_are held.standings anyone in
+        let few = sum_filtered (of_accounts anyone) (open_of as_shares) q held.standings in
+        let left = open_are (filter q held.standings) (of_accounts anyone) in
+        let all = open_are held.standings (of_accounts anyone) in
         omega (arith, fit, few, left, all)
 
     less_value : live_value held.standings anyone < 2 ^ 128 → live_value (filter q held.standings) anyone < 2 ^ 128
     less_value fit =
-        let few = sum_filtered anyone (open_of value) q held.standings in
+        let few = sum_filtered (of_accounts anyone) (open_of value) q held.standings in
         let left = live_value_are (filter q held.standings) anyone in
         let all = live_value_are held.standings anyone in
         omega (arith, fit, few, left, all)
@@ -130,6 +130,7 @@ still_held policy held x o sound differ is = record {
   standing = is.standing;
   is_found = ap (λ (p : Positions). standing_numbered p.standings o.order) (closed_is policy held x sound) ∙ other_found x.order o.order held.standings differ ∙ is.is_found;
   account = is.account;
+  side = is.side;
   stock = is.stock;
   price = is.price;
   open_shares = is.open_shares;

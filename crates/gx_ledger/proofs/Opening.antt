@@ -8,26 +8,26 @@ use Rattle.circular_buffer.specs.Buffer.{buffer}
 use Rattle.gx_units.specs.Names.{same_account, same_stock}
 use Rattle.gx_units.specs.declared.names.AccountName.{AccountName}
 use Rattle.gx_history.specs.declared.policy.Account.{Account}
+use Rattle.gx_history.specs.declared.facts.StockSide.{StockSide}
 use Rattle.gx_history.specs.declared.policy.Count.{Count}
 use Rattle.gx_history.specs.declared.policy.Count.TheVariants as counts
 use Rattle.gx_history.specs.declared.policy.FileRule.{FileRule}
 use Rattle.gx_history.specs.declared.policy.PolicyData.{PolicyData}
 use Rattle.gx_history.specs.declared.policy.Scope.{Scope}
 use Rattle.gx_history.specs.declared.policy.Stock.{Stock}
-use Rattle.gx_history.specs.Figures.{reference}
+use Rattle.gx_history.specs.Figures.{of_accounts, on_side, reference}
 use Rattle.gx_history.specs.Lists.{are_distinct}
 use Rattle.gx_history.specs.People.{covers, stock_named}
 use Rattle.gx_history.specs.Soundness.{is_sound}
 use Rattle.gx_history_laws.proofs.Judging.{both}
 use Rattle.gx_history_laws.proofs.Names.{accounts_differ as accounts_apart}
-use Rattle.gx_history_laws.proofs.NextFigures.{done_shares_none, done_value_none, live_shares_none, live_value_none, reference_none}
+use Rattle.gx_history_laws.proofs.NextFigures.{done_none, done_value_none, live_value_none, open_none, reference_none}
 use Rattle.gx_positions.specs.Changing.{nothing}
 use Rattle.gx_ledger.specs.declared.tally.Asks.{Asks}
 use Rattle.gx_ledger.specs.Keeping.{account_names, reference_prices}
-use Rattle.gx_ledger.specs.Running.{new_group}
-use Rattle.gx_ledger.specs.StandsFor.{StandsFor, group_of, members_of, prices_of, tally_of, total_of}
+use Rattle.gx_ledger.specs.StandsFor.{StandsFor, group_of, members_of, prices_of, side_sums_of, tally_of, total_of}
 use Rattle.gx_ledger.specs.Tables.{accounts_differ, names_differ}
-use Rattle.gx_ledger.specs.Tallies.{asks_of, count_of, new_groups, new_tally, room_for_enters, room_for_moments}
+use Rattle.gx_ledger.specs.Tallies.{asked_group, asks_of, count_of, new_groups, new_tally, room_for_enters, room_for_moments, stocks_for}
 use Rattle.gx_ledger.proofs.Counting.{left_none, right_true}
 
 -- no two stocks of the policy have one name
@@ -87,40 +87,45 @@ none_left : {X : Type 0} (n : ℕ) → drop {A = X} n [] ≡ []
 none_left zero = refl
 none_left (suc n) = refl
 
-new_group_is : (asked : Asks) (among : AccountName → Bool) → new_group (room_for_moments asked) (room_for_enters asked) ≡ group_of asked (total_of nothing among)
-new_group_is asked among = λ i. record {
-  sums = record { live_shares = sym (live_shares_none among) i; live_value = sym (live_value_none among) i; done_shares = sym (done_shares_none among) i; done_value = sym (done_value_none among) i };
+no_side_is : (among : AccountName → Bool) (side : StockSide) → record { live = 0; done = 0 } ≡ side_sums_of nothing among side.stock side.buys
+no_side_is among side = λ i. record { live = sym (open_none (on_side among side)) i; done = sym (done_none (on_side among side)) i }
+
+new_group_is : (stocks : List Stock) (asked : Asks) (among : AccountName → Bool) → asked_group asked stocks ≡ group_of stocks asked (total_of nothing among)
+new_group_is stocks asked among = λ i. record {
+  sums = record { live_shares = sym (open_none (of_accounts among)) i; live_value = sym (live_value_none among) i; done_shares = sym (done_none (of_accounts among)) i; done_value = sym (done_value_none among) i };
   moments = buffer (sym (none_left (0 - room_for_moments asked)) i) (room_for_moments asked);
   enters = buffer (sym (none_left (0 - room_for_enters asked)) i) (room_for_enters asked);
+  sides = map (λ (s : Stock). (s.name, record { buys = no_side_is among (record { stock = s.name; buys = true }) i; sells = no_side_is among (record { stock = s.name; buys = false }) i })) (stocks_for asked stocks);
 }
 
-new_groups_are : (count : Option Count) (asked : Asks) (scope : Scope) (accounts : List Account)
-    → new_groups count asked accounts ≡ map (λ (among : AccountName → Bool). group_of asked (total_of nothing among)) (members_of count scope (account_names accounts))
-new_groups_are None asked scope accounts = refl
-new_groups_are (Some counts.Together) asked scope accounts = ap (λ g. g ∷ []) (new_group_is asked (covers scope))
-new_groups_are (Some counts.Each) asked scope [] = refl
-new_groups_are (Some counts.Each) asked scope (a ∷ accounts) =
-    λ i. new_group_is asked (λ account. covers scope account && same_account a.name account) i ∷ new_groups_are (Some counts.Each) asked scope accounts i
+new_groups_are : (stocks : List Stock) (count : Option Count) (asked : Asks) (scope : Scope) (accounts : List Account)
+    → new_groups count asked accounts stocks ≡ map (λ (among : AccountName → Bool). group_of stocks asked (total_of nothing among)) (members_of count scope (account_names accounts))
+new_groups_are stocks None asked scope accounts = refl
+new_groups_are stocks (Some counts.Together) asked scope accounts = ap (λ g. g ∷ []) (new_group_is stocks asked (covers scope))
+new_groups_are stocks (Some counts.Each) asked scope [] = refl
+new_groups_are stocks (Some counts.Each) asked scope (a ∷ accounts) =
+    λ i. new_group_is stocks asked (λ account. covers scope account && same_account a.name account) i ∷ new_groups_are stocks (Some counts.Each) asked scope accounts i
 
-new_tallies_are : (accounts : List Account) (rules : List FileRule) → map (new_tally accounts) rules ≡ map (tally_of (account_names accounts) (total_of nothing)) rules
-new_tallies_are accounts [] = refl
-new_tallies_are accounts (rule ∷ rules) =
+new_tallies_are : (stocks : List Stock) (accounts : List Account) (rules : List FileRule) → map (new_tally accounts stocks) rules ≡ map (tally_of stocks (account_names accounts) (total_of nothing)) rules
+new_tallies_are stocks accounts [] = refl
+new_tallies_are stocks accounts (rule ∷ rules) =
     λ i. record {
       scope = rule.scope;
       asks = asks_of rule.kind;
       count = count_of rule.kind;
-      groups = new_groups_are (count_of rule.kind) (asks_of rule.kind) rule.scope accounts i;
-    } ∷ new_tallies_are accounts rules i
+      groups = new_groups_are stocks (count_of rule.kind) (asks_of rule.kind) rule.scope accounts i;
+    } ∷ new_tallies_are stocks accounts rules i
 
 -- a new ledger stands for nothing
 pub opened_stands : (policy : PolicyData) → is_sound policy ≡ true
-    → StandsFor policy (record { accounts = account_names policy.accounts; prices = reference_prices policy.stocks; tallies = map (new_tally policy.accounts) policy.rules }) nothing
+    → StandsFor policy (record { accounts = account_names policy.accounts; prices = reference_prices policy.stocks; tallies = map (new_tally policy.accounts policy.stocks) policy.rules }) nothing
 opened_stands policy sound = record {
   accounts = refl;
   accounts_differ = distinct_names policy.accounts (accounts_apart policy sound);
   prices = first_prices policy (sound_stocks policy sound);
   unlisted = λ stock other. reference_none policy stock ∙ none_named (stock_named policy stock) other;
-  tallies = new_tallies_are policy.accounts policy.rules;
+  all_made = tt;
+  tallies = new_tallies_are policy.stocks policy.accounts policy.rules;
 }
   where
     none_named : (found : Option Stock) → is_some found ≡ false → option_map_or (λ (s : Stock). s.reference) found 0 ≡ 0

@@ -5,22 +5,25 @@ use Rattle.std.specs.List.{IsDistinct, filter}
 use Rattle.std.proofs.lemmas.List.{append-nil, map-append}
 use Rattle.std.proofs.lemmas.List.Elements.{filter-append}
 use Rattle.gx_units.specs.Money.{value}
+use Rattle.gx_units.specs.Names.{same_stock}
 use Rattle.gx_units.specs.declared.names.AccountName.{AccountName}
+use Rattle.gx_units.specs.declared.names.Symbol.{Symbol}
 use Rattle.gx_units.specs.declared.names.Token.{Token}
+use Rattle.gx_history.specs.declared.facts.StockSide.{StockSide}
 use Rattle.gx_history.specs.Executions.{Execution, Standing}
-use Rattle.gx_history.specs.Figures.{Positions, live_shares, live_value, done_shares, done_value}
+use Rattle.gx_history.specs.Figures.{Positions, done_of_chosen, done_shares, done_value, is_on, live_shares, live_value, of_accounts, on_side, open_of_chosen, side_done, side_live}
 use Rattle.gx_history.specs.Orders.{Order}
 use Rattle.gx_effects.specs.OneMore as ones
 use Rattle.gx_positions.specs.Changing.{positions_with}
 use Rattle.gx_positions.specs.Sound.{MayLeave, SumsFit, anyone, numbers_of}
-use Rattle.gx_positions.proofs.Sums.{as_shares, done_shares_are, done_value_are, live_shares_are, live_value_are, open_of, shares_added, shares_when_left, sum_where, value_added, value_when_left}
+use Rattle.gx_positions.proofs.Sums.{as_shares, done_are, done_value_are, live_value_are, open_are, open_of, shares_added, shares_when_left, sum_where, value_added, value_when_left}
 use Rattle.gx_ledger.specs.declared.placed.Change.TheVariants as changes
 use Rattle.gx_ledger.specs.declared.placed.OpenOrder.{OpenOrder}
 use Rattle.gx_ledger.specs.declared.placed.Placed.{Placed}
 use Rattle.gx_ledger.specs.Keeping.{part}
-use Rattle.gx_ledger.specs.Running.{capped, entered_as, open_when_placed}
-use Rattle.gx_ledger.specs.StandsFor.{IsHeld, IsPlaced, entered_of, enters_of, moments_of, total_of}
-use Rattle.gx_ledger.proofs.Counting.{changed_total, totals_after}
+use Rattle.gx_ledger.specs.Running.{capped, changed_side, entered_as, open_when_placed}
+use Rattle.gx_ledger.specs.StandsFor.{IsHeld, IsPlaced, entered_of, enters_of, moments_of, side_sums_of, total_of}
+use Rattle.gx_ledger.proofs.Counting.{changed_total, changes_side, sides_after, totals_after}
 
 -- a sum over some is at most that over all
 at_most_all : {X : Type 0} (p : X → Bool) (m : X → ℕ) (xs : List X) → sum_where p m xs ≤ sum_where (λ x. true) m xs
@@ -31,11 +34,12 @@ at_most_all p m (x ∷ xs) = by (p x) (at_most_all p m xs)
     by true deeper = omega (arith, deeper)
     by false deeper = omega (arith, deeper)
 
-live_shares_fit : (ss : List Standing) (among : AccountName → Bool) → live_shares ss among ≤ live_shares ss anyone
-live_shares_fit ss among =
-    let few = at_most_all (λ (s : Standing). among s.order.account) (open_of as_shares) ss in
-    let some = live_shares_are ss among in
-    let all = live_shares_are ss anyone in
+-- a sum over chosen orders is at most that over all
+open_fit : (ss : List Standing) (chosen : Order → Bool) → open_of_chosen ss chosen ≤ live_shares ss anyone
+open_fit ss chosen =
+    let few = at_most_all (λ (s : Standing). chosen s.order) (open_of as_shares) ss in
+    let some = open_are ss chosen in
+    let all = open_are ss (of_accounts anyone) in
     omega (arith, few, some, all)
 
 live_value_fit : (ss : List Standing) (among : AccountName → Bool) → live_value ss among ≤ live_value ss anyone
@@ -45,11 +49,11 @@ live_value_fit ss among =
     let all = live_value_are ss anyone in
     omega (arith, few, some, all)
 
-pub done_shares_fit : (made : List Execution) (among : AccountName → Bool) → done_shares made among ≤ done_shares made anyone
-done_shares_fit made among =
-    let few = at_most_all (λ (e : Execution). among e.order.account) (λ (e : Execution). e.fill.shares) made in
-    let some = done_shares_are made among in
-    let all = done_shares_are made anyone in
+pub done_fit : (made : List Execution) (chosen : Order → Bool) → done_of_chosen made chosen ≤ done_shares made anyone
+done_fit made chosen =
+    let few = at_most_all (λ (e : Execution). chosen e.order) (λ (e : Execution). e.fill.shares) made in
+    let some = done_are made chosen in
+    let all = done_are made (of_accounts anyone) in
     omega (arith, few, some, all)
 
 pub done_value_fit : (made : List Execution) (among : AccountName → Bool) → done_value made among ≤ done_value made anyone
@@ -68,6 +72,11 @@ uncut_twice before more after whole is most fits = omega (arith, is, most, fits)
 
 no_rise : (before after : ℕ) → after ≡ before + 0 → before ≡ after
 no_rise before after is = omega (arith, is)
+
+-- tests one after another
+pub and_again : (a b c : Bool) → (a && b && c) ≡ (a && (b && c))
+and_again true b c = refl
+and_again false b c = refl
 
 -- one more of those that pass
 chosen_more : {X Y : Type 0} (f : X → Y) (p : X → Bool) (xs : List X) (x : X) → map f (filter p (xs ++ x ∷ [])) ≡ cond (p x) (map f (filter p xs) ++ f x ∷ []) (map f (filter p xs))
@@ -110,21 +119,51 @@ module _ (held : Positions) (placed : Placed) (s : Standing) (is : IsPlaced plac
   accepted_total = by (among placed.account) (ap among is.account)
     where
       shares : (b : Bool) → among s.order.account ≡ b → live_shares more.standings among ≡ live_shares held.standings among + cond b (open_when_placed placed) 0
-      shares b h = shares_added among held.standings s ∙ (λ i. live_shares held.standings among + cond (h i) (is.open_shares i) 0)
+      shares b h = shares_added (of_accounts among) held.standings s ∙ (λ i. live_shares held.standings among + cond (h i) (is.open_shares i) 0)
 
       values : (b : Bool) → among s.order.account ≡ b → live_value more.standings among ≡ live_value held.standings among + cond b (value (open_when_placed placed) placed.price) 0
       values b h = value_added among held.standings s ∙ (λ i. live_value held.standings among + cond (h i) (value (is.open_shares i) (is.price i)) 0)
 
+      -- an order that is there, of these accounts or not
+      is_there : (b : Bool) → among s.order.account ≡ b → (stock : Symbol) (buys : Bool) → on_side among (record { stock = stock; buys = buys }) s.order ≡ (b && changes_side (changes.Accepted placed) stock buys)
+      is_there b h stock buys = (λ i. h i && same_stock (is.stock i) stock && is_on buys (is.side i)) ∙ and_again b (same_stock placed.stock stock) (is_on buys placed.side)
+
+      side_added : (b : Bool) → among s.order.account ≡ b → (stock : Symbol) (buys : Bool)
+          → side_live more.standings among (record { stock = stock; buys = buys }) ≡ side_live held.standings among (record { stock = stock; buys = buys }) + cond (b && changes_side (changes.Accepted placed) stock buys) (open_when_placed placed) 0
+      side_added b h stock buys =
+          let side : StockSide = record { stock = stock; buys = buys } in
+          shares_added (on_side among side) held.standings s ∙ (λ i. side_live held.standings among side + cond (is_there b h stock buys i) (is.open_shares i) 0)
+
+      sides_true : among s.order.account ≡ true → (stock : Symbol) (buys : Bool) → sides_after (changes.Accepted placed) (side_sums_of held among) stock buys ≡ side_sums_of more among stock buys
+      sides_true h stock buys = at (changes_side (changes.Accepted placed) stock buys) (side_added true h stock buys)
+        where
+          side : StockSide
+          side = record { stock = stock; buys = buys }
+
+          at : (c : Bool) → side_live more.standings among side ≡ side_live held.standings among side + cond c (open_when_placed placed) 0
+              → cond c (changed_side (changes.Accepted placed) (side_sums_of held among stock buys)) (side_sums_of held among stock buys) ≡ side_sums_of more among stock buys
+          at true e = λ i. record {
+            live = uncut (side_live held.standings among side) (open_when_placed placed) (side_live more.standings among side) (live_shares more.standings anyone) e (open_fit more.standings (on_side among side)) fit.live_shares i;
+            done = side_done held.executions among side;
+          }
+          at false e = λ i. record { live = no_rise (side_live held.standings among side) (side_live more.standings among side) e i; done = side_done held.executions among side }
+
+      sides_false : among s.order.account ≡ false → (stock : Symbol) (buys : Bool) → side_sums_of held among stock buys ≡ side_sums_of more among stock buys
+      sides_false h stock buys =
+          let side : StockSide = record { stock = stock; buys = buys } in
+          λ i. record { live = no_rise (side_live held.standings among side) (side_live more.standings among side) (side_added false h stock buys) i; done = side_done held.executions among side }
+
       by : (b : Bool) → among s.order.account ≡ b → cond b (changed_total (changes.Accepted placed) (total_of held among)) (total_of held among) ≡ total_of more among
       by true h = λ i. record {
         sums = record {
-          live_shares = uncut (live_shares held.standings among) (open_when_placed placed) (live_shares more.standings among) (live_shares more.standings anyone) (shares true h) (live_shares_fit more.standings among) fit.live_shares i;
+          live_shares = uncut (live_shares held.standings among) (open_when_placed placed) (live_shares more.standings among) (live_shares more.standings anyone) (shares true h) (open_fit more.standings (of_accounts among)) fit.live_shares i;
           live_value = uncut (live_value held.standings among) (value (open_when_placed placed) placed.price) (live_value more.standings among) (live_value more.standings anyone) (values true h) (live_value_fit more.standings among) fit.live_value i;
           done_shares = done_shares held.executions among;
           done_value = done_value held.executions among;
         };
         moments = sym (moments_are true h) i;
         enters = sym (enters_are true h) i;
+        sides = λ stock buys. sides_true h stock buys i;
       }
       by false h = λ i. record {
         sums = record {
@@ -135,6 +174,7 @@ module _ (held : Positions) (placed : Placed) (s : Standing) (is : IsPlaced plac
         };
         moments = sym (moments_are false h) i;
         enters = sym (enters_are false h) i;
+        sides = λ stock buys. sides_false h stock buys i;
       }
 
 fall_by : (before after less : ℕ) → after + less ≡ before → before - less ≡ after
@@ -158,11 +198,39 @@ left_total held o shares left differ is less among = by (among o.account) (ap am
     lost = omega (arith, less, is.open_shares)
 
     of_shares : (b : Bool) → among s.order.account ≡ b → live_shares (positions_with (ones.Leaves o.order left) held).standings among + cond b shares 0 ≡ live_shares held.standings among
-    of_shares b h = (λ i. live_shares (positions_with (ones.Leaves o.order left) held).standings among + cond (sym h i) (sym lost i) 0) ∙ shares_when_left among held o.order left differ may
+    of_shares b h = (λ i. live_shares (positions_with (ones.Leaves o.order left) held).standings among + cond (sym h i) (sym lost i) 0) ∙ shares_when_left (of_accounts among) held o.order left differ may
 
     of_values : (b : Bool) → among s.order.account ≡ b → live_value (positions_with (ones.Leaves o.order left) held).standings among + cond b (value shares o.price) 0 ≡ live_value held.standings among
     of_values b h =
         (λ i. live_value (positions_with (ones.Leaves o.order left) held).standings among + cond (sym h i) (value (sym lost i) (sym is.price i)) 0) ∙ value_when_left among held o.order left differ may
+
+    is_there : (b : Bool) → among s.order.account ≡ b → (stock : Symbol) (buys : Bool) → on_side among (record { stock = stock; buys = buys }) s.order ≡ (b && changes_side (changes.Left (part o shares o.price)) stock buys)
+    is_there b h stock buys = (λ i. h i && same_stock (is.stock i) stock && is_on buys (is.side i)) ∙ and_again b (same_stock o.stock stock) (is_on buys o.side)
+
+    after : Positions
+    after = positions_with (ones.Leaves o.order left) held
+
+    side_left : (b : Bool) → among s.order.account ≡ b → (stock : Symbol) (buys : Bool)
+        → side_live after.standings among (record { stock = stock; buys = buys }) + cond (b && changes_side (changes.Left (part o shares o.price)) stock buys) shares 0 ≡ side_live held.standings among (record { stock = stock; buys = buys })
+    side_left b h stock buys =
+        let side : StockSide = record { stock = stock; buys = buys } in
+        (λ i. side_live after.standings among side + cond (sym (is_there b h stock buys) i) (sym lost i) 0) ∙ shares_when_left (on_side among side) held o.order left differ may
+
+    sides_true : among s.order.account ≡ true → (stock : Symbol) (buys : Bool) → sides_after (changes.Left (part o shares o.price)) (side_sums_of held among) stock buys ≡ side_sums_of after among stock buys
+    sides_true h stock buys = at (changes_side (changes.Left (part o shares o.price)) stock buys) (side_left true h stock buys)
+      where
+        side : StockSide
+        side = record { stock = stock; buys = buys }
+
+        at : (c : Bool) → side_live after.standings among side + cond c shares 0 ≡ side_live held.standings among side
+            → cond c (changed_side (changes.Left (part o shares o.price)) (side_sums_of held among stock buys)) (side_sums_of held among stock buys) ≡ side_sums_of after among stock buys
+        at true e = λ i. record { live = fall_by (side_live held.standings among side) (side_live after.standings among side) shares e i; done = side_done held.executions among side }
+        at false e = λ i. record { live = no_fall (side_live held.standings among side) (side_live after.standings among side) e i; done = side_done held.executions among side }
+
+    sides_false : among s.order.account ≡ false → (stock : Symbol) (buys : Bool) → side_sums_of held among stock buys ≡ side_sums_of after among stock buys
+    sides_false h stock buys =
+        let side : StockSide = record { stock = stock; buys = buys } in
+        λ i. record { live = no_fall (side_live held.standings among side) (side_live after.standings among side) (side_left false h stock buys) i; done = side_done held.executions among side }
 
     by : (b : Bool) → among s.order.account ≡ b
         → cond b (changed_total (changes.Left (part o shares o.price)) (total_of held among)) (total_of held among) ≡ total_of (positions_with (ones.Leaves o.order left) held) among
@@ -175,6 +243,7 @@ left_total held o shares left differ is less among = by (among o.account) (ap am
       };
       moments = moments_of held.grants among;
       enters = enters_of held.grants among;
+      sides = λ stock buys. sides_true h stock buys i;
     }
     by false h = λ i. record {
       sums = record {
@@ -185,4 +254,5 @@ left_total held o shares left differ is less among = by (among o.account) (ap am
       };
       moments = moments_of held.grants among;
       enters = enters_of held.grants among;
+      sides = λ stock buys. sides_false h stock buys i;
     }

@@ -6,10 +6,12 @@ use Rattle.gx_units.specs.Names.{same_account, same_stock}
 use Rattle.gx_units.specs.declared.names.AccountName.{AccountName}
 use Rattle.gx_units.specs.declared.names.Symbol.{Symbol}
 use Rattle.gx_history.specs.declared.facts.NamedOrder.{NamedOrder}
+use Rattle.gx_history.specs.declared.facts.StockSide.{StockSide}
 use Rattle.gx_history.specs.declared.policy.Account.{Account}
 use Rattle.gx_history.specs.declared.policy.Stock.{Stock}
 use Rattle.gx_history.specs.declared.record.Request.{Request}
 use Rattle.gx_history.specs.declared.record.Request.TheVariants as requests
+use Rattle.gx_history.specs.Book.{is_buy}
 use Rattle.gx_ledger.specs.declared.placed.Change.{Change}
 use Rattle.gx_ledger.specs.declared.placed.Change.TheVariants as changes
 use Rattle.gx_ledger.specs.declared.placed.OpenOrder.{OpenOrder}
@@ -61,7 +63,7 @@ kept_noted change k = record {
 
 -- shares of the order, at this price
 abbrev pub part : OpenOrder → ℕ → ℕ → Part
-part o shares price = record { account = o.account; shares = shares; price = price }
+part o shares price = record { account = o.account; side = o.side; stock = o.stock; shares = shares; price = price }
 
 -- some shares of the order were executed
 abbrev pub kept_executed : OpenOrder → ℕ → ℕ → Kept → Kept
@@ -75,6 +77,11 @@ with_price stock price k = record { accounts = k.accounts; prices = priced stock
 abbrev pub stock_wanted : Request → Option NamedOrder → Option Symbol
 stock_wanted (requests.Enter m) replaced = Some m.stock
 stock_wanted other replaced = option_map (λ (o : NamedOrder). o.stock) replaced
+
+-- the side of it that the Enter is for, or that the order is on
+abbrev pub side_wanted : Request → Option NamedOrder → Option StockSide
+side_wanted (requests.Enter m) replaced = Some (record { stock = m.stock; buys = is_buy m.side })
+side_wanted other replaced = option_map (λ (o : NamedOrder). record { stock = o.stock; buys = is_buy o.side }) replaced
 
 -- the last price of that stock
 abbrev pub reference_for : List (Symbol × ℕ) → Request → Option NamedOrder → ℕ

@@ -1,18 +1,24 @@
 -- Running figures, and what each change makes of them.
 use Rattle.std.specs.Option.{option_map_or}
-use Rattle.std.specs.Prelude.{ℕ, ◌+◌, ◌-◌, ◌^◌, Bool, true, false, ◌&&◌, ◌==◌, min, nat_lt, nat_le, List, [], ◌∷◌, ◌++◌, count_by, slice_get, Option, Some, None, if◌then◌else◌}
+use Rattle.std.specs.Prelude.{ℕ, ◌+◌, ◌-◌, ◌^◌, ℤ, pos, ◌-ℤ◌, Bool, true, false, ◌&&◌, ◌==◌, min, nat_lt, nat_le, List, [], ◌∷◌, ◌++◌, map, unwrap_or, count_by, slice_get, Option, Some, None, if◌then◌else◌}
 use Rattle.std.specs.List.{suffix_len}
+use Rattle.std.specs.Map.{lookup}
 use Rattle.circular_buffer.specs.Buffer.{Buffer, buffer, keep_last, last_item}
 use Rattle.gx_units.specs.Money.{value}
 use Rattle.gx_units.specs.Names.{same_stock}
 use Rattle.gx_units.specs.declared.names.AccountName.{AccountName}
+use Rattle.gx_units.specs.declared.names.Symbol.{Symbol}
+use Rattle.gx_history.specs.declared.policy.Stock.{Stock}
 use Rattle.gx_history.specs.declared.record.Request.{Request}
 use Rattle.gx_history.specs.declared.record.Request.TheVariants as requests
+use Rattle.gx_history.specs.Book.{is_buy}
 use Rattle.gx_ledger.specs.declared.group.Entered.{Entered}
 use Rattle.gx_ledger.specs.declared.group.Group.{Group}
 use Rattle.gx_ledger.specs.declared.placed.Change.{Change}
 use Rattle.gx_ledger.specs.declared.placed.Change.TheVariants as changes
 use Rattle.gx_ledger.specs.declared.placed.Placed.{Placed}
+use Rattle.gx_ledger.specs.declared.sides.SideSums.{SideSums}
+use Rattle.gx_ledger.specs.declared.sides.StockSums.{StockSums}
 use Rattle.gx_ledger.specs.declared.sums.Sums.{Sums}
 
 -- the number, or the greatest of 128 bits where it is past that
@@ -64,6 +70,7 @@ with_placed placed g = record {
   sums = with_live (open_when_placed placed) placed.price g.sums;
   moments = pushed placed.moment g.moments;
   enters = if placed.replacement then g.enters else pushed (entered_as placed) g.enters;
+  sides = g.sides;
 }
 
 -- the account whose order changes
@@ -72,18 +79,80 @@ account_changed (changes.Accepted placed) = placed.account
 account_changed (changes.Left part) = part.account
 account_changed (changes.Executed part) = part.account
 
+-- its stock
+abbrev pub stock_changed : Change → Symbol
+stock_changed (changes.Accepted placed) = placed.stock
+stock_changed (changes.Left part) = part.stock
+stock_changed (changes.Executed part) = part.stock
+
+-- its Buy/Sell Indicator
+abbrev pub side_changed : Change → ℕ
+side_changed (changes.Accepted placed) = placed.side
+side_changed (changes.Left part) = part.side
+side_changed (changes.Executed part) = part.side
+
+-- the sums of a side of a stock, once an order there has changed
+abbrev pub changed_side : Change → SideSums → SideSums
+changed_side (changes.Accepted placed) s = record { live = capped (s.live + open_when_placed placed); done = s.done }
+changed_side (changes.Left part) s = record { live = s.live - part.shares; done = s.done }
+changed_side (changes.Executed part) s = record { live = s.live; done = capped (s.done + part.shares) }
+
+-- the sums of a stock, once an order in it has changed
+abbrev pub changed_sides : Change → StockSums → StockSums
+changed_sides change s =
+    if is_buy (side_changed change)
+    then record { buys = changed_side change s.buys; sells = s.sells }
+    else record { buys = s.buys; sells = changed_side change s.sells }
+
+-- the sums of each stock then
+abbrev pub noted_sides : Change → List (Symbol × StockSums) → List (Symbol × StockSums)
+noted_sides change sides = map (λ (e : Symbol × StockSums). (e.0, if same_stock (stock_changed change) e.0 then changed_sides change e.1 else e.1)) sides
+
+-- of no order and no fill
+abbrev pub no_sides : StockSums
+no_sides = record { buys = record { live = 0; done = 0 }; sells = record { live = 0; done = 0 } }
+
+-- the sums of each stock before any order
+abbrev pub first_sides : List Stock → List (Symbol × StockSums)
+first_sides stocks = map (λ (s : Stock). (s.name, no_sides)) stocks
+
+-- the sums of the stock
+abbrev pub sides_at : List (Symbol × StockSums) → Symbol → StockSums
+sides_at sides stock = unwrap_or (lookup (same_stock stock) sides) no_sides
+
+-- those of buys, or of all others
+abbrev pub on_its_side : Bool → StockSums → SideSums
+on_its_side buys s = if buys then s.buys else s.sells
+
+-- the number, or the greatest of 127 bits where it is past that
+abbrev pub capped_signed : ℕ → ℕ
+capped_signed n = min n (2 ^ 127 - 1)
+
+-- what was executed on a side, less what was on the other
+abbrev pub net_of : ℕ → ℕ → ℤ
+net_of done other = pos (capped_signed done) -ℤ pos (capped_signed other)
+
+-- the group with its sums changed
+abbrev pub with_sums : Sums → Group → Group
+with_sums sums g = record { sums = sums; moments = g.moments; enters = g.enters; sides = g.sides }
+
+-- the group, its sides told of a change
+abbrev pub with_sides : Change → Group → Group
+with_sides change g = record { sums = g.sums; moments = g.moments; enters = g.enters; sides = noted_sides change g.sides }
+
 -- the group, once an order of its accounts changed
 abbrev pub changed_group : Change → Group → Group
-changed_group (changes.Accepted placed) g = with_placed placed g
-changed_group (changes.Left part) g = record { sums = without_live part.shares part.price g.sums; moments = g.moments; enters = g.enters }
-changed_group (changes.Executed part) g = record { sums = with_done part.shares part.price g.sums; moments = g.moments; enters = g.enters }
+changed_group (changes.Accepted placed) g = with_placed placed (with_sides (changes.Accepted placed) g)
+changed_group (changes.Left part) g = with_sums (without_live part.shares part.price g.sums) (with_sides (changes.Left part) g)
+changed_group (changes.Executed part) g = with_sums (with_done part.shares part.price g.sums) (with_sides (changes.Executed part) g)
 
--- a group before any order, with room for so many moments and Enters
-abbrev pub new_group : ℕ → ℕ → Group
-new_group moments enters = record {
+-- a group before any order, with room for so many moments and Enters, and with sums for these stocks
+abbrev pub new_group : ℕ → ℕ → List Stock → Group
+new_group moments enters stocks = record {
   sums = record { live_shares = 0; live_value = 0; done_shares = 0; done_value = 0 };
   moments = buffer [] moments;
   enters = buffer [] enters;
+  sides = first_sides stocks;
 }
 
 -- the moment lies less than the window back

@@ -1,6 +1,6 @@
 -- The relation between what a ledger keeps and the live orders, fills and grants that it stands for.
-use Rattle.std.specs.Prelude.{ℕ, ◌≡◌, ◌-◌, ◌≤◌, ◌&&◌, Bool, List, [], ◌∷◌, map, Option, Some, None, option_map, is_none, is_some, IsFalse, IsTrue}
-use Rattle.std.specs.List.{filter}
+use Rattle.std.specs.Prelude.{ℕ, ◌≡◌, ◌-◌, ◌≤◌, ◌&&◌, Bool, true, false, List, [], ◌∷◌, map, Option, Some, None, option_map, is_none, is_some, IsFalse, IsTrue}
+use Rattle.std.specs.List.{filter, AllByRecursion}
 use Rattle.circular_buffer.specs.Buffer.{Buffer, buffer}
 use Rattle.gx_units.specs.Names.{same_account}
 use Rattle.gx_units.specs.declared.names.AccountName.{AccountName}
@@ -14,8 +14,8 @@ use Rattle.gx_history.specs.declared.policy.Scope.{Scope}
 use Rattle.gx_history.specs.declared.policy.Stock.{Stock}
 use Rattle.gx_history.specs.declared.record.Fill.{Fill}
 use Rattle.gx_history.specs.declared.record.Request.{Request}
-use Rattle.gx_history.specs.Executions.{Standing, standing_numbered}
-use Rattle.gx_history.specs.Figures.{Positions, figures, live_shares, live_value, done_shares, done_value, reference}
+use Rattle.gx_history.specs.Executions.{Execution, Standing, standing_numbered}
+use Rattle.gx_history.specs.Figures.{Positions, figures, live_shares, live_value, done_shares, done_value, reference, side_done, side_live}
 use Rattle.gx_history.specs.Lists.{are_distinct, last_few}
 use Rattle.gx_history.specs.Orders.{Order}
 use Rattle.gx_history.specs.People.{account_named, covers, stock_named}
@@ -28,11 +28,13 @@ use Rattle.gx_ledger.specs.declared.group.Entered.{Entered}
 use Rattle.gx_ledger.specs.declared.group.Group.{Group}
 use Rattle.gx_ledger.specs.declared.placed.OpenOrder.{OpenOrder}
 use Rattle.gx_ledger.specs.declared.placed.Placed.{Placed}
+use Rattle.gx_ledger.specs.declared.sides.SideSums.{SideSums}
+use Rattle.gx_ledger.specs.declared.sides.StockSums.{StockSums}
 use Rattle.gx_ledger.specs.declared.sums.Sums.{Sums}
 use Rattle.gx_ledger.specs.declared.tally.Asks.{Asks}
 use Rattle.gx_ledger.specs.declared.tally.Tally.{Tally}
 use Rattle.gx_ledger.specs.Keeping.{Kept, account_names}
-use Rattle.gx_ledger.specs.Tallies.{asks_of, count_of, room_for_enters, room_for_moments}
+use Rattle.gx_ledger.specs.Tallies.{asks_of, count_of, room_for_enters, room_for_moments, stocks_for}
 use Rattle.gx_ledger.specs.Told.{Asking, figures_at}
 
 -- the sums over these accounts
@@ -42,6 +44,13 @@ sums_of held among = record {
   live_value = live_value held.standings among;
   done_shares = done_shares held.executions among;
   done_value = done_value held.executions among;
+}
+
+-- the sums over these accounts on one side of a stock
+abbrev pub side_sums_of : Positions → (AccountName → Bool) → Symbol → Bool → SideSums
+side_sums_of held among stock buys = record {
+  live = side_live held.standings among (record { stock = stock; buys = buys });
+  done = side_done held.executions among (record { stock = stock; buys = buys });
 }
 
 -- the moments of all orders of these accounts
@@ -62,21 +71,32 @@ pub record Total : Type 0 where
   -- of all orders
   pub moments : List ℕ
   pub enters : List Entered
+  -- by stock, and whether of its buys
+  pub sides : Symbol → Bool → SideSums
 
 -- what counts of these accounts
 abbrev pub total_of : Positions → (AccountName → Bool) → Total
-total_of held among = record { sums = sums_of held among; moments = moments_of held.grants among; enters = enters_of held.grants among }
+total_of held among = record { sums = sums_of held among; moments = moments_of held.grants among; enters = enters_of held.grants among; sides = side_sums_of held among }
 
 -- a ring of the last n
 abbrev pub ring : {X : Type 0} → ℕ → List X → Buffer X
 ring n xs = buffer (last_few n xs) n
 
+-- the sums of both sides of a stock
+abbrev pub both_sides : (Symbol → Bool → SideSums) → Symbol → StockSums
+both_sides sides stock = record { buys = sides stock true; sells = sides stock false }
+
+-- the sums of each of these stocks
+abbrev pub sides_of : (Symbol → Bool → SideSums) → List Stock → List (Symbol × StockSums)
+sides_of sides stocks = map (λ (s : Stock). (s.name, both_sides sides s.name)) stocks
+
 -- what a group of a rule keeps of that
-abbrev pub group_of : Asks → Total → Group
-group_of asked total = record {
+abbrev pub group_of : List Stock → Asks → Total → Group
+group_of stocks asked total = record {
   sums = total.sums;
   moments = ring (room_for_moments asked) total.moments;
   enters = ring (room_for_enters asked) total.enters;
+  sides = sides_of total.sides (stocks_for asked stocks);
 }
 
 -- the accounts of each group of a rule: one group for each account of the policy, or one for all in scope
@@ -86,17 +106,21 @@ members_of (Some counts.Each) scope accounts = map (λ (name : AccountName). λ 
 members_of (Some counts.Together) scope accounts = covers scope ∷ []
 
 -- what a rule counts
-abbrev pub tally_of : List AccountName → ((AccountName → Bool) → Total) → FileRule → Tally
-tally_of accounts totals rule = record {
+abbrev pub tally_of : List Stock → List AccountName → ((AccountName → Bool) → Total) → FileRule → Tally
+tally_of stocks accounts totals rule = record {
   scope = rule.scope;
   asks = asks_of rule.kind;
   count = count_of rule.kind;
-  groups = map (λ (among : AccountName → Bool). group_of (asks_of rule.kind) (totals among)) (members_of (count_of rule.kind) rule.scope accounts);
+  groups = map (λ (among : AccountName → Bool). group_of stocks (asks_of rule.kind) (totals among)) (members_of (count_of rule.kind) rule.scope accounts);
 }
 
 -- the price of each stock: that of its last fill, or the file's
 abbrev pub prices_of : PolicyData → Positions → List (Symbol × ℕ)
 prices_of policy held = map (λ (s : Stock). (s.name, reference policy held.executions s.name)) policy.stocks
+
+-- the fill was made in a stock of the policy
+abbrev pub IsMadeIn : PolicyData → Execution → Type 0
+IsMadeIn policy e = IsTrue (is_some (stock_named policy e.order.terms.stock))
 
 -- The ledger, opened on the policy, keeps the figures of these live orders, fills and grants.
 pub record StandsFor (policy : PolicyData) (k : Kept) (held : Positions) : Type 0 where
@@ -105,7 +129,8 @@ pub record StandsFor (policy : PolicyData) (k : Kept) (held : Positions) : Type 
   pub prices : k.prices ≡ prices_of policy held
   -- nothing was filled in any other stock
   pub unlisted : (stock : Symbol) → IsFalse (is_some (stock_named policy stock)) → reference policy held.executions stock ≡ 0
-  pub tallies : k.tallies ≡ map (tally_of k.accounts (total_of held)) policy.rules
+  pub all_made : AllByRecursion (IsMadeIn policy) held.executions
+  pub tallies : k.tallies ≡ map (tally_of policy.stocks k.accounts (total_of held)) policy.rules
 
 -- the order is the one that was handed in
 pub record IsPlaced (placed : Placed) (s : Standing) : Type 0 where
@@ -125,6 +150,7 @@ pub record IsHeld (held : Positions) (o : OpenOrder) : Type 0 where
   pub standing : Standing
   pub is_found : standing_numbered held.standings o.order ≡ Some standing
   pub account : standing.order.account ≡ o.account
+  pub side : standing.order.terms.side ≡ o.side
   pub stock : standing.order.terms.stock ≡ o.stock
   pub price : standing.order.terms.price ≡ o.price
   pub open_shares : standing.open_shares ≡ o.open_shares
@@ -164,10 +190,11 @@ Fills taker maker shares price old new =
     let f : Fill = record { taker = taker.order; maker = maker.order; shares = shares; price = price } in
     Carries old new (λ policy held. AreFilled held taker maker f) (ones.Fills f)
 
--- the live order that is named has this price, this stock and these open shares
+-- the live order that is named has this side, this stock, this price and these open shares
 pub record IsNamed (held : Positions) (o : NamedOrder) : Type 0 where
   pub standing : Standing
   pub is_found : standing_numbered held.standings o.order ≡ Some standing
+  pub side : standing.order.terms.side ≡ o.side
   pub stock : standing.order.terms.stock ≡ o.stock
   pub price : standing.order.terms.price ≡ o.price
   pub open_shares : standing.open_shares ≡ o.open_shares

@@ -1,14 +1,17 @@
 //! The running figures of a group of accounts.
 
-ghost use Rattle.std.specs.Prelude.{◌≡◌, count_by, IfOk};
+ghost use Rattle.std.specs.Prelude.{◌≡◌, count_by, IfOk, IsTrue};
 ghost use Rattle.gx_ledger.specs.Running.{alike_in, are_alike, asked_as, changed_group, entered_as};
 ghost use Rattle.gx_ledger.specs.Running.{new_group, with_placed};
+ghost use Rattle.gx_ledger.specs.Tables.{names_differ};
 
 use crate::alike::alike_among;
 use crate::moments::Moments;
 use crate::placed::{Change, Placed};
+use crate::sides::Sides;
 use crate::sums::Sums;
 use circular_buffer::HeapCircularBuffer;
+use gx_history::policy::Stock;
 use gx_history::record::Request;
 use gx_units::{OutOfMemory, Symbol};
 use std::alloc::Global;
@@ -32,6 +35,8 @@ pub struct Group {
     pub moments: Moments,
     /// The last granted Enters, as many as the rule's span.
     pub enters: HeapCircularBuffer<Entered>,
+    /// The sums of each side of a stock, where the rule asks for them.
+    pub sides: Sides,
 }
 
 fn entered_as(placed: &Placed) -> Entered
@@ -70,16 +75,25 @@ fn alike_in_ring(enters: &HeapCircularBuffer<Entered>, asked: &Entered) -> u64
 }
 
 impl Group {
-    /// A group with room for so many moments and Enters, and nothing in it.
-    pub fn new(alloc: Global, moments: usize, enters: usize) -> Result<Group, OutOfMemory>
-        ensures { IfOk result (λ group. group ≡ new_group moments enters) }
+    /// A group with room for so many moments and Enters and with sums for these stocks, and nothing
+    /// in it.
+    pub fn new(
+        alloc: Global,
+        moments: usize,
+        enters: usize,
+        stocks: &[Stock],
+    ) -> Result<Group, OutOfMemory>
+        requires { IsTrue (names_differ stocks.now) }
+        ensures { IfOk result (λ group. group ≡ new_group moments enters stocks.now) }
     {
         let moments = Moments::with_room(alloc, moments)?;
         let enters = HeapCircularBuffer::with_capacity(alloc, enters)?;
+        let sides = Sides::of(alloc, stocks)?;
         Ok(Group {
             sums: Sums::NONE,
             moments,
             enters,
+            sides,
         })
     }
 
@@ -97,6 +111,7 @@ impl Group {
     pub fn note(&mut self, change: &Change)
         ensures { self.new ≡ changed_group change.now self.old }
     {
+        self.sides.note(change);
         match change {
             Change::Accepted(placed) => self.accept(placed),
             Change::Left(part) => self.sums = self.sums.without_live(part.shares, part.price),

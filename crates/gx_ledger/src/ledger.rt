@@ -3,7 +3,7 @@
 ghost use Rattle.std.specs.Prelude.{◌≡◌, IfOk};
 ghost use Rattle.gx_positions.specs.Changing.{nothing};
 ghost use Rattle.gx_ledger.specs.Keeping.{account_place, kept_executed, kept_noted, part, price_of};
-ghost use Rattle.gx_ledger.specs.Keeping.{reference_for, with_price};
+ghost use Rattle.gx_ledger.specs.Keeping.{reference_for, side_wanted, with_price};
 ghost use Rattle.gx_ledger.specs.Running.{account_changed};
 ghost use Rattle.gx_ledger.specs.StandsFor.{Accepts, Closes, Cuts, Fills, GivesFigures, StandsFor};
 ghost use Rattle.gx_ledger.specs.Told.{figures_at};
@@ -12,7 +12,7 @@ use crate::placed::{Change, OpenOrder, Part, Placed};
 use crate::tables::{first_prices, first_tallies, names_of, note_in, note_in_all, set_price};
 use crate::tally::{Tally, Wanted};
 use crate::tally_places::{TallyPlaces, counting_by_account};
-use gx_history::facts::{NO_FIGURES, NamedOrder, RuleFigures, TellsFigures};
+use gx_history::facts::{NO_FIGURES, NamedOrder, RuleFigures, StockSide, TellsFigures};
 use gx_history::policy::Policy;
 use gx_history::record::Request;
 use gx_units::{AccountName, OutOfMemory, Symbol};
@@ -82,7 +82,7 @@ impl Ledger {
     pub fn new(alloc: Global, policy: &Policy) -> Result<Ledger, OutOfMemory>
         ensures stands { IfOk result (λ ledger. StandsFor policy.now ledger nothing) }
     {
-        let tallies = first_tallies(alloc, policy.rules(), policy.accounts())?;
+        let tallies = first_tallies(alloc, policy.rules(), policy.accounts(), policy.stocks())?;
         let accounts = names_of(alloc, policy.accounts())?;
         let prices = first_prices(alloc, policy.stocks())?;
         let counting = counting_by_account(alloc, tallies.as_slice(), policy.accounts())?;
@@ -139,6 +139,7 @@ impl Ledger {
             place: self.place(account),
             request: *request,
             replaced,
+            side: side_of(request, replaced),
             reference: self.reference(request, replaced),
             moment,
         };
@@ -210,12 +211,30 @@ impl Ledger {
     }
 }
 
+/// The side of the stock that an Enter is for, or that the order is on that would be replaced.
+fn side_of(request: &Request, replaced: Option<NamedOrder>) -> Option<StockSide>
+    ensures { result ≡ side_wanted request.now replaced }
+{
+    match request {
+        Request::Enter(m) => Some(StockSide {
+            stock: m.stock,
+            buys: m.side == b'B',
+        }),
+        _ => replaced.map(|order| StockSide {
+            stock: order.stock,
+            buys: order.side == b'B',
+        }),
+    }
+}
+
 /// So many shares of the order, at its price.
 fn part_of(order: &OpenOrder, shares: u32) -> Part
     ensures { result ≡ part order.now shares order.now.price }
 {
     Part {
         account: order.account,
+        side: order.side,
+        stock: order.stock,
         shares,
         price: order.price,
     }

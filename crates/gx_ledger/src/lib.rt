@@ -10,6 +10,7 @@ pub mod laws;
 pub mod ledger;
 mod moments;
 pub mod placed;
+mod sides;
 mod sums;
 mod tables;
 mod tally;

@@ -1,7 +1,9 @@
 //! What happens to orders.
 
 ghost use Rattle.std.specs.Prelude.{◌≡◌};
+ghost use Rattle.gx_history.specs.Book.{is_buy};
 ghost use Rattle.gx_ledger.specs.Running.{account_changed, open_when_placed};
+ghost use Rattle.gx_ledger.specs.Running.{side_changed, stock_changed};
 
 use gx_units::{AccountName, Symbol};
 
@@ -32,6 +34,8 @@ pub struct OpenOrder {
     /// The number of the record that granted it.
     pub order: u64,
     pub account: AccountName,
+    /// Buy/Sell Indicator.
+    pub side: u8,
     pub stock: Symbol,
     /// In ten-thousandths of a dollar.
     pub price: u32,
@@ -43,6 +47,9 @@ pub struct OpenOrder {
 #[derive(Clone, Copy)]
 pub struct Part {
     pub account: AccountName,
+    /// Buy/Sell Indicator.
+    pub side: u8,
+    pub stock: Symbol,
     pub shares: u32,
     /// In ten-thousandths of a dollar.
     pub price: u32,
@@ -78,6 +85,28 @@ impl Change {
             Change::Accepted(placed) => placed.account,
             Change::Left(part) => part.account,
             Change::Executed(part) => part.account,
+        }
+    }
+
+    /// The stock of the order.
+    pub fn stock(&self) -> Symbol
+        ensures { result ≡ stock_changed self.now }
+    {
+        match self {
+            Change::Accepted(placed) => placed.stock,
+            Change::Left(part) => part.stock,
+            Change::Executed(part) => part.stock,
+        }
+    }
+
+    /// Whether the order is a buy.
+    pub fn buys(&self) -> bool
+        ensures { result ≡ is_buy (side_changed self.now) }
+    {
+        match self {
+            Change::Accepted(placed) => placed.side == b'B',
+            Change::Left(part) => part.side == b'B',
+            Change::Executed(part) => part.side == b'B',
         }
     }
 }

@@ -80,12 +80,15 @@ pub fn first_tallies(
     alloc: Global,
     rules: &[FileRule],
     accounts: &[Account],
+    stocks: &[Stock],
 ) -> Result<Vec<Tally>, OutOfMemory>
-    ensures { IfOk result (λ tallies. tallies.items ≡ map (new_tally accounts.now) rules.now) }
+    requires { IsTrue (names_differ stocks.now) }
+    ensures { IfOk result
+        (λ tallies. tallies.items ≡ map (new_tally accounts.now stocks.now) rules.now) }
 {
     let mut tallies = Vec::new(alloc);
     for rule in rules {
-        tallies.push(Tally::new(alloc, rule, accounts)?)?;
+        tallies.push(Tally::new(alloc, rule, accounts, stocks)?)?;
     }
     Ok(tallies)
 }

@@ -1,19 +1,23 @@
 //! What one rule of the file counts.
 
-ghost use Rattle.std.specs.Prelude.{◌≡◌, [], ◌∷◌, map, option_copied, slice_get, IfOk};
+ghost use Rattle.std.specs.Prelude.{◌≡◌, [], ◌∷◌, map, option_copied, pos, slice_get, IfOk, IsTrue};
 ghost use Rattle.std.specs.Option.{option_map_or};
 ghost use Rattle.gx_units.specs.Money.{value};
 ghost use Rattle.gx_ledger.specs.Counts.{counts, tally_inside};
-ghost use Rattle.gx_ledger.specs.Running.{changed_group, new_group};
-ghost use Rattle.gx_ledger.specs.Tallies.{asks_of, changed_at, count_of, figures_of_group};
-ghost use Rattle.gx_ledger.specs.Tallies.{group_in, new_groups, new_tally, place_in};
+ghost use Rattle.gx_ledger.specs.Running.{changed_group};
+ghost use Rattle.gx_ledger.specs.Tables.{names_differ};
+ghost use Rattle.gx_ledger.specs.Tallies.{asked_group, asks_of, changed_at, count_of};
+ghost use Rattle.gx_ledger.specs.Tallies.{figures_of_group};
+ghost use Rattle.gx_ledger.specs.Tallies.{group_in, live_in, net_in, new_groups, new_tally};
+ghost use Rattle.gx_ledger.specs.Tallies.{place_in, stocks_for};
 ghost use Rattle.gx_ledger.specs.Tallies.{room_for_enters, room_for_moments, tally_after};
 ghost use Rattle.gx_ledger.specs.Tallies.{tally_figures};
 
 use crate::group::Group;
 use crate::placed::Change;
-use gx_history::facts::{NO_FIGURES, NamedOrder, RuleFigures};
-use gx_history::policy::{Account, Count, FileRule, Rate, Repeat, RuleKind, Scope};
+use crate::sides::{Sides, net_of};
+use gx_history::facts::{NO_FIGURES, NamedOrder, RuleFigures, StockSide};
+use gx_history::policy::{Account, Count, FileRule, Rate, Repeat, RuleKind, Scope, Stock};
 use gx_history::record::Request;
 use gx_units::{AccountName, OutOfMemory, value_of};
 use std::alloc::Global;
@@ -29,6 +33,8 @@ pub enum Asks {
     Shares,
     /// Their values.
     Values,
+    /// Open and executed shares on the sides of a stock.
+    Sides,
     /// Recent orders.
     Recent(Rate),
     /// Like ones among the last.
@@ -43,6 +49,7 @@ impl Asks {
             RuleKind::Collar(_) => Asks::Reference,
             RuleKind::GrossShares(_, _) => Asks::Shares,
             RuleKind::GrossValue(_, _) => Asks::Values,
+            RuleKind::NetShares(_, _) => Asks::Sides,
             RuleKind::Rate(rate, _) => Asks::Recent(*rate),
             RuleKind::Repeat(repeat, _) => Asks::Alike(*repeat),
             _ => Asks::Nothing,
@@ -68,6 +75,18 @@ impl Asks {
             _ => 0,
         }
     }
+
+    /// The stocks whose sides the rule looks at, among those of the policy.
+    fn stocks<'a>(self, all: &'a [Stock]) -> &'a [Stock]
+        requires { IsTrue (names_differ all.now) }
+        ensures are { result.now ≡ stocks_for self all.now }
+        ensures differ { IsTrue (names_differ result.now) }
+    {
+        match self {
+            Asks::Sides => all,
+            _ => &[],
+        }
+    }
 }
 
 /// Whose orders count together; None where the kind counts nothing.
@@ -77,10 +96,20 @@ fn count_of(kind: &RuleKind) -> Option<Count>
     match kind {
         RuleKind::GrossShares(_, count) => Some(*count),
         RuleKind::GrossValue(_, count) => Some(*count),
+        RuleKind::NetShares(_, count) => Some(*count),
         RuleKind::Rate(_, count) => Some(*count),
         RuleKind::Repeat(_, count) => Some(*count),
         _ => None,
     }
+}
+
+/// A group with room for what the rule asks for.
+fn group_for(alloc: Global, asks: Asks, stocks: &[Stock]) -> Result<Group, OutOfMemory>
+    requires { IsTrue (names_differ stocks.now) }
+    ensures { IfOk result (λ group. group ≡ asked_group asks stocks.now) }
+{
+    let stocks = asks.stocks(stocks);
+    Group::new(alloc, asks.moments(), asks.enters(), stocks)
 }
 
 /// The groups of a rule: one for each account of the policy, in its order, one for all in scope, or
@@ -108,23 +137,29 @@ impl Groups {
         }
     }
 
-    fn each(alloc: Global, asks: Asks, accounts: &[Account]) -> Result<Groups, OutOfMemory>
+    fn each(
+        alloc: Global,
+        asks: Asks,
+        accounts: &[Account],
+        stocks: &[Stock],
+    ) -> Result<Groups, OutOfMemory>
+        requires { IsTrue (names_differ stocks.now) }
         ensures { IfOk result (λ groups. groups
-            ≡ map (λ a. new_group (room_for_moments asks) (room_for_enters asks)) accounts.now) }
+            ≡ map (λ a. asked_group asks stocks.now) accounts.now) }
     {
         let mut items = Vec::new(alloc);
         for _account in accounts {
-            items.push(Group::new(alloc, asks.moments(), asks.enters())?)?;
+            items.push(group_for(alloc, asks, stocks)?)?;
         }
         Ok(Groups { items })
     }
 
-    fn together(alloc: Global, asks: Asks) -> Result<Groups, OutOfMemory>
-        ensures { IfOk result (λ groups. groups
-            ≡ new_group (room_for_moments asks) (room_for_enters asks) ∷ []) }
+    fn together(alloc: Global, asks: Asks, stocks: &[Stock]) -> Result<Groups, OutOfMemory>
+        requires { IsTrue (names_differ stocks.now) }
+        ensures { IfOk result (λ groups. groups ≡ asked_group asks stocks.now ∷ []) }
     {
         let mut items = Vec::new(alloc);
-        items.push(Group::new(alloc, asks.moments(), asks.enters())?)?;
+        items.push(group_for(alloc, asks, stocks)?)?;
         Ok(Groups { items })
     }
 
@@ -133,13 +168,16 @@ impl Groups {
         count: Option<Count>,
         asks: Asks,
         accounts: &[Account],
+        stocks: &[Stock],
     ) -> Result<Groups, OutOfMemory>
-        ensures { IfOk result (λ groups. groups ≡ new_groups count asks accounts.now) }
+        requires { IsTrue (names_differ stocks.now) }
+        ensures { IfOk result
+            (λ groups. groups ≡ new_groups count asks accounts.now stocks.now) }
     {
         match count {
             None => Ok(Groups::none(alloc)),
-            Some(Count::Each) => Groups::each(alloc, asks, accounts),
-            Some(Count::Together) => Groups::together(alloc, asks),
+            Some(Count::Each) => Groups::each(alloc, asks, accounts, stocks),
+            Some(Count::Together) => Groups::together(alloc, asks, stocks),
         }
     }
 
@@ -176,6 +214,8 @@ pub struct Wanted {
     pub request: Request,
     /// The order that would be replaced.
     pub replaced: Option<NamedOrder>,
+    /// The side of the stock that the order is for.
+    pub side: Option<StockSide>,
     /// The price of the last fill in the order's stock, or the policy's.
     pub reference: u32,
     pub moment: u64,
@@ -199,6 +239,29 @@ fn open_value_of(order: Option<NamedOrder>) -> u128
     }
 }
 
+/// What was executed on the side that is asked for, less what was on the other.
+fn net_in(sides: &Sides, side: Option<StockSide>) -> i128
+    ensures { result ≡ option_map_or (net_in sides.now) side (pos 0) }
+{
+    match side {
+        Some(side) => {
+            let sums = sides.at(side.stock);
+            net_of(sums.on_side(side.buys).done, sums.on_side(!side.buys).done)
+        }
+        None => 0,
+    }
+}
+
+/// The open shares on the side that is asked for.
+fn live_in(sides: &Sides, side: Option<StockSide>) -> u128
+    ensures { result ≡ option_map_or (live_in sides.now) side 0 }
+{
+    match side {
+        Some(side) => sides.at(side.stock).on_side(side.buys).live,
+        None => 0,
+    }
+}
+
 /// The figures of a group that the rule asks for.
 fn figures_of_group(asks: Asks, group: &Group, wanted: &Wanted) -> RuleFigures
     ensures { result ≡ figures_of_group asks wanted.now group.now }
@@ -214,6 +277,12 @@ fn figures_of_group(asks: Asks, group: &Group, wanted: &Wanted) -> RuleFigures
             live_value: group.sums.live_value,
             done_value: group.sums.done_value,
             replaced_value: open_value_of(wanted.replaced),
+            ..NO_FIGURES
+        },
+        Asks::Sides => RuleFigures {
+            net_done: net_in(&group.sides, wanted.side),
+            side_live: live_in(&group.sides, wanted.side),
+            replaced_shares: open_of(wanted.replaced),
             ..NO_FIGURES
         },
         Asks::Recent(rate) => RuleFigures {
@@ -244,12 +313,19 @@ fn place_in(count: Option<Count>, place: Option<usize>) -> Option<usize>
 }
 
 impl Tally {
-    pub fn new(alloc: Global, rule: &FileRule, accounts: &[Account]) -> Result<Tally, OutOfMemory>
-        ensures { IfOk result (λ tally. tally ≡ new_tally accounts.now rule.now) }
+    /// The tally of a rule before any order, for these accounts and stocks of the policy.
+    pub fn new(
+        alloc: Global,
+        rule: &FileRule,
+        accounts: &[Account],
+        stocks: &[Stock],
+    ) -> Result<Tally, OutOfMemory>
+        requires { IsTrue (names_differ stocks.now) }
+        ensures { IfOk result (λ tally. tally ≡ new_tally accounts.now stocks.now rule.now) }
     {
         let asks = Asks::of(&rule.kind);
         let count = count_of(&rule.kind);
-        let groups = Groups::of(alloc, count, asks, accounts)?;
+        let groups = Groups::of(alloc, count, asks, accounts, stocks)?;
         let scope = rule.scope.copied(alloc)?;
         Ok(Tally {
             scope,

@@ -11,6 +11,7 @@ use Rattle.gx_history.specs.Soundness.{is_sound, is_account_sound, is_stock_soun
 use Rattle.gx_policyfile.specs.declared.fault.Letters.TheVariants.{Visible}
 use Rattle.gx_policyfile.specs.Users.{user}
 use Rattle.gx_policyfile.specs.Rules.{rule}
+use Rattle.gx_policyfile.specs.Version.{version}
 use Rattle.gx_policyfile.specs.Policies.{account, stock, accounts, stocks, users, rules, policy}
 use Rattle.gx_policyfile.proofs.Placed.{place_placed}
 use Rattle.gx_policyfile.proofs.Spelled.{field_at_spelled}
@@ -31,7 +32,7 @@ policy_sound top p h =
     let a = place_placed (λ (a b : Account). same_account a.name b.name) account is_account_sound 64 account_sound _ p.accounts w.of_accounts in
     let s = place_placed (λ (a b : Stock). same_stock a.name b.name) stock is_stock_sound 1024 stock_sound _ p.stocks w.of_stocks in
     let u = place_placed (λ (a b : User). same_user a.name b.name) (user p.accounts) (is_user_sound p) 256 (user_sound p) _ p.users w.of_users in
-    let r = place_placed (λ (a b : FileRule). same_rule a.name b.name) (rule p.accounts p.stocks) (is_rule_sound p) 128 (rule_sound p) _ p.rules w.of_rules in
+    let r = place_placed (λ (a b : FileRule). same_rule a.name b.name) (rule (version top) p.accounts p.stocks) (is_rule_sound p) 128 (rule_sound (version top) p) _ p.rules w.of_rules in
     all_seven _ _ _ _ _ _ _
     (all_four _ _ _ _ a.0 s.0 u.0 r.0)
     (all_four _ _ _ _ a.2 s.2 u.2 r.2)

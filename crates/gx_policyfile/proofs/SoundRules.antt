@@ -13,7 +13,8 @@ use Rattle.gx_history.specs.Soundness.{is_name_letter, is_spelled, greatest, are
 use Rattle.gx_policyfile.specs.declared.fault.FaultKind.TheVariants.{BadValue}
 use Rattle.gx_policyfile.specs.declared.fault.Letters.TheVariants.{Plain}
 use Rattle.gx_policyfile.specs.declared.rule.KindWord.{KindWord}
-use Rattle.gx_policyfile.specs.declared.rule.KindWord.TheVariants.{Halt, Restricted, NoShort, NoIso, OddLot, OrderShares, OrderValue, Collar, GrossShares, GrossValue, Rate, Repeat}
+use Rattle.gx_policyfile.specs.declared.rule.KindWord.TheVariants.{Halt, Restricted, NoShort, NoIso, OddLot, OrderShares, OrderValue, Collar, GrossShares, GrossValue, Rate, Repeat, NetShares}
+use Rattle.gx_policyfile.specs.declared.version.FileVersion.{FileVersion}
 use Rattle.gx_policyfile.specs.Field.{◌>>=◌, value_at, number_at, field, choice_at, only_keys}
 use Rattle.gx_policyfile.specs.Known.{known_stocks, scope}
 use Rattle.gx_policyfile.specs.Rules.{kind_words, keys_of_rule, rule_name, limit, count, listed, kind, rule}
@@ -57,6 +58,10 @@ kind_sound p GrossValue entry k h =
     let (most, is, h1) = bind_ok (limit entry) _ k h in
     let (each, each_is, same) = bind_ok (count entry) _ k h1 in
     by_ok (λ k. is_kind_sound p k ≡ true) (kinds.GrossValue most each) k same (limit_ok entry most is)
+kind_sound p NetShares entry k h =
+    let (most, is, h1) = bind_ok (limit entry) _ k h in
+    let (each, each_is, same) = bind_ok (count entry) _ k h1 in
+    by_ok (λ k. is_kind_sound p k ≡ true) (kinds.NetShares most each) k same (limit_ok entry most is)
 kind_sound p Rate entry k h =
     let (most, is, h1) = bind_ok (number_at (codes "limit") 1 4096 entry) _ k h in
     let (window, window_is, h2) = bind_ok (number_at (codes "window") 1 greatest entry) _ k h1 in
@@ -78,13 +83,13 @@ rule_name_ok value name h =
     by_ok (λ n. (is_spelled is_name_letter n.bytes && not (is_built_in n)) ≡ true) (record { bytes = bytes }) name same
     (and_both _ _ (field_spelled value Plain 8 bytes refl is) (ap not free))
 
-pub rule_sound : (p : PolicyData) (entry : Members) (r : FileRule) → rule p.accounts p.stocks entry ≡ Ok r → is_rule_sound p r ≡ true
+pub rule_sound : (version : FileVersion) (p : PolicyData) (entry : Members) (r : FileRule) → rule version p.accounts p.stocks entry ≡ Ok r → is_rule_sound p r ≡ true
 unfolding rule
-rule_sound p entry r h =
-    let (known, known_is, h1) = bind_ok (only_keys (keys_of_rule entry) entry) _ r h in
+rule_sound version p entry r h =
+    let (known, known_is, h1) = bind_ok (only_keys (keys_of_rule version entry) entry) _ r h in
     let (name, name_is, h2) = bind_ok (value_at (codes "name") entry >>= rule_name) _ r h1 in
     let (value, value_is, named) = bind_ok (value_at (codes "name") entry) rule_name name name_is in
-    let (word, word_is, h3) = bind_ok (choice_at (codes "kind") kind_words entry) _ r h2 in
+    let (word, word_is, h3) = bind_ok (choice_at (codes "kind") (kind_words version) entry) _ r h2 in
     let (of_kind, kind_is, h4) = bind_ok (kind p.stocks word entry) _ r h3 in
     let (for_accounts, for_is, same) = bind_ok (scope p.accounts entry) _ r h4 in
     by_ok (λ r. is_rule_sound p r ≡ true) _ r same

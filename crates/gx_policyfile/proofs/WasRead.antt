@@ -45,7 +45,7 @@ pub record WasRead (top : Members) (p : PolicyData) : Type 0 where
   pub of_accounts : accounts (entries_at (codes "account") top) ≡ Ok p.accounts
   pub of_stocks : stocks (entries_at (codes "stock") top) ≡ Ok p.stocks
   pub of_users : users p.accounts (entries_at (codes "user") top) ≡ Ok p.users
-  pub of_rules : rules p.accounts p.stocks (entries_at (codes "rule") top) ≡ Ok p.rules
+  pub of_rules : rules (version top) p.accounts p.stocks (entries_at (codes "rule") top) ≡ Ok p.rules
 
 at_entries : {X : Type 0} (key : List ℕ) (top : Members) (entries : List Members) (meant : List Members → Result X FaultKind) (x : X) → tables_at key top ≡ Ok entries → meant entries ≡ Ok x → meant (entries_at key top) ≡ Ok x
 at_entries key top entries meant x is h = subst (λ e. meant e ≡ Ok x) (sym (entries_read (get_member key top) entries is)) h
@@ -64,7 +64,7 @@ was_read top p h =
     let (xs, xs_is, h8) = bind_ok (accounts account_tables) _ p h7 in
     let (ss, ss_is, h9) = bind_ok (stocks stock_tables) _ p h8 in
     let (us, us_is, h10) = bind_ok (users xs user_tables) _ p h9 in
-    let (rs, rs_is, h11) = bind_ok (rules xs ss rule_tables) _ p h10 in
+    let (rs, rs_is, h11) = bind_ok (rules (version top) xs ss rule_tables) _ p h10 in
     let q : PolicyData = record { session = record { bytes = session }; lifters = lifting; accounts = xs; stocks = ss; users = us; rules = rs } in
     by_ok (WasRead top) q p h11 (record {
       keys = only_ok (top_keys (version top)) top known known_is;
@@ -74,7 +74,7 @@ was_read top p h =
       of_accounts = at_entries (codes "account") top account_tables accounts xs account_tables_is xs_is;
       of_stocks = at_entries (codes "stock") top stock_tables stocks ss stock_tables_is ss_is;
       of_users = at_entries (codes "user") top user_tables (users xs) us user_tables_is us_is;
-      of_rules = at_entries (codes "rule") top rule_tables (rules xs ss) rs rule_tables_is rs_is;
+      of_rules = at_entries (codes "rule") top rule_tables (rules (version top) xs ss) rs rule_tables_is rs_is;
     })
 
 pub ok_of : {X : Type 0} (r : Result X FaultKind) → IsOk r → (x : X) × (r ≡ Ok x)

@@ -20,8 +20,10 @@ use Rattle.gx_policyfile.specs.declared.fault.Letters.TheVariants.{Plain, Visibl
 use Rattle.gx_policyfile.specs.Field.{◌>>=◌, has_only, only_keys, value_at, text, spelled, field, field_at, number_at, choice_at}
 use Rattle.gx_policyfile.specs.Place.{place_of}
 use Rattle.gx_policyfile.specs.Users.{keys_of_user, role_words, role, user}
+use Rattle.gx_policyfile.specs.declared.version.FileVersion.{FileVersion}
 use Rattle.gx_policyfile.specs.Rules.{kind_words, keys_of_rule, rule_name, kind, rule}
 use Rattle.gx_policyfile.specs.Known.{scope}
+use Rattle.gx_policyfile.specs.Version.{version}
 use Rattle.gx_policyfile.specs.Policies.{account_keys, stock_keys, account, stock, accounts, stocks, users, rules, policy, tree, means}
 use Rattle.gx_policyfile.specs.Reads.{entries_at, written_name, are_keys_known, are_places_short, IsInFileOrder}
 use Rattle.gx_policyfile.proofs.Parts.{bind_ok, passed, failed, by_ok, and_both}
@@ -99,20 +101,20 @@ user_tells accounts entry u h =
     by_ok (λ u. Tells (has_only (keys_of_user entry) entry) u.name (folded_user (record { bytes = written_name 6 entry }))) _ u same
     (record { keys = only_ok (keys_of_user entry) entry known known_is; name = ap (λ b. folded_user (record { bytes = b })) (name_at_read Visible 6 entry name name_is) })
 
-rule_tells : (known : List Account) (listed : List Stock) (entry : Members) (r : FileRule) → rule known listed entry ≡ Ok r → Tells (has_only (keys_of_rule entry) entry) r.name.bytes (written_name 8 entry)
+rule_tells : (version : FileVersion) (known : List Account) (listed : List Stock) (entry : Members) (r : FileRule) → rule version known listed entry ≡ Ok r → Tells (has_only (keys_of_rule version entry) entry) r.name.bytes (written_name 8 entry)
 unfolding rule rule_name
-rule_tells accounts stocks entry r h =
-    let (known, known_is, h1) = bind_ok (only_keys (keys_of_rule entry) entry) _ r h in
+rule_tells version accounts stocks entry r h =
+    let (known, known_is, h1) = bind_ok (only_keys (keys_of_rule version entry) entry) _ r h in
     let (name, name_is, h2) = bind_ok (value_at (codes "name") entry >>= rule_name) _ r h1 in
     let (value, value_is, named) = bind_ok (value_at (codes "name") entry) rule_name name name_is in
     let (bytes, bytes_is, tested) = bind_ok (field Plain 8 value) _ name named in
     let (free, kept) = failed (is_built_in (record { bytes = bytes })) _ BadValue name tested in
     let is : name.bytes ≡ written_name 8 entry = by_ok (λ n. n.bytes ≡ written_name 8 entry) (record { bytes = bytes }) name kept (name_read Plain 8 entry bytes value value_is bytes_is) in
-    let (word, word_is, h3) = bind_ok (choice_at (codes "kind") kind_words entry) _ r h2 in
+    let (word, word_is, h3) = bind_ok (choice_at (codes "kind") (kind_words version) entry) _ r h2 in
     let (of_kind, kind_is, h4) = bind_ok (kind stocks word entry) _ r h3 in
     let (for_accounts, for_is, same) = bind_ok (scope accounts entry) _ r h4 in
-    by_ok (λ r. Tells (has_only (keys_of_rule entry) entry) r.name.bytes (written_name 8 entry)) _ r same
-    (record { keys = only_ok (keys_of_rule entry) entry known known_is; name = is })
+    by_ok (λ r. Tells (has_only (keys_of_rule version entry) entry) r.name.bytes (written_name 8 entry)) _ r same
+    (record { keys = only_ok (keys_of_rule version entry) entry known known_is; name = is })
 
 -- a place that was read
 record PlaceTells {X B : Type 0} (most : ℕ) (known : Members → Bool) (shown : X → B) (told : Members → B) (entries : List Members) (xs : List X) : Type 0 where
@@ -144,9 +146,9 @@ of_users : (top : Members) (p : PolicyData) → WasRead top p
 unfolding users
 of_users top p w = place_tells (λ (a b : User). same_user a.name b.name) (user p.accounts) 256 (λ entry. has_only (keys_of_user entry) entry) (λ (u : User). u.name) (λ entry. folded_user (record { bytes = written_name 6 entry })) (user_tells p.accounts) _ _ w.of_users
 
-of_rules : (top : Members) (p : PolicyData) → WasRead top p → PlaceTells 128 (λ entry. has_only (keys_of_rule entry) entry) (λ (r : FileRule). r.name.bytes) (written_name 8) (entries_at (codes "rule") top) p.rules
+of_rules : (top : Members) (p : PolicyData) → WasRead top p → PlaceTells 128 (λ entry. has_only (keys_of_rule (version top) entry) entry) (λ (r : FileRule). r.name.bytes) (written_name 8) (entries_at (codes "rule") top) p.rules
 unfolding rules
-of_rules top p w = place_tells (λ (a b : FileRule). same_rule a.name b.name) (rule p.accounts p.stocks) 128 (λ entry. has_only (keys_of_rule entry) entry) (λ (r : FileRule). r.name.bytes) (written_name 8) (rule_tells p.accounts p.stocks) _ _ w.of_rules
+of_rules top p w = place_tells (λ (a b : FileRule). same_rule a.name b.name) (rule (version top) p.accounts p.stocks) 128 (λ entry. has_only (keys_of_rule (version top) entry) entry) (λ (r : FileRule). r.name.bytes) (written_name 8) (rule_tells (version top) p.accounts p.stocks) _ _ w.of_rules
 
 pub read_keys : (bytes : List ℕ) (top : Members) (p : PolicyData) → tree bytes ≡ Ok top → means bytes ≡ Ok p → are_keys_known top ≡ true
 read_keys bytes top p is h =

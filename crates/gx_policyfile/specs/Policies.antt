@@ -16,6 +16,7 @@ use Rattle.gx_policyfile.specs.Rules.{rule}
 use Rattle.gx_policyfile.specs.declared.fault.FaultKind.{FaultKind}
 use Rattle.gx_policyfile.specs.declared.fault.FaultKind.TheVariants.{NotToml}
 use Rattle.gx_policyfile.specs.declared.fault.Letters.TheVariants.{Plain, Visible}
+use Rattle.gx_policyfile.specs.declared.version.FileVersion.{FileVersion}
 use Rattle.gx_policyfile.specs.Field.{◌>>=◌, number_at, field_at, only_keys}
 use Rattle.gx_policyfile.specs.Place.{tables_at, place_of}
 
@@ -56,8 +57,8 @@ unfoldable pub users : List Account → List Members → Result (List User) Faul
 users known entries = place_of 256 (λ (a b : User). same_user a.name b.name) (user known) entries
 
 -- at most 128 rules, no two of one name
-unfoldable pub rules : List Account → List Stock → List Members → Result (List FileRule) FaultKind
-rules known listed entries = place_of 128 (λ (a b : FileRule). same_rule a.name b.name) (rule known listed) entries
+unfoldable pub rules : FileVersion → List Account → List Stock → List Members → Result (List FileRule) FaultKind
+rules version known listed entries = place_of 128 (λ (a b : FileRule). same_rule a.name b.name) (rule version known listed) entries
 
 -- what the whole file says: the keys at the top, then the accounts, the stocks, the users and the rules
 unfoldable pub policy : Members → Result PolicyData FaultKind
@@ -73,7 +74,7 @@ policy top = do
   found_accounts ← accounts account_tables
   found_stocks ← stocks stock_tables
   found_users ← users found_accounts user_tables
-  found_rules ← rules found_accounts found_stocks rule_tables
+  found_rules ← rules (version top) found_accounts found_stocks rule_tables
   Ok (record { session = record { bytes = session }; lifters = lifting; accounts = found_accounts; stocks = found_stocks; users = found_users; rules = found_rules })
 
 -- the tree that the bytes are

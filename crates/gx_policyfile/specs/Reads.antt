@@ -36,7 +36,7 @@ are_keys_known top =
     && list_all (has_only account_keys) (entries_at (codes "account") top)
     && list_all (has_only stock_keys) (entries_at (codes "stock") top)
     && list_all (λ entry. has_only (keys_of_user entry) entry) (entries_at (codes "user") top)
-    && list_all (λ entry. has_only (keys_of_rule entry) entry) (entries_at (codes "rule") top)
+    && list_all (λ entry. has_only (keys_of_rule (version top) entry) entry) (entries_at (codes "rule") top)
 
 -- at most 64 accounts, 1,024 stocks, 256 users and 128 rules
 abbrev pub are_places_short : Members → Bool

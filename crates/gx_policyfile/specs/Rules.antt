@@ -1,5 +1,5 @@
 -- What an entry of the place `rule` says.
-use Rattle.std.specs.Prelude.{ℕ, List, [], ◌∷◌, codes, Option, Some, None, Result, Ok, Err, if◌then◌else◌}
+use Rattle.std.specs.Prelude.{ℕ, List, [], ◌∷◌, ◌++◌, codes, Option, Some, None, Result, Ok, Err, if◌then◌else◌}
 use Rattle.toml.specs.Data.{Data, Members}
 use Rattle.gx_units.specs.declared.names.RuleId.{RuleId}
 use Rattle.gx_units.specs.declared.names.Symbol.{Symbol}
@@ -16,16 +16,23 @@ use Rattle.gx_policyfile.specs.declared.fault.FaultKind.{FaultKind}
 use Rattle.gx_policyfile.specs.declared.fault.FaultKind.TheVariants.{BadValue}
 use Rattle.gx_policyfile.specs.declared.fault.Letters.TheVariants.{Plain}
 use Rattle.gx_policyfile.specs.declared.rule.KindWord.{KindWord}
-use Rattle.gx_policyfile.specs.declared.rule.KindWord.TheVariants.{Halt, Restricted, NoShort, NoIso, OddLot, OrderShares, OrderValue, Collar, GrossShares, GrossValue, Rate, Repeat}
+use Rattle.gx_policyfile.specs.declared.rule.KindWord.TheVariants.{Halt, Restricted, NoShort, NoIso, OddLot, OrderShares, OrderValue, Collar, GrossShares, GrossValue, Rate, Repeat, NetShares}
+use Rattle.gx_policyfile.specs.declared.version.FileVersion.{FileVersion}
+use Rattle.gx_policyfile.specs.declared.version.FileVersion.TheVariants.{One, Two}
 use Rattle.gx_policyfile.specs.Field.{◌>>=◌, value_at, number_at, field, choice_at, word_at, only_keys}
 use Rattle.gx_policyfile.specs.Known.{known_stocks, scope}
 
--- the words of the key `kind`
-unfoldable pub kind_words : List (List ℕ × KindWord)
-kind_words =
+-- the words of the key `kind` in a file of version 1
+abbrev pub first_kind_words : List (List ℕ × KindWord)
+first_kind_words =
     (codes "halt", Halt) ∷ (codes "restricted", Restricted) ∷ (codes "no_short", NoShort) ∷ (codes "no_iso", NoIso)
     ∷ (codes "odd_lot", OddLot) ∷ (codes "order_shares", OrderShares) ∷ (codes "order_value", OrderValue) ∷ (codes "collar", Collar)
     ∷ (codes "gross_shares", GrossShares) ∷ (codes "gross_value", GrossValue) ∷ (codes "rate", Rate) ∷ (codes "repeat", Repeat) ∷ []
+
+-- the words of the key `kind` in a file of this version
+unfoldable pub kind_words : FileVersion → List (List ℕ × KindWord)
+kind_words One = first_kind_words
+kind_words Two = first_kind_words ++ (codes "net_shares", NetShares) ∷ []
 
 -- the keys of a rule of this kind, and those of all kinds where it is none
 abbrev pub rule_keys : Option KindWord → List (List ℕ)
@@ -39,13 +46,14 @@ rule_keys (Some OrderValue) = codes "name" ∷ codes "kind" ∷ codes "limit" �
 rule_keys (Some Collar) = codes "name" ∷ codes "kind" ∷ codes "limit" ∷ codes "accounts" ∷ []
 rule_keys (Some GrossShares) = codes "name" ∷ codes "kind" ∷ codes "limit" ∷ codes "count" ∷ codes "accounts" ∷ []
 rule_keys (Some GrossValue) = codes "name" ∷ codes "kind" ∷ codes "limit" ∷ codes "count" ∷ codes "accounts" ∷ []
+rule_keys (Some NetShares) = codes "name" ∷ codes "kind" ∷ codes "limit" ∷ codes "count" ∷ codes "accounts" ∷ []
 rule_keys (Some Rate) = codes "name" ∷ codes "kind" ∷ codes "limit" ∷ codes "window" ∷ codes "count" ∷ codes "accounts" ∷ []
 rule_keys (Some Repeat) = codes "name" ∷ codes "kind" ∷ codes "limit" ∷ codes "span" ∷ codes "count" ∷ codes "accounts" ∷ []
 rule_keys None = codes "name" ∷ codes "kind" ∷ codes "stocks" ∷ codes "limit" ∷ codes "window" ∷ codes "span" ∷ codes "count" ∷ codes "accounts" ∷ []
 
--- the keys that this rule may have
-abbrev pub keys_of_rule : Members → List (List ℕ)
-keys_of_rule entry = rule_keys (word_at (codes "kind") kind_words entry)
+-- the keys that this rule may have in a file of this version
+abbrev pub keys_of_rule : FileVersion → Members → List (List ℕ)
+keys_of_rule version entry = rule_keys (word_at (codes "kind") (kind_words version) entry)
 
 -- the words of the key `count`
 abbrev pub count_words : List (List ℕ × Count)
@@ -97,6 +105,10 @@ kind stocks GrossValue entry = do
   most ← limit entry
   each ← count entry
   Ok (kinds.GrossValue most each)
+kind stocks NetShares entry = do
+  most ← limit entry
+  each ← count entry
+  Ok (kinds.NetShares most each)
 kind stocks Rate entry = do
   most ← number_at (codes "limit") 1 4096 entry
   window ← number_at (codes "window") 1 greatest entry
@@ -108,12 +120,12 @@ kind stocks Repeat entry = do
   each ← count entry
   Ok (kinds.Repeat (record { limit = most; span = span }) each)
 
--- what the entry says, beside the file's accounts and stocks
-unfoldable pub rule : List Account → List Stock → Members → Result FileRule FaultKind
-rule accounts stocks entry = do
-  known ← only_keys (keys_of_rule entry) entry
+-- what the entry says in a file of this version, beside the file's accounts and stocks
+unfoldable pub rule : FileVersion → List Account → List Stock → Members → Result FileRule FaultKind
+rule version accounts stocks entry = do
+  known ← only_keys (keys_of_rule version entry) entry
   name ← value_at (codes "name") entry >>= rule_name
-  word ← choice_at (codes "kind") kind_words entry
+  word ← choice_at (codes "kind") (kind_words version) entry
   of_kind ← kind stocks word entry
   for_accounts ← scope accounts entry
   Ok (record { name = name; kind = of_kind; scope = for_accounts })

@@ -9,6 +9,7 @@ ghost use Rattle.gx_policyfile.specs.Field.{Gives};
 use crate::fault::{Letters, PolicyFault};
 use crate::field;
 use crate::place::{Entry, entries};
+use crate::version::FileVersion;
 use gx_history::policy::{Account, Stock};
 use gx_units::{AccountName, Firm};
 use std::alloc::Global;
@@ -28,12 +29,13 @@ fn account(entry: &Table) -> Result<Account, PolicyFault>
 }
 
 impl Entry for Account {
-    ghost meant = { λ _ _ entry. account entry };
+    ghost meant = { λ _ _ _ entry. account entry };
 
     ghost is_same = { λ a b. same_account a.name b.name };
 
     fn read(
         _alloc: Global,
+        _version: FileVersion,
         _accounts: &[Account],
         _stocks: &[Stock],
         entry: &Table,
@@ -48,8 +50,12 @@ impl Entry for Account {
 
 /// The accounts of the file, in its order.
 #[tactic(auto, unfolding(crate::specs::Policies::accounts))]
-pub fn accounts(alloc: Global, tables: &[&Table]) -> Result<Vec<Account>, PolicyFault>
+pub fn accounts(
+    alloc: Global,
+    version: FileVersion,
+    tables: &[&Table],
+) -> Result<Vec<Account>, PolicyFault>
     ensures { Gives (λ v. v.items) result (accounts (map (λ t. table_view t.now) tables.now)) }
 {
-    entries(alloc, "account", &[], &[], 64, tables)
+    entries(alloc, "account", version, &[], &[], 64, tables)
 }

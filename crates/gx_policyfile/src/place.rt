@@ -7,6 +7,7 @@ ghost use Rattle.gx_policyfile.specs.Place.{tables_at, table, is_taken, next, ea
 
 use crate::fault::{Allowed, EntryPlace, FaultKind, PolicyFault};
 use crate::field;
+use crate::version::FileVersion;
 use gx_history::policy::{Account, Stock};
 use std::alloc::{AllocError, Global};
 use toml::{Table, Value};
@@ -24,20 +25,23 @@ pub trait Entry: Drop + Sized {
     ghost use Rattle.gx_history.specs.declared.policy.Account.{Account};
     ghost use Rattle.gx_history.specs.declared.policy.Stock.{Stock};
     ghost use Rattle.gx_policyfile.specs.declared.fault.FaultKind.{FaultKind};
+    ghost use Rattle.gx_policyfile.specs.declared.version.FileVersion.{FileVersion};
 
-    /// What a table means beside the file's accounts and stocks.
-    ghost meant: { List Account → List Stock → Members → Result Self FaultKind };
+    /// What a table means in a file of the version, beside the file's accounts and stocks.
+    ghost meant: { FileVersion → List Account → List Stock → Members → Result Self FaultKind };
 
     /// The two have one name.
     ghost is_same: { Self → Self → Bool };
 
     fn read(
         alloc: Global,
+        version: FileVersion,
         accounts: &[Account],
         stocks: &[Stock],
         entry: &Table,
     ) -> Result<Self, PolicyFault>
-        ensures { Gives (λ x. x) result (meant accounts.now stocks.now (table_view entry.now)) };
+        ensures { Gives (λ x. x) result
+            (meant version accounts.now stocks.now (table_view entry.now)) };
 
     fn is_same(&self, other: &Self) -> bool
         ensures { result ≡ is_same self.now other.now };
@@ -121,15 +125,17 @@ fn is_among<E: Entry>(found: &[E], entry: &E) -> bool
 /// One more entry, named as none before it.
 fn next<E: Entry>(
     alloc: Global,
+    version: FileVersion,
     accounts: &[Account],
     stocks: &[Stock],
     found: &[E],
     entry: &Table,
 ) -> Result<E, PolicyFault>
     ensures { Gives (λ x. x) result
-        (next E.is_same (E.meant accounts.now stocks.now) found.now (table_view entry.now)) }
+        (next E.is_same (E.meant version accounts.now stocks.now) found.now
+        (table_view entry.now)) }
 {
-    let read = E::read(alloc, accounts, stocks, entry)?;
+    let read = E::read(alloc, version, accounts, stocks, entry)?;
     if is_among(found, &read) {
         return Err(PolicyFault::at(FaultKind::DuplicateName, "name", ANOTHER_NAME));
     }
@@ -139,17 +145,18 @@ fn next<E: Entry>(
 fn each<E: Entry>(
     alloc: Global,
     place: &'static str,
+    version: FileVersion,
     accounts: &[Account],
     stocks: &[Stock],
     tables: &[&Table],
 ) -> Result<Vec<E>, PolicyFault>
     ensures { Gives (λ v. v.items) result
-        (each E.is_same (E.meant accounts.now stocks.now) []
+        (each E.is_same (E.meant version accounts.now stocks.now) []
         (map (λ t. table_view t.now) tables.now)) }
 {
     let mut found = Vec::new(alloc);
     for table in tables {
-        match next(alloc, accounts, stocks, &found, table) {
+        match next(alloc, version, accounts, stocks, &found, table) {
             Ok(entry) => found.push(entry)?,
             Err(fault) => return Err(within(
                 alloc,
@@ -167,17 +174,18 @@ fn each<E: Entry>(
 pub fn entries<E: Entry>(
     alloc: Global,
     place: &'static str,
+    version: FileVersion,
     accounts: &[Account],
     stocks: &[Stock],
     most: usize,
     tables: &[&Table],
 ) -> Result<Vec<E>, PolicyFault>
     ensures { Gives (λ v. v.items) result
-        (place_of most E.is_same (E.meant accounts.now stocks.now)
+        (place_of most E.is_same (E.meant version accounts.now stocks.now)
         (map (λ t. table_view t.now) tables.now)) }
 {
     if tables.len() > most {
         return Err(PolicyFault::at(FaultKind::TooMany, place, Allowed::Entries(most)));
     }
-    each(alloc, place, accounts, stocks, tables)
+    each(alloc, place, version, accounts, stocks, tables)
 }

@@ -33,10 +33,10 @@ fn policy(alloc: Global, top: &Table) -> Result<PolicyData, PolicyFault>
     let stock_tables = tables_at(alloc, top, "stock")?;
     let user_tables = tables_at(alloc, top, "user")?;
     let rule_tables = tables_at(alloc, top, "rule")?;
-    let accounts = accounts(alloc, &account_tables)?;
-    let stocks = stocks(alloc, &stock_tables)?;
-    let users = users(alloc, &accounts, &user_tables)?;
-    let rules = rules(alloc, &accounts, &stocks, &rule_tables)?;
+    let accounts = accounts(alloc, version, &account_tables)?;
+    let stocks = stocks(alloc, version, &stock_tables)?;
+    let users = users(alloc, version, &accounts, &user_tables)?;
+    let rules = rules(alloc, version, &accounts, &stocks, &rule_tables)?;
     Ok(PolicyData {
         session: SessionName { bytes: session },
         lifters,

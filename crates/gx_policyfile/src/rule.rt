@@ -14,6 +14,7 @@ use crate::fault::{Allowed, FaultKind, Letters, PolicyFault};
 use crate::field;
 use crate::known::{STOCKS, known_stocks, scope};
 use crate::place::{Entry, entries};
+use crate::version::FileVersion;
 use gx_history::policy::{Account, Count, FileRule, Rate, Repeat, RuleKind, Stock, Symbols};
 use gx_units::RuleId;
 use std::alloc::Global;
@@ -34,13 +35,14 @@ pub enum KindWord {
     GrossValue,
     Rate,
     Repeat,
+    NetShares,
 }
 
 /// The greatest limit, as TOML's integers go.
 const GREATEST: u64 = 9_223_372_036_854_775_807;
 
-/// The words of the key `kind`.
-const KIND_WORDS: [(&str, KindWord); 12] = [
+/// The words of the key `kind`; the last one is of files of version 2 alone.
+const KIND_WORDS: [(&str, KindWord); 13] = [
     ("halt", KindWord::Halt),
     ("restricted", KindWord::Restricted),
     ("no_short", KindWord::NoShort),
@@ -53,11 +55,17 @@ const KIND_WORDS: [(&str, KindWord); 12] = [
     ("gross_value", KindWord::GrossValue),
     ("rate", KindWord::Rate),
     ("repeat", KindWord::Repeat),
+    ("net_shares", KindWord::NetShares),
 ];
 
-/// What the key `kind` allows.
-const KINDS: Allowed = Allowed::Words(
+/// What the key `kind` allows in version 1.
+const FIRST_KINDS: Allowed = Allowed::Words(
     "one of \"halt\", \"restricted\", \"no_short\", \"no_iso\", \"odd_lot\", \"order_shares\", \"order_value\", \"collar\", \"gross_shares\", \"gross_value\", \"rate\" and \"repeat\"",
+);
+
+/// What the key `kind` allows in version 2.
+const KINDS: Allowed = Allowed::Words(
+    "one of \"halt\", \"restricted\", \"no_short\", \"no_iso\", \"odd_lot\", \"order_shares\", \"order_value\", \"collar\", \"gross_shares\", \"gross_value\", \"rate\", \"repeat\" and \"net_shares\"",
 );
 
 /// What the key `name` of a rule allows.
@@ -97,18 +105,35 @@ const BUILT_IN: [[u8; 8]; 25] = [
     *b"Q4      ",
 ];
 
+/// The words of the key `kind` in a file of the version.
 #[tactic(auto, unfolding(crate::specs::Rules::kind_words))]
-fn kind_word(entry: &Table) -> Option<KindWord>
-    ensures { result ≡ word_at (codes "kind") kind_words (table_view entry.now) }
+fn kind_words(version: FileVersion) -> &'static [(&'static str, KindWord)]
+    ensures { map (λ w. (w.0.now, w.1)) result.now ≡ kind_words version }
 {
-    field::word_at(entry, "kind", &KIND_WORDS)
+    match version {
+        FileVersion::One => &KIND_WORDS[..12],
+        FileVersion::Two => &KIND_WORDS,
+    }
 }
 
-#[tactic(auto, unfolding(crate::specs::Rules::kind_words))]
-fn known_kind(entry: &Table) -> Result<KindWord, PolicyFault>
-    ensures { seen (λ k. k) result ≡ choice_at (codes "kind") kind_words (table_view entry.now) }
+fn kind_word(version: FileVersion, entry: &Table) -> Option<KindWord>
+    ensures { result ≡ word_at (codes "kind") (kind_words version) (table_view entry.now) }
 {
-    field::choice_at(entry, "kind", &KIND_WORDS, KINDS)
+    field::word_at(entry, "kind", kind_words(version))
+}
+
+fn allowed_kinds(version: FileVersion) -> Allowed {
+    match version {
+        FileVersion::One => FIRST_KINDS,
+        FileVersion::Two => KINDS,
+    }
+}
+
+fn known_kind(version: FileVersion, entry: &Table) -> Result<KindWord, PolicyFault>
+    ensures { seen (λ k. k) result
+        ≡ choice_at (codes "kind") (kind_words version) (table_view entry.now) }
+{
+    field::choice_at(entry, "kind", kind_words(version), allowed_kinds(version))
 }
 
 /// The keys of a rule of this kind.
@@ -125,7 +150,7 @@ fn keys_of(word: Option<KindWord>) -> &'static [&'static str]
         Some(KindWord::OrderShares) | Some(KindWord::OrderValue) | Some(KindWord::Collar) => {
             &["name", "kind", "limit", "accounts"]
         }
-        Some(KindWord::GrossShares) | Some(KindWord::GrossValue) => {
+        Some(KindWord::GrossShares) | Some(KindWord::GrossValue) | Some(KindWord::NetShares) => {
             &["name", "kind", "limit", "count", "accounts"]
         }
         Some(KindWord::Rate) => &["name", "kind", "limit", "window", "count", "accounts"],
@@ -209,6 +234,10 @@ fn kind(
             let limit = limit(entry)?;
             Ok(RuleKind::GrossValue(limit, count(entry)?))
         }
+        KindWord::NetShares => {
+            let limit = limit(entry)?;
+            Ok(RuleKind::NetShares(limit, count(entry)?))
+        }
         KindWord::Rate => {
             let limit = field::number_at(entry, "limit", 1, 4096)?;
             let window = field::number_at(entry, "window", 1, GREATEST)?;
@@ -225,15 +254,17 @@ fn kind(
 #[tactic(auto, unfolding(crate::specs::Rules::rule))]
 fn rule(
     alloc: Global,
+    version: FileVersion,
     accounts: &[Account],
     stocks: &[Stock],
     entry: &Table,
 ) -> Result<FileRule, PolicyFault>
-    ensures { Gives (λ r. r) result (rule accounts.now stocks.now (table_view entry.now)) }
+    ensures { Gives (λ r. r) result
+        (rule version accounts.now stocks.now (table_view entry.now)) }
 {
-    field::only_keys(entry, keys_of(kind_word(entry)))?;
+    field::only_keys(entry, keys_of(kind_word(version, entry)))?;
     let name = rule_name(field::value_at(entry, "name", RULE_NAME)?)?;
-    let word = known_kind(entry)?;
+    let word = known_kind(version, entry)?;
     let kind = kind(alloc, stocks, word, entry)?;
     let scope = scope(alloc, accounts, entry)?;
     Ok(FileRule { name, kind, scope })
@@ -246,11 +277,12 @@ impl Entry for FileRule {
 
     fn read(
         alloc: Global,
+        version: FileVersion,
         accounts: &[Account],
         stocks: &[Stock],
         entry: &Table,
     ) -> Result<FileRule, PolicyFault> {
-        rule(alloc, accounts, stocks, entry)
+        rule(alloc, version, accounts, stocks, entry)
     }
 
     fn is_same(&self, other: &FileRule) -> bool {
@@ -262,12 +294,13 @@ impl Entry for FileRule {
 #[tactic(auto, unfolding(crate::specs::Policies::rules))]
 pub fn rules(
     alloc: Global,
+    version: FileVersion,
     accounts: &[Account],
     stocks: &[Stock],
     tables: &[&Table],
 ) -> Result<Vec<FileRule>, PolicyFault>
     ensures { Gives (λ v. v.items) result
-        (rules accounts.now stocks.now (map (λ t. table_view t.now) tables.now)) }
+        (rules version accounts.now stocks.now (map (λ t. table_view t.now) tables.now)) }
 {
-    entries(alloc, "rule", accounts, stocks, 128, tables)
+    entries(alloc, "rule", version, accounts, stocks, 128, tables)
 }

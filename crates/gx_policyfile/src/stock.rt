@@ -9,6 +9,7 @@ ghost use Rattle.gx_policyfile.specs.Field.{Gives};
 use crate::fault::{Letters, PolicyFault};
 use crate::field;
 use crate::place::{Entry, entries};
+use crate::version::FileVersion;
 use gx_history::policy::{Account, Stock};
 use gx_units::Symbol;
 use std::alloc::Global;
@@ -28,12 +29,13 @@ fn stock(entry: &Table) -> Result<Stock, PolicyFault>
 }
 
 impl Entry for Stock {
-    ghost meant = { λ _ _ entry. stock entry };
+    ghost meant = { λ _ _ _ entry. stock entry };
 
     ghost is_same = { λ a b. same_stock a.name b.name };
 
     fn read(
         _alloc: Global,
+        _version: FileVersion,
         _accounts: &[Account],
         _stocks: &[Stock],
         entry: &Table,
@@ -48,8 +50,12 @@ impl Entry for Stock {
 
 /// The stocks of the file, in its order.
 #[tactic(auto, unfolding(crate::specs::Policies::stocks))]
-pub fn stocks(alloc: Global, tables: &[&Table]) -> Result<Vec<Stock>, PolicyFault>
+pub fn stocks(
+    alloc: Global,
+    version: FileVersion,
+    tables: &[&Table],
+) -> Result<Vec<Stock>, PolicyFault>
     ensures { Gives (λ v. v.items) result (stocks (map (λ t. table_view t.now) tables.now)) }
 {
-    entries(alloc, "stock", &[], &[], 1024, tables)
+    entries(alloc, "stock", version, &[], &[], 1024, tables)
 }

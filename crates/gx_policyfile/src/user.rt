@@ -13,6 +13,7 @@ use crate::fault::{Allowed, FaultKind, Letters, PolicyFault};
 use crate::field;
 use crate::known::{AN_ACCOUNT, known_account, known_accounts, scope};
 use crate::place::{Entry, entries};
+use crate::version::FileVersion;
 use gx_history::policy::{Account, AccountNames, Powers, Role, Stock, User};
 use gx_units::{AccountName, Password, UserName};
 use std::alloc::Global;
@@ -193,12 +194,13 @@ fn user(alloc: Global, accounts: &[Account], entry: &Table) -> Result<User, Poli
 }
 
 impl Entry for User {
-    ghost meant = { λ accounts _ entry. user accounts entry };
+    ghost meant = { λ _ accounts _ entry. user accounts entry };
 
     ghost is_same = { λ a b. same_user a.name b.name };
 
     fn read(
         alloc: Global,
+        _version: FileVersion,
         accounts: &[Account],
         _stocks: &[Stock],
         entry: &Table,
@@ -215,11 +217,12 @@ impl Entry for User {
 #[tactic(auto, unfolding(crate::specs::Policies::users))]
 pub fn users(
     alloc: Global,
+    version: FileVersion,
     accounts: &[Account],
     tables: &[&Table],
 ) -> Result<Vec<User>, PolicyFault>
     ensures { Gives (λ v. v.items) result
         (users accounts.now (map (λ t. table_view t.now) tables.now)) }
 {
-    entries(alloc, "user", accounts, &[], 256, tables)
+    entries(alloc, "user", version, accounts, &[], 256, tables)
 }

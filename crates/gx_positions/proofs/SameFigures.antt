@@ -1,5 +1,5 @@
 -- Figures over all orders are figures over the live ones.
-use Rattle.std.proofs.Common.{◌≡◌, ℕ, ◌+◌, ◌≤◌, Bool, true, false, List, [], ◌∷◌, refl, ◌∙◌, ap, sym, cond, arith, sum_by, zero-add}
+use Rattle.std.proofs.Common.{◌≡◌, ℕ, ◌+◌, ◌≤◌, pos, Bool, true, false, List, [], ◌∷◌, refl, ◌∙◌, ap, sym, cond, arith, sum_by, zero-add}
 use Rattle.std.specs.Prelude.{Option, Some, None, option_map, option_and_then, if◌then◌else◌}
 use Rattle.std.specs.Option.{option_map_or}
 use Rattle.std.specs.List.{filter}
@@ -15,9 +15,11 @@ use Rattle.gx_history.specs.declared.policy.RuleKind.TheVariants as kinds
 use Rattle.gx_history.specs.declared.record.RecordData.{RecordData}
 use Rattle.gx_history.specs.declared.record.Request.{Request}
 use Rattle.gx_history.specs.declared.facts.RuleFigures.{RuleFigures}
+use Rattle.gx_history.specs.declared.facts.StockSide.{StockSide}
 use Rattle.gx_history.specs.Asking.{live_named}
 use Rattle.gx_history.specs.Executions.{Standing, executions, is_live, live_orders, standings, standing_numbered, standing_under}
-use Rattle.gx_history.specs.Figures.{counts_account, done_shares, done_value, figures, kind_figures, live_shares, live_value, no_figures, open_value, positions}
+use Rattle.gx_history.specs.Figures.{counts_account, done_shares, done_value, figures, kind_figures, live_value, net_done, no_figures, of_accounts, on_side, open_of_chosen, open_value, positions, side_asked}
+use Rattle.gx_history.specs.Orders.{Order}
 use Rattle.gx_history.specs.People.{covers}
 use Rattle.gx_history.specs.Requests.{named_token}
 use Rattle.gx_history.specs.Verdicts.{IsLegal}
@@ -53,10 +55,10 @@ none_open s h = let least : s.open_shares ≤ 0 = ltb-false 0 s.open_shares h in
 no_value : (s : Standing) → is_live s ≡ false → open_value s ≡ 0
 no_value s h = let none : s.open_shares ≡ 0 = none_open s h in grind (arith, none)
 
-shares_of_live : (policy : PolicyData) (history : List RecordData) (among : AccountName → Bool)
-    → live_shares (standings policy history) among ≡ live_shares (live_orders policy history) among
-unfolding live_shares live_orders
-shares_of_live policy history among = sum_of_live (λ (s : Standing). s.open_shares) none_open (λ (s : Standing). among s.order.account) (standings policy history)
+shares_of_live : (policy : PolicyData) (history : List RecordData) (chosen : Order → Bool)
+    → open_of_chosen (standings policy history) chosen ≡ open_of_chosen (live_orders policy history) chosen
+unfolding open_of_chosen live_orders
+shares_of_live policy history chosen = sum_of_live (λ (s : Standing). s.open_shares) none_open (λ (s : Standing). chosen s.order) (standings policy history)
 
 value_of_live : (policy : PolicyData) (history : List RecordData) (among : AccountName → Bool)
     → live_value (standings policy history) among ≡ live_value (live_orders policy history) among
@@ -71,13 +73,18 @@ same_kind policy history among q replaced moment (kinds.GrossShares limit count)
       live_shares = n;
       done_shares = done_shares (executions policy history) (among count);
       replaced_shares = option_map_or (λ (s : Standing). s.open_shares) replaced 0;
-    }) (shares_of_live policy history (among count))
+    }) (shares_of_live policy history (of_accounts (among count)))
 same_kind policy history among q replaced moment (kinds.GrossValue limit count) =
     ap (λ (n : ℕ). record no_figures {
       live_value = n;
       done_value = done_value (executions policy history) (among count);
       replaced_value = option_map_or open_value replaced 0;
     }) (value_of_live policy history (among count))
+same_kind policy history among q replaced moment (kinds.NetShares limit count) = λ i. record no_figures {
+  net_done = option_map_or (net_done (executions policy history) (among count)) (side_asked q replaced) (pos 0);
+  side_live = option_map_or (λ (side : StockSide). shares_of_live policy history (on_side (among count) side) i) (side_asked q replaced) 0;
+  replaced_shares = option_map_or (λ (s : Standing). s.open_shares) replaced 0;
+}
 same_kind policy history among q replaced moment (kinds.Rate rate count) = refl
 same_kind policy history among q replaced moment (kinds.Repeat repeat count) = refl
 same_kind policy history among q replaced moment (kinds.Halt stocks) = refl

@@ -8,7 +8,7 @@ use Rattle.gx_units.specs.Money.{value}
 use Rattle.gx_history.specs.declared.policy.PolicyData.{PolicyData}
 use Rattle.gx_history.specs.declared.record.RecordData.{RecordData}
 use Rattle.gx_history.specs.Executions.{Execution, Standing, executions, is_live, live_orders, standing, standings}
-use Rattle.gx_history.specs.Figures.{done_shares, done_value, live_shares, live_value, open_value}
+use Rattle.gx_history.specs.Figures.{done_of_chosen, done_value, live_value, open_of_chosen, open_value}
 use Rattle.gx_history.specs.Orders.{Order, orders}
 use Rattle.gx_history.specs.People.{stock_named}
 use Rattle.gx_history.specs.Verdicts.{day_limit, IsLegal}
@@ -58,8 +58,11 @@ live_are_few policy history legal = omega (arith, few_live policy history, (lega
 fits : (sum n : ℕ) → sum ≤ n * 2 ^ 64 → n ≤ day_limit + day_limit → sum < 2 ^ 128
 fits sum n within few = omega (arith, within, few)
 
+fits_signed : (sum n : ℕ) → sum ≤ n * 2 ^ 64 → n ≤ day_limit + day_limit → sum < 2 ^ 127
+fits_signed sum n within few = omega (arith, within, few)
+
 sums_fit : (policy : PolicyData) (history : List RecordData) → IsSized policy history → SumsFit (live_positions policy history)
-unfolding live_shares live_value done_shares done_value
+unfolding open_of_chosen live_value done_of_chosen done_value
 sums_fit policy history sized =
     let live : List Standing = live_orders policy history in
     let made : List Execution = executions policy history in
@@ -72,7 +75,7 @@ sums_fit policy history sized =
       live_value =
           fits _ (length live) (sum_within open_value IsSmall (λ s h. product s.open_shares s.order.terms.price h.0 h.1) (λ (s : Standing). anyone s.order.account) live sized.small_live) few;
       done_shares =
-          fits _ (length made) (sum_within (λ (e : Execution). e.fill.shares) IsSmallSide (λ e h. below e.fill.shares h.0) (λ (e : Execution). anyone e.order.account) made sized.small_sides)
+          fits_signed _ (length made) (sum_within (λ (e : Execution). e.fill.shares) IsSmallSide (λ e h. below e.fill.shares h.0) (λ (e : Execution). anyone e.order.account) made sized.small_sides)
           sized.few_sides.1;
       done_value =
           fits _ (length made)

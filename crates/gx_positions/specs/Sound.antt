@@ -15,11 +15,11 @@ use Rattle.gx_effects.specs.OneMore.{Change, Adds, EndsAll, Fills, Leaves, Nothi
 abbrev pub anyone : AccountName → Bool
 anyone account = true
 
--- the sums over all accounts fit 128 bits
+-- the sums over all accounts fit 128 bits; executed shares leave one bit for a sign
 pub record SumsFit (held : Positions) : Type 0 where
   pub live_shares : live_shares held.standings anyone < 2 ^ 128
   pub live_value : live_value held.standings anyone < 2 ^ 128
-  pub done_shares : done_shares held.executions anyone < 2 ^ 128
+  pub done_shares : done_shares held.executions anyone < 2 ^ 127
   pub done_value : done_value held.executions anyone < 2 ^ 128
 
 -- the order is no later than this one

@@ -106,6 +106,30 @@ IncomingOrdersCount = verdicts_of (run sample incoming_orders_count_steps)
     ≡ granted ∷ granted ∷ granted ∷ verdicts.Rested 3 ∷ granted ∷ granted ∷ filled 5 3 100 100000 ∷
     denied_by (codes "GROSS") ∷ granted ∷ []
 
+-- a position stays within the limit on each side
+abbrev pub a_position_is_net_steps : List Step
+a_position_is_net_steps =
+    login alice
+    ∷ login bob
+    ∷ buys alice 2 (codes "A1") 100 10
+    ∷ buys alice 2 (codes "A2") 1 10
+    ∷ sells alice 2 (codes "A3") 100 11
+    ∷ sells bob 2 (codes "S1") 100 10
+    ∷ matches 2
+    ∷ matches 2
+    ∷ matches 2
+    ∷ matches 2
+    ∷ sells alice 2 (codes "A4") 100 11
+    ∷ buys alice 2 (codes "A5") 1 10
+    ∷ sells alice 2 (codes "A6") 1 11
+    ∷ []
+
+-- what comes of these steps
+abbrev pub APositionIsNet : Type 0
+APositionIsNet = verdicts_of (run (with_last (file_rule (codes "NET") (kinds.NetShares 100 counts.Each))) a_position_is_net_steps)
+    ≡ granted ∷ granted ∷ granted ∷ denied_by (codes "NET") ∷ granted ∷ granted ∷ verdicts.Rested 3 ∷ verdicts.Rested 5 ∷
+    filled 6 3 100 10 ∷ granted ∷ denied_by (codes "NET") ∷ denied_by (codes "NET") ∷ []
+
 -- equal orders among the last two
 abbrev pub equal_orders_are_counted_steps : List Step
 equal_orders_are_counted_steps =

@@ -2,7 +2,7 @@
 
 ghost use Rattle.gx_rows.specs.OrderRows.{AUsedTokenIsDenied, CancelsLowerTheSize, AReplaceLosesItsPlace, SizesAndPricesAreChecked, ImmediateOrdersExpire, TheGreatestOrderIsGranted, PricesBelowADollarMayBeFiner, LoginsAndRolesAreChecked};
 ghost use Rattle.gx_rows.specs.CommandRows.{AKillEndsASweep, ALiftLetsTradeAgain, ASetLimitIsInForce, UselessCommandsAreDenied, NamesAreWrittenInEitherCase, ReadersComeAndGo, AKillStandsUntilTheLift};
-ghost use Rattle.gx_rows.specs.RuleRows.{ValueAboveTheLimit, TheFileOrderDecides, TheFileOrderTurned, ACollarFollowsTheLastFill, SharesCountTogether, IncomingOrdersCount, EqualOrdersAreCounted, WindowsGoByTheMoments, ARestrictedStockComesFirst, ARestrictedStockComesLast, AnOrderMayBeTooBig};
+ghost use Rattle.gx_rows.specs.RuleRows.{ValueAboveTheLimit, TheFileOrderDecides, TheFileOrderTurned, ACollarFollowsTheLastFill, SharesCountTogether, APositionIsNet, IncomingOrdersCount, EqualOrdersAreCounted, WindowsGoByTheMoments, ARestrictedStockComesFirst, ARestrictedStockComesLast, AnOrderMayBeTooBig};
 ghost use Rattle.gx_rows.specs.MatchingRows.{SettlingTakesAllThatWait, TheBestPriceComesFirst, AnImmediateOrderTakesWhatThereIs, ACutOrderKeepsItsPlace};
 ghost use Rattle.gx_rows.specs.ReportRows.{AKillIsTold, ADeniedValueIsTold, AKilledAccountIsTold, ALiftIsTold, ACancelIsTold, ACutIsTold, AReplaceIsTold, AnExpiryIsTold, TheEndOfTheDayIsTold, TheSampleIsSound, TheSweepIsShowable, ADropCopyIsWritten};
 
@@ -36,6 +36,7 @@ pub fn rows_of_rules()
     ensures the_file_order_turned { TheFileOrderTurned }
     ensures a_collar_follows_the_last_fill { ACollarFollowsTheLastFill }
     ensures shares_count_together { SharesCountTogether }
+    ensures a_position_is_net { APositionIsNet }
     ensures incoming_orders_count { IncomingOrdersCount }
     ensures equal_orders_are_counted { EqualOrdersAreCounted }
     ensures windows_go_by_the_moments { WindowsGoByTheMoments }

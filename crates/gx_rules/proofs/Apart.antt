@@ -18,5 +18,6 @@ changed_stocks change stocks (kinds.OrderValue limit) = refl
 changed_stocks change stocks (kinds.Collar limit) = refl
 changed_stocks change stocks (kinds.GrossShares limit count) = refl
 changed_stocks change stocks (kinds.GrossValue limit count) = refl
+changed_stocks change stocks (kinds.NetShares limit count) = refl
 changed_stocks change stocks (kinds.Rate rate count) = refl
 changed_stocks change stocks (kinds.Repeat repeat count) = refl

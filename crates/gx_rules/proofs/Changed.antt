@@ -49,6 +49,7 @@ limit_put value (kinds.OrderValue limit) some = refl
 limit_put value (kinds.Collar limit) some = refl
 limit_put value (kinds.GrossShares limit count) some = refl
 limit_put value (kinds.GrossValue limit count) some = refl
+limit_put value (kinds.NetShares limit count) some = refl
 limit_put value (kinds.Rate rate count) some = cc
 limit_put value (kinds.Repeat repeat count) some = cc
 
@@ -82,6 +83,7 @@ listed_put change stock (kinds.OrderValue limit) = refl
 listed_put change stock (kinds.Collar limit) = refl
 listed_put change stock (kinds.GrossShares limit count) = refl
 listed_put change stock (kinds.GrossValue limit count) = refl
+listed_put change stock (kinds.NetShares limit count) = refl
 listed_put change stock (kinds.Rate rate count) = refl
 listed_put change stock (kinds.Repeat repeat count) = refl
 

@@ -38,6 +38,7 @@ kind_once policy (kinds.OrderValue limit) h = refl
 kind_once policy (kinds.Collar limit) h = refl
 kind_once policy (kinds.GrossShares limit count) h = refl
 kind_once policy (kinds.GrossValue limit count) h = refl
+kind_once policy (kinds.NetShares limit count) h = refl
 kind_once policy (kinds.Rate rate count) h = refl
 kind_once policy (kinds.Repeat repeat count) h = refl
 

@@ -43,6 +43,7 @@ fn kind_alone(alloc: Global, kind: &RuleKind) -> RuleKind
         RuleKind::Collar(limit) => RuleKind::Collar(*limit),
         RuleKind::GrossShares(limit, count) => RuleKind::GrossShares(*limit, *count),
         RuleKind::GrossValue(limit, count) => RuleKind::GrossValue(*limit, *count),
+        RuleKind::NetShares(limit, count) => RuleKind::NetShares(*limit, *count),
         RuleKind::Rate(rate, count) => RuleKind::Rate(*rate, *count),
         RuleKind::Repeat(repeat, count) => RuleKind::Repeat(*repeat, *count),
     }
@@ -94,6 +95,7 @@ impl BookRule {
             RuleKind::Collar(limit) => Some(*limit),
             RuleKind::GrossShares(limit, _) => Some(*limit),
             RuleKind::GrossValue(limit, _) => Some(*limit),
+            RuleKind::NetShares(limit, _) => Some(*limit),
             _ => None,
         }
     }
@@ -108,6 +110,7 @@ impl BookRule {
             RuleKind::Collar(limit) => *limit = value,
             RuleKind::GrossShares(limit, _) => *limit = value,
             RuleKind::GrossValue(limit, _) => *limit = value,
+            RuleKind::NetShares(limit, _) => *limit = value,
             _ => {}
         }
     }

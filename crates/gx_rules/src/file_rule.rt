@@ -1,6 +1,6 @@
 //! The rules of the policy file.
 
-ghost use Rattle.std.specs.Prelude.{◌≡◌, ◌+◌, ◌-◌, false, nat_lt};
+ghost use Rattle.std.specs.Prelude.{◌≡◌, ◌+◌, ◌-◌, ◌+ℤ◌, ◌-ℤ◌, false, int_lt, nat_lt, pos};
 ghost use Rattle.std.specs.Option.{option_map_or};
 ghost use Rattle.gx_units.specs.Money.{value};
 ghost use Rattle.gx_history.specs.InForce.{lists_stock};
@@ -46,6 +46,21 @@ fn is_above(live: u128, done: u128, new: u128, replaced: u128, limit: u64) -> bo
     }
 }
 
+/// Whether what was executed on the side, less what was on the other, with live and new and without
+/// what is replaced, passes the limit: right for any figures.
+fn is_net_above(net: i128, live: u128, new: u128, replaced: u128, limit: u64) -> bool
+    ensures { result ≡ int_lt (pos limit) (net +ℤ pos live +ℤ pos new -ℤ pos replaced) }
+{
+    let done = net.unsigned_abs();
+    if net >= 0 {
+        return is_above(live, done, new, replaced, limit);
+    }
+    let live_left = live.saturating_sub(done);
+    let after_live = done.saturating_sub(live);
+    let new_left = new.saturating_sub(after_live);
+    is_above(live_left, 0, new_left, replaced, limit)
+}
+
 /// The shares that the order would have open: what it asks for, less what its chain has executed.
 fn new_open(w: &ProposedOrder) -> u32
     ensures { result ≡ new_open w.now }
@@ -78,6 +93,13 @@ pub fn is_forbidden_by_kind(kind: &RuleKind, figures: &RuleFigures, w: &Proposed
             figures.done_value,
             value_of(new_open(w), w.price),
             figures.replaced_value,
+            *limit,
+        ),
+        RuleKind::NetShares(limit, _) => is_net_above(
+            figures.net_done,
+            figures.side_live,
+            u128::from(new_open(w)),
+            figures.replaced_shares,
             *limit,
         ),
         RuleKind::Rate(rate, _) => rate.limit <= figures.recent,

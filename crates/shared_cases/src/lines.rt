@@ -4,7 +4,7 @@ ghost use Rattle.std.specs.Prelude.{◌≡◌, IsTrue};
 ghost use Rattle.gx_history.specs.Showing.{has_its_first};
 
 use crate::asking::{ALICE, ANY_SESSION, BOB, Ended, OLGA, Person, enter, kill_or_lift, put};
-use gx_audit::{audit_of, check_audit};
+use gx_audit::{AuditVersion, audit_of, check_audit};
 use gx_core::Gate;
 use gx_history::policy::Policy;
 use gx_history::record::{Asked, Login, Record, Request, Step};
@@ -147,7 +147,7 @@ pub(crate) fn put_audit(
     gate: &Gate,
     out: &mut String,
 ) -> Result<(), Ended> {
-    let audit = audit_of(alloc, gate)?;
+    let audit = audit_of(alloc, AuditVersion::Two, gate)?;
     put_found(alloc, policy, audit.as_slice(), out)
 }
 

@@ -4,6 +4,6 @@ use Rattle.gx_audit.proofs.day.audit_bytes.Given as goal
 
 abbrev pub invariant-loop-given : goal.invariant-loop-given
 invariant-loop-given l = record {
-  bytes : l.bytes.items ≡ all_bytes (take l.given-index l.records);
-  shown : AreShown (take l.given-index l.records);
+  bytes : l.bytes.items ≡ all_bytes l.version (take l.given-index l.records);
+  shown : AreShown l.version (take l.given-index l.records);
 }

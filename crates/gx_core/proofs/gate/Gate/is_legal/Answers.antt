@@ -1,4 +1,4 @@
-use Rattle.gx_exposure.proofs.Gross.{gross_shares_are_kept, gross_values_are_kept, none_asked_none_held}
+use Rattle.gx_exposure.proofs.Gross.{gross_shares_are_kept, gross_values_are_kept, net_shares_are_kept, none_asked_none_held, none_asked_none_on_side}
 use Rattle.gx_core.proofs.Matched.{never_crossed_now}
 use Rattle.gx_core.proofs.gate.Gate.is_legal.Goals as goal
 
@@ -12,4 +12,6 @@ returns c =
       shares_within = gross_shares_are_kept policy records c.self.invariant.kept.legal;
       values_within = gross_values_are_kept policy records c.self.invariant.kept.legal;
       none_held = λ among. none_asked_none_held policy records among c.self.invariant.kept.legal;
+      net_within = net_shares_are_kept policy records c.self.invariant.kept.legal;
+      none_on_side = λ among side. none_asked_none_on_side policy records among side c.self.invariant.kept.legal;
     })

@@ -16,6 +16,7 @@ returns c =
               place = sym c.place.ensures i;
               request = c.args.request.now;
               replaced = c.args.replaced;
+              side = sym c.side_of.ensures i;
               reference = sym c.reference.ensures i;
               moment = c.args.moment;
             };

@@ -14,17 +14,20 @@ use Rattle.gx_ledger.proofs.ledger.Ledger.new.Goals as goal
 pub names_of-requires : goal.names_of-requires
 names_of-requires c = ap accounts_differ c.accounts-2.ensures ∙ accounts_apart c.args.policy.now c.rules.ensures.sound
 
+pub first_tallies-requires : goal.first_tallies-requires
+first_tallies-requires c = ap names_differ c.stocks.ensures ∙ sound_stocks c.args.policy.now c.rules.ensures.sound
+
 pub first_prices-requires : goal.first_prices-requires
-first_prices-requires c = ap names_differ c.stocks.ensures ∙ sound_stocks c.args.policy.now c.rules.ensures.sound
+first_prices-requires c = ap names_differ c.stocks-2.ensures ∙ sound_stocks c.args.policy.now c.rules.ensures.sound
 
 pub returns : goal.returns
 returns c =
     let policy : PolicyData = c.args.policy.now in
-    let opened : Kept = record { accounts = account_names policy.accounts; prices = reference_prices policy.stocks; tallies = map (new_tally policy.accounts) policy.rules } in
+    let opened : Kept = record { accounts = account_names policy.accounts; prices = reference_prices policy.stocks; tallies = map (new_tally policy.accounts policy.stocks) policy.rules } in
     let new_is : the_view (record { accounts = c.in_ok-accounts.accounts; prices = c.in_ok-prices.prices; tallies = c.in_ok-tallies.tallies; counting = c.in_ok-counting.counting }) ≡ opened = λ i. record {
       accounts = (c.in_ok-accounts.ensures ∙ ap account_names c.accounts-2.ensures) i;
-      prices = (c.in_ok-prices.ensures ∙ ap reference_prices c.stocks.ensures) i;
-      tallies = (c.in_ok-tallies.ensures ∙ (λ j. map (new_tally (c.accounts.ensures j)) (c.rules.ensures.same j))) i;
+      prices = (c.in_ok-prices.ensures ∙ ap reference_prices c.stocks-2.ensures) i;
+      tallies = (c.in_ok-tallies.ensures ∙ (λ j. map (new_tally (c.accounts.ensures j) (c.stocks.ensures j)) (c.rules.ensures.same j))) i;
     } in
     record { stands = subst (λ k. StandsFor policy k nothing) (sym new_is) (opened_stands policy c.rules.ensures.sound) }
 

@@ -1,12 +1,13 @@
 use Rattle.std.proofs.Common.{◌≡◌, ◌≤◌, ◌-◌, take}
 use Rattle.std.specs.Io.KnownBytes.{Appends}
+use Rattle.gx_audit.specs.declared.version.AuditVersion.TheVariants as versions
 use Rattle.gx_audit.specs.Auditing.{all_bytes}
-use Rattle.gx_auditing.proofs.keeping.write_audit.Given as goal
+use Rattle.gx_auditing.proofs.keeping.write_records.Given as goal
 
 abbrev pub invariant-loop-done : goal.invariant-loop-done
 invariant-loop-done g l = record {
   within : l.done ≤ l.count;
-  text : Appends (g.W.Write.contents l.fn.writer.device) (g.W.Write.contents l.writer.device) (all_bytes (take l.done l.gate.records));
+  text : Appends (g.W.Write.contents l.fn.writer.device) (g.W.Write.contents l.writer.device) (all_bytes versions.Two (take l.done l.gate.records));
   kept : l.writer.failed ≡ l.fn.writer.failed;
 }
 

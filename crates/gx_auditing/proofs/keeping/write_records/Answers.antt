@@ -1,7 +1,7 @@
 use Rattle.std.proofs.Common.{◌∙◌, refl, arith}
 use Rattle.gx_devices.proofs.Known.{on_err}
 use Rattle.gx_auditing.proofs.Pieces.{none_written, piece_cut, piece_written, whole_written}
-use Rattle.gx_auditing.proofs.keeping.write_audit.Goals as goal
+use Rattle.gx_auditing.proofs.keeping.write_records.Goals as goal
 
 pub loop-done-init : goal.loop-done-init
 loop-done-init g c = record {

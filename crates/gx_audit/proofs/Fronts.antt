@@ -1,0 +1,77 @@
+-- What stands in front of the records.
+use Rattle.std.proofs.Common.{◌≡◌, ◌≢◌, ℕ, ◌+◌, ◌<◌, ◌≤◌, ◌==◌, true, inl, List, [], ◌∷◌, ◌++◌, length, take, drop, slice_index, refl, sym, ap, ◌∙◌, append_assoc, arith}
+use Rattle.std.specs.Prelude.{Err, codes}
+use Rattle.std.proofs.lemmas.List.{take_at, take-append-drop, length-append, length-take}
+use Rattle.std.proofs.lemmas.Bool.Decides.{nat_tests}
+use Rattle.gx_ouch.proofs.Places.{known_to_lie}
+use Rattle.gx_ouch.specs.Layout.{HasSizes, LiesIn}
+use Rattle.gx_history.specs.declared.policy.PolicyData.{PolicyData}
+use Rattle.gx_history.specs.declared.record.RecordData.{RecordData}
+use Rattle.gx_audit.specs.declared.fault.AuditFault.TheVariants as faults
+use Rattle.gx_audit.specs.declared.version.AuditVersion.{AuditVersion}
+use Rattle.gx_audit.specs.declared.version.AuditVersion.TheVariants as versions
+use Rattle.gx_audit.specs.Versions.{version_of}
+use Rattle.gx_audit.specs.Headers.{audit_header, header_bytes, header_contents, session_shown, front_of}
+use Rattle.gx_audit.specs.Records.{record_bytes}
+use Rattle.gx_audit.specs.Auditing.{all_bytes, whole_audit, IsAnswer}
+use Rattle.gx_audit.proofs.ReadBack.{both_true}
+
+session_size : (policy : PolicyData) → length (session_shown policy) ≡ 10
+session_size policy =
+    omega (arith, length-take 10 (policy.session.bytes ++ codes "          "), length-append policy.session.bytes (codes "          "))
+
+sizes : (policy : PolicyData) → HasSizes audit_header (header_contents policy)
+sizes policy = λ i. 3 ∷ session_size policy i ∷ 1 ∷ 2 ∷ 2 ∷ 2 ∷ 2 ∷ 105 ∷ []
+
+-- the parts of a header stand at their places
+pub parts_lie : (policy : PolicyData) (bytes : List ℕ) → bytes ≡ header_bytes policy → LiesIn audit_header (header_contents policy) bytes
+unfolding header_bytes
+parts_lie policy bytes known = known_to_lie audit_header (header_contents policy) bytes known (record { offsets = refl; size = refl }) (sizes policy)
+
+same_number : (n m : ℕ) → (n == m) ≡ true → n ≡ m
+same_number n m h = grind (arith, nat_tests)
+
+-- a header has 128 bytes
+pub header_size : (policy : PolicyData) → length (header_bytes policy) ≡ 128
+header_size policy =
+    same_number (length (header_bytes policy)) 128
+    (both_true (slice_index (header_bytes policy) 0 == 71) (length (header_bytes policy) == 128) (parts_lie policy (header_bytes policy) refl).is_of).1
+
+-- the version of an audit is found in it
+pub version_known : (version : AuditVersion) (policy : PolicyData) (records : List RecordData) → version_of (whole_audit version policy records) ≡ version
+unfolding all_bytes record_bytes header_bytes
+version_known versions.One policy [] = refl
+version_known versions.One policy (r ∷ records) = refl
+version_known versions.Two policy records = refl
+
+-- bytes of version 2 begin with the header
+pub begins_so : (version : AuditVersion) (policy : PolicyData) (records : List RecordData) (left bytes : List ℕ) → version ≡ versions.Two
+    → whole_audit version policy records ++ left ≡ bytes → header_bytes policy ++ (all_bytes version records ++ left) ≡ bytes
+begins_so version policy records left bytes is are =
+    sym (append_assoc (header_bytes policy) (all_bytes version records) left)
+    ∙ ap (λ (v : AuditVersion). (front_of v policy ++ all_bytes version records) ++ left) (sym is)
+    ∙ are
+
+pub long_enough : (policy : PolicyData) (behind bytes : List ℕ) → header_bytes policy ++ behind ≡ bytes → 128 ≤ length bytes
+long_enough policy behind bytes are =
+    let size : length bytes ≡ length (header_bytes policy) + length behind = ap length (sym are) ∙ length-append (header_bytes policy) behind in
+    omega (arith, size, header_size policy)
+
+pub same_header : (policy : PolicyData) (behind bytes : List ℕ) → header_bytes policy ++ behind ≡ bytes → take 128 bytes ≡ header_bytes policy
+same_header policy behind bytes are = ap (take 128) (sym are) ∙ take_at (header_bytes policy) behind 128 (header_size policy)
+
+-- the header is cut short
+pub cut_header : (policy : PolicyData) (bytes : List ℕ) → version_of bytes ≡ versions.Two → length bytes < 128 → IsAnswer policy bytes (Err faults.Truncated)
+cut_header policy bytes is short = inl (record { version_is = is; short = short })
+
+-- the header is another
+pub other_header : (policy : PolicyData) (bytes piece header : List ℕ) → version_of bytes ≡ versions.Two → 128 ≤ length bytes → piece ≡ take 128 (drop 0 bytes)
+    → header ≡ header_bytes policy → piece ≢ header → IsAnswer policy bytes (Err faults.OtherPolicy)
+other_header policy bytes piece header is whole cut written differ =
+    record { version_is = is; whole = whole; other = λ same. differ (cut ∙ same ∙ sym written) }
+
+-- the header is the policy's
+pub behind_header : (policy : PolicyData) (bytes piece header : List ℕ) → piece ≡ take 128 (drop 0 bytes) → header ≡ header_bytes policy → piece ≡ header
+    → header_bytes policy ++ drop 128 bytes ≡ bytes
+behind_header policy bytes piece header cut written same =
+    ap (λ (front : List ℕ). front ++ drop 128 bytes) (sym written ∙ sym same ∙ cut) ∙ take-append-drop 128 bytes
