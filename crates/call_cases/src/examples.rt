@@ -4,7 +4,7 @@ use crate::calls::words_of;
 use gx_command_line::{Asked, RunFiles, read};
 use gx_core::Gate;
 use gx_devices::Counted;
-use gx_scripting::run_script_explained;
+use gx_scripting::run_script;
 use gx_server::open_gate;
 use gx_session::run_pipe;
 use std::alloc::{AllocError, Global};
@@ -35,7 +35,7 @@ fn run_on(alloc: Global, gate: &mut Gate, kind: Kind, input: &[u8]) -> Option<Ve
     let mut writer = Counted::new(Vec::new(alloc));
     let is_done = match kind {
         Kind::Pipe => run_pipe(alloc, gate, 1, &mut reader, &mut writer).is_ok(),
-        Kind::Script => run_script_explained(alloc, gate, &mut reader, &mut writer).is_ok(),
+        Kind::Script => run_script(alloc, gate, &mut reader, &mut writer).is_ok(),
     };
     if is_done {
         Some(writer.into_inner())

@@ -11,7 +11,7 @@ use gx_command_line::{Asked, AuditFiles, LONGEST_WORD, RunFiles, Serving, Wanted
 use gx_core::Gate;
 use gx_devices::Counted;
 use gx_history::policy::Policy;
-use gx_scripting::run_script_explained;
+use gx_scripting::run_script;
 use gx_serve::{Lobby, ServeFault, Served, serve};
 use gx_server::{Noted, migrated_policy, open_gate, policy_for, told_of_policy};
 use gx_session::run_pipe;
@@ -110,7 +110,7 @@ fn pipe<'a>(rt: &HostRuntime, files: RunFiles<'a>) -> Result<(), Ended<'a>> {
 fn follow<'a>(rt: &HostRuntime, gate: &mut Gate) -> Result<(), Ended<'a>> {
     let mut reader = Counted::new(Noted::new(rt.reader()));
     let mut writer = Counted::new(Noted::new(io::writer(rt)));
-    match run_script_explained(rt.alloc(), gate, &mut reader, &mut writer) {
+    match run_script(rt.alloc(), gate, &mut reader, &mut writer) {
         Ok(()) => Ok(()),
         Err(explained) => Err(Ended::of_run(
             explained.into(),

@@ -14,7 +14,7 @@ use gx_core::Gate;
 use gx_devices::Counted;
 use gx_history::policy::Policy;
 use gx_script::outcome_line;
-use gx_scripting::{Explained, run_script_explained};
+use gx_scripting::{Explained, run_script};
 use gx_server::Noted;
 use gx_session::{PipeFault, run_pipe};
 use gx_units::OutOfMemory;
@@ -44,7 +44,7 @@ impl Kind {
     {
         match self {
             Kind::Pipe => End::Pipe(run_pipe(alloc, gate, 1, reader, writer)),
-            Kind::Script => End::Script(run_script_explained(alloc, gate, reader, writer)),
+            Kind::Script => End::Script(run_script(alloc, gate, reader, writer)),
         }
     }
 }

@@ -1,12 +1,13 @@
 -- What stands in front of the records.
 use Rattle.std.proofs.Common.{◌≡◌, ◌≢◌, ℕ, ◌+◌, ◌<◌, ◌≤◌, ◌==◌, true, inl, List, [], ◌∷◌, ◌++◌, length, take, drop, slice_index, refl, sym, ap, ◌∙◌, append_assoc, arith}
-use Rattle.std.specs.Prelude.{Err, codes}
+use Rattle.std.specs.Prelude.{Result, Ok, Err, IfErr, codes}
 use Rattle.std.proofs.lemmas.List.{take_at, take-append-drop, length-append, length-take}
 use Rattle.std.proofs.lemmas.Bool.Decides.{nat_tests}
 use Rattle.gx_ouch.proofs.Places.{known_to_lie}
 use Rattle.gx_ouch.specs.Layout.{HasSizes, LiesIn}
 use Rattle.gx_history.specs.declared.policy.PolicyData.{PolicyData}
 use Rattle.gx_history.specs.declared.record.RecordData.{RecordData}
+use Rattle.gx_audit.specs.declared.fault.AuditFault.{AuditFault}
 use Rattle.gx_audit.specs.declared.fault.AuditFault.TheVariants as faults
 use Rattle.gx_audit.specs.declared.version.AuditVersion.{AuditVersion}
 use Rattle.gx_audit.specs.declared.version.AuditVersion.TheVariants as versions
@@ -14,6 +15,7 @@ use Rattle.gx_audit.specs.Versions.{version_of}
 use Rattle.gx_audit.specs.Headers.{audit_header, header_bytes, header_contents, session_shown, front_of}
 use Rattle.gx_audit.specs.Records.{record_bytes}
 use Rattle.gx_audit.specs.Auditing.{all_bytes, whole_audit, IsAnswer}
+use Rattle.gx_audit.specs.Replaying.{IsHeaderFault}
 use Rattle.gx_audit.proofs.ReadBack.{both_true}
 
 session_size : (policy : PolicyData) → length (session_shown policy) ≡ 10
@@ -60,15 +62,28 @@ long_enough policy behind bytes are =
 pub same_header : (policy : PolicyData) (behind bytes : List ℕ) → header_bytes policy ++ behind ≡ bytes → take 128 bytes ≡ header_bytes policy
 same_header policy behind bytes are = ap (take 128) (sym are) ∙ take_at (header_bytes policy) behind 128 (header_size policy)
 
--- the header is cut short
-pub cut_header : (policy : PolicyData) (bytes : List ℕ) → version_of bytes ≡ versions.Two → length bytes < 128 → IsAnswer policy bytes (Err faults.Truncated)
-cut_header policy bytes is short = inl (record { version_is = is; short = short })
-
 -- the header is another
-pub other_header : (policy : PolicyData) (bytes piece header : List ℕ) → version_of bytes ≡ versions.Two → 128 ≤ length bytes → piece ≡ take 128 (drop 0 bytes)
-    → header ≡ header_bytes policy → piece ≢ header → IsAnswer policy bytes (Err faults.OtherPolicy)
-other_header policy bytes piece header is whole cut written differ =
-    record { version_is = is; whole = whole; other = λ same. differ (cut ∙ same ∙ sym written) }
+pub other_header : (policy : PolicyData) (bytes piece header : List ℕ) → 128 ≤ length bytes → piece ≡ take 128 (drop 0 bytes) → header ≡ header_bytes policy → piece ≢ header
+    → IsHeaderFault policy bytes faults.OtherPolicy
+other_header policy bytes piece header whole cut written differ = (whole, λ same. differ (cut ∙ same ∙ sym written))
+
+header_answer : (policy : PolicyData) (bytes : List ℕ) (fault : AuditFault) → version_of bytes ≡ versions.Two → IsHeaderFault policy bytes fault → IsAnswer policy bytes (Err fault)
+header_answer policy bytes faults.Truncated is short = inl (record { version_is = is; short = short })
+header_answer policy bytes faults.OtherPolicy is other = record { version_is = is; whole = other.0; other = other.1 }
+header_answer policy bytes (faults.BadRecord n) is none = absurd none
+header_answer policy bytes (faults.IllegalVerdict n) is none = absurd none
+header_answer policy bytes faults.OutOfMemory is none = absurd none
+
+-- what is told of the header of an audit of version 2
+pub told_of_header : (policy : PolicyData) (bytes : List ℕ) (answer : Result ℕ AuditFault) → version_of bytes ≡ versions.Two → IfErr answer (λ e. IsHeaderFault policy bytes e)
+    → IfErr answer (λ e. IsAnswer policy bytes (Err e))
+told_of_header policy bytes (Ok end) is fault = tt
+told_of_header policy bytes (Err e) is fault = header_answer policy bytes e is fault
+
+-- bytes that begin with a header are those of version 2
+pub second_version : (policy : PolicyData) (behind bytes : List ℕ) → header_bytes policy ++ behind ≡ bytes → version_of bytes ≡ versions.Two
+unfolding header_bytes
+second_version policy behind bytes are = ap version_of (sym are)
 
 -- the header is the policy's
 pub behind_header : (policy : PolicyData) (bytes piece header : List ℕ) → piece ≡ take 128 (drop 0 bytes) → header ≡ header_bytes policy → piece ≡ header

@@ -9,3 +9,4 @@ pub mod Walking
 pub mod Only
 pub mod Full
 pub mod Whole
+pub mod Journals

@@ -35,7 +35,7 @@ follows_in policy all before r rest legal is =
 same_number : (n m : ℕ) → (n == m) ≡ true → n ≡ m
 same_number n m h = grind (arith, nat_tests)
 
-shown_size : (version : AuditVersion) (r : RecordData) → IsShown version r → length (record_bytes version r) ≡ 128
+pub shown_size : (version : AuditVersion) (r : RecordData) → IsShown version r → length (record_bytes version r) ≡ 128
 shown_size version r shown =
     same_number (length (record_bytes version r)) 128
     (both_true (slice_index (record_bytes version r) 0 == 71) (length (record_bytes version r) == 128) (fields_lie version r (record_bytes version r) refl shown.places).is_of).1

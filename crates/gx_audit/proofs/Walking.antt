@@ -13,6 +13,7 @@ use Rattle.gx_audit.specs.Versions.{version_of}
 use Rattle.gx_audit.specs.Headers.{front_of}
 use Rattle.gx_audit.specs.Records.{record_bytes}
 use Rattle.gx_audit.specs.Reading.{IsShown}
+use Rattle.gx_audit.specs.Replaying.{EndsAt, IsRecordsFault}
 use Rattle.gx_audit.specs.Auditing.{all_bytes, whole_audit, AreShown, IsAnswer, IsFaultAt, IsRecordFault, IsFirstFault, IsOneMore}
 
 pub no_bytes : (version : AuditVersion) → all_bytes version [] ≡ []
@@ -76,47 +77,55 @@ first_fault version policy records bytes at fault is legal shown are stands =
       stands = stands;
     }
 
-answer_of : (version : AuditVersion) (policy : PolicyData) (records : List RecordData) (piece bytes : List ℕ) (at : ℕ) (fault : AuditFault) → version_of bytes ≡ version
+fault_of : (version : AuditVersion) (policy : PolicyData) (records : List RecordData) (piece bytes : List ℕ) (at : ℕ) (fault : AuditFault) → version_of bytes ≡ version
     → IsLegal policy records → AreShown version records → whole_audit version policy records ++ drop at bytes ≡ bytes → 128 ≤ length (drop at bytes)
-    → piece ≡ take 128 (drop at bytes) → IsRecordFault version policy records piece fault → IsAnswer policy bytes (Err fault)
-answer_of version policy records piece bytes at faults.Truncated is legal shown are whole cut stands = absurd stands
-answer_of version policy records piece bytes at (faults.BadRecord n) is legal shown are whole cut stands =
+    → piece ≡ take 128 (drop at bytes) → IsRecordFault version policy records piece fault → IsRecordsFault policy bytes fault
+fault_of version policy records piece bytes at faults.Truncated is legal shown are whole cut stands = stands
+fault_of version policy records piece bytes at (faults.BadRecord n) is legal shown are whole cut stands =
     first_fault version policy records bytes at (faults.BadRecord n) is legal shown are
     (whole, subst (λ (bs : List ℕ). IsRecordFault version policy records bs (faults.BadRecord n)) cut stands)
-answer_of version policy records piece bytes at (faults.IllegalVerdict n) is legal shown are whole cut stands =
+fault_of version policy records piece bytes at (faults.IllegalVerdict n) is legal shown are whole cut stands =
     first_fault version policy records bytes at (faults.IllegalVerdict n) is legal shown are
     (whole, subst (λ (bs : List ℕ). IsRecordFault version policy records bs (faults.IllegalVerdict n)) cut stands)
-answer_of version policy records piece bytes at faults.OutOfMemory is legal shown are whole cut stands = tt
-answer_of version policy records piece bytes at faults.OtherPolicy is legal shown are whole cut stands = absurd stands
+fault_of version policy records piece bytes at faults.OutOfMemory is legal shown are whole cut stands = tt
+fault_of version policy records piece bytes at faults.OtherPolicy is legal shown are whole cut stands = stands
 
 -- what is told of the record at hand is told of the bytes
 pub fault_told : (version : AuditVersion) (policy held : PolicyData) (records : List RecordData) (piece bytes : List ℕ) (at : ℕ) (fault : AuditFault) → held ≡ policy
     → version_of bytes ≡ version → IsLegal held records → AreShown version records → whole_audit version policy records ++ drop at bytes ≡ bytes
-    → at + 128 ≤ length bytes → piece ≡ take 128 (drop at bytes) → IsRecordFault version held records piece fault → IsAnswer policy bytes (Err fault)
+    → at + 128 ≤ length bytes → piece ≡ take 128 (drop at bytes) → IsRecordFault version held records piece fault → IsRecordsFault policy bytes fault
 fault_told version policy held records piece bytes at fault same is legal shown are within cut stands =
-    answer_of version policy records piece bytes at fault is (subst (λ (p : PolicyData). IsLegal p records) same legal) shown are
+    fault_of version policy records piece bytes at fault is (subst (λ (p : PolicyData). IsLegal p records) same legal) shown are
     (omega (arith, within, length-drop at bytes)) cut (subst (λ (p : PolicyData). IsRecordFault version p records piece fault) same stands)
 
+-- a fault among the records is an answer
+pub answer_of_records : (policy : PolicyData) (bytes : List ℕ) (fault : AuditFault) → IsRecordsFault policy bytes fault → IsAnswer policy bytes (Err fault)
+answer_of_records policy bytes faults.Truncated none = absurd none
+answer_of_records policy bytes (faults.BadRecord n) found = found
+answer_of_records policy bytes (faults.IllegalVerdict n) found = found
+answer_of_records policy bytes faults.OutOfMemory found = tt
+answer_of_records policy bytes faults.OtherPolicy none = absurd none
+
 -- some bytes are left
-pub left_told : (version : AuditVersion) (policy held : PolicyData) (records : List RecordData) (bytes : List ℕ) (at : ℕ) → held ≡ policy → version_of bytes ≡ version
-    → IsLegal held records → AreShown version records → whole_audit version policy records ++ drop at bytes ≡ bytes → at < length bytes → length bytes < at + 128
-    → IsAnswer policy bytes (Err faults.Truncated)
-left_told version policy held records bytes at same is legal shown are some few =
-    inr (first_fault version policy records bytes at faults.Truncated is (subst (λ (p : PolicyData). IsLegal p records) same legal) shown are
-    (omega (arith, some, length-drop at bytes), omega (arith, few, length-drop at bytes)))
+pub left_told : (version : AuditVersion) (policy : PolicyData) (records : List RecordData) (bytes : List ℕ) (end : ℕ) → version_of bytes ≡ version → IsLegal policy records
+    → EndsAt version policy bytes records end → end < length bytes → IsAnswer policy bytes (Err faults.Truncated)
+left_told version policy records bytes end is legal ends some =
+    let short = ends.short in
+    inr (first_fault version policy records bytes end faults.Truncated is legal ends.shown ends.bytes_are
+    (omega (arith, some, length-drop end bytes), omega (arith, short, length-drop end bytes)))
 
 -- no bytes are left
-pub all_legal : (version : AuditVersion) (policy held : PolicyData) (records : List RecordData) (bytes : List ℕ) (at count : ℕ) → held ≡ policy → IsLegal held records
-    → AreShown version records → whole_audit version policy records ++ drop at bytes ≡ bytes → length bytes ≤ at → count ≡ length records → IsAnswer policy bytes (Ok count)
-all_legal version policy held records bytes at count same legal shown are past counted =
+pub all_legal : (version : AuditVersion) (policy : PolicyData) (records : List RecordData) (bytes : List ℕ) (end count : ℕ) → IsLegal policy records
+    → EndsAt version policy bytes records end → length bytes ≤ end → count ≡ length records → IsAnswer policy bytes (Ok count)
+all_legal version policy records bytes end count legal ends past counted =
     record {
       version = version;
       records = records;
-      legal = subst (λ (p : PolicyData). IsLegal p records) same legal;
-      shown = shown;
+      legal = legal;
+      shown = ends.shown;
       bytes_are =
           sym (append-nil (whole_audit version policy records))
-          ∙ ap (λ (rest : List ℕ). whole_audit version policy records ++ rest) (sym (drop_all at bytes past)) ∙ are;
+          ∙ ap (λ (rest : List ℕ). whole_audit version policy records ++ rest) (sym (drop_all end bytes past)) ∙ ends.bytes_are;
       count_is = sym counted;
     }
 

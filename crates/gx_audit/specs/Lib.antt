@@ -5,3 +5,4 @@ pub mod Records
 pub mod Headers
 pub mod Reading
 pub mod Auditing
+pub mod Replaying

@@ -3,9 +3,9 @@
 ghost use Rattle.std.specs.Prelude.{◌≡◌, ◌≢◌, ◌+◌, ◌-◌, ◌<◌, ◌≤◌, ◌^◌, IsTrue, IsFalse, IfOk, IfErr, OnOk, Err, ◌++◌, [], length, take, drop, Some};
 ghost use Rattle.gx_history.specs.Verdicts.{next, IsLegal};
 ghost use Rattle.gx_core.specs.declared.outcome.StepFault.TheVariants as stepping;
-ghost use Rattle.gx_audit.specs.declared.version.AuditVersion.TheVariants as versions;
 ghost use Rattle.gx_audit.specs.Auditing.{with_left, IsAnswer, IsOneMore, IsOnlyAnswer, IsRecordFault, NoneFollows};
 ghost use Rattle.gx_audit.specs.Reading.{record_of, IsAskableStep, IsShown};
+ghost use Rattle.gx_audit.specs.Replaying.{EndsAt, IsHeaderFault, IsRecordsFault};
 ghost use Rattle.gx_audit.specs.Headers.{front_of, header_bytes};
 ghost use Rattle.gx_audit.specs.Records.{record_bytes};
 ghost use Rattle.gx_audit.specs.Versions.{version_of};
@@ -37,6 +37,7 @@ pub fn check_audit(alloc: Global, policy: &Policy, bytes: &[u8]) -> Result<u64, 
 }
 
 /// Where the records begin: behind the header, where there has to be one.
+#[tactic(auto, using(crate::proofs::Fronts::told_of_header))]
 fn records_start(policy: &Policy, version: AuditVersion, bytes: &[u8]) -> Result<usize, AuditFault>
     requires version { version_of bytes.now ≡ version }
     ensures within { IfOk result (λ start. start ≤ length bytes.now) }
@@ -51,13 +52,12 @@ fn records_start(policy: &Policy, version: AuditVersion, bytes: &[u8]) -> Result
 }
 
 /// Where the policy's header ends, with which the bytes have to begin.
-#[tactic(auto, using(crate::proofs::Fronts::cut_header, crate::proofs::Fronts::other_header))]
-fn header_end(policy: &Policy, bytes: &[u8]) -> Result<usize, AuditFault>
-    requires version { version_of bytes.now ≡ versions.Two }
+#[tactic(auto, using(crate::proofs::Fronts::other_header))]
+pub(crate) fn header_end(policy: &Policy, bytes: &[u8]) -> Result<usize, AuditFault>
     ensures within { IfOk result (λ end. end ≤ length bytes.now) }
     ensures front { IfOk result (λ end.
         header_bytes policy.now ++ drop end bytes.now ≡ bytes.now) }
-    ensures fault { IfErr result (λ e. IsAnswer policy.now bytes.now (Err e)) }
+    ensures fault { IfErr result (λ e. IsHeaderFault policy.now bytes.now e) }
 {
     if bytes.len() < RECORD_SIZE {
         return Err(AuditFault::Truncated);
@@ -92,6 +92,7 @@ fn check_behind(
 }
 
 /// Makes the steps of the records from this place on, on a new gate: how many records there are, or the first fault.
+#[tactic(auto, using(crate::proofs::Walking::answer_of_records, crate::proofs::Walking::left_told, crate::proofs::Walking::all_legal))]
 fn check_records(
     gate: &mut Gate,
     version: AuditVersion,
@@ -104,6 +105,30 @@ fn check_records(
     requires front { front_of version gate.old.policy ++ drop start bytes.now ≡ bytes.now }
     ensures { IsAnswer gate.old.policy bytes.now result }
 {
+    match follow_records(gate, version, bytes, start) {
+        Ok(end) if end < bytes.len() => Err(AuditFault::Truncated),
+        Ok(_) => Ok(gate.length()),
+        Err(fault) => Err(fault),
+    }
+}
+
+/// Makes the steps of the whole records from this place on, on a new gate. Answers where they end.
+pub(crate) fn follow_records(
+    gate: &mut Gate,
+    version: AuditVersion,
+    bytes: &[u8],
+    start: usize,
+) -> Result<usize, AuditFault>
+    requires new { gate.old.records ≡ [] }
+    requires version { version_of bytes.now ≡ version }
+    requires within { start ≤ length bytes.now }
+    requires front { front_of version gate.old.policy ++ drop start bytes.now ≡ bytes.now }
+    ensures policy { gate.new.policy ≡ gate.old.policy }
+    ensures legal { OnOk result (IsLegal gate.old.policy gate.new.records) }
+    ensures whole { IfOk result (λ end.
+        EndsAt version gate.old.policy bytes.now gate.new.records end) }
+    ensures fault { IfErr result (λ e. IsRecordsFault gate.old.policy bytes.now e) }
+{
     let mut at = start;
     while bytes.len() - at >= RECORD_SIZE {
         match check_record(gate, version, &record_at(bytes, at)) {
@@ -113,10 +138,7 @@ fn check_records(
     }
     // that its records are those of a legal day
     gate.is_legal();
-    if at < bytes.len() {
-        return Err(AuditFault::Truncated);
-    }
-    Ok(gate.length())
+    Ok(at)
 }
 
 /// The bytes from this place on.

@@ -1,8 +1,8 @@
 -- What the keepers answer is what the rules ask of the records.
-use Rattle.std.proofs.Common.{◌≡◌, ℕ, ◌+◌, ◌<◌, ◌^◌, max, pred, arith, length, drop, List, ◌∙◌, ap, true}
+use Rattle.std.proofs.Common.{◌≡◌, ℕ, ◌+◌, ◌<◌, ◌^◌, max, pred, arith, length, drop, List, ◌∙◌, ap, refl, true}
 use Rattle.std.proofs.lemmas.List.{length-take, length-drop}
 use Rattle.gx_history.specs.Lists.{slice}
-use Rattle.std.specs.Prelude.{false, is_some, option_map, option_and_then, Result, Ok, Err, IfOk}
+use Rattle.std.specs.Prelude.{false, Option, Some, None, is_some, option_map, option_and_then, Result, Ok, Err, IfOk}
 use Rattle.std.specs.Option.{option_map_or}
 use Rattle.gx_units.specs.declared.names.AccountName.{AccountName}
 use Rattle.gx_units.specs.declared.names.Password.{Password}
@@ -10,6 +10,8 @@ use Rattle.gx_units.specs.declared.names.Token.{Token}
 use Rattle.gx_units.specs.declared.names.UserName.{UserName}
 use Rattle.gx_desk.specs.declared.Action.{Action}
 use Rattle.gx_history.specs.declared.policy.PolicyData.{PolicyData}
+use Rattle.gx_history.specs.declared.policy.Role.{Role}
+use Rattle.gx_history.specs.declared.policy.Role.TheVariants as roles
 use Rattle.gx_history.specs.declared.policy.User.{User}
 use Rattle.gx_history.specs.declared.record.RecordData.{RecordData}
 use Rattle.gx_history.specs.declared.record.Request.{Request}
@@ -28,7 +30,7 @@ use Rattle.gx_orders.specs.InForce.{cuts_nothing, named, order_named, orders_in_
 use Rattle.gx_orders.specs.LiveOrders.{OrdersData, is_used}
 use Rattle.gx_orders.proofs.Keeping.{named_fact_is, takes_nothing_is, used_is}
 use Rattle.gx_people.specs.Entitled.{has, holds, holds_in_role, power_of}
-use Rattle.gx_people.proofs.Keeping.{accounts_stay, officers_stay, passwords_stay, powers_stay, scopes_stay, traders_stay, users_stay}
+use Rattle.gx_people.proofs.Keeping.{accounts_stay, officers_stay, passwords_stay, powers_stay, scopes_stay, users_stay}
 use Rattle.gx_streams.specs.Streams.{reports_in}
 use Rattle.gx_streams.proofs.Finding.{reports_are}
 use Rattle.gx_streams.proofs.OnlyKnown.{readers_are, streams_are_copies}
@@ -44,9 +46,15 @@ pub passwords_are_known : (policy : PolicyData) (history : List RecordData) (k :
     → password_is k.people user given ≡ password_is policy.users user given
 passwords_are_known policy history k user given kept = ap (λ (users : List User). password_is users user given) kept.in_force.people ∙ passwords_stay policy history user given
 
-pub traders_are_known : (policy : PolicyData) (history : List RecordData) (k : Keepers) (user : UserName) → IsKept policy history k
-    → is_trader (role_in k.people user) ≡ is_trader (role_in policy.users user)
-traders_are_known policy history k user kept = ap (λ (users : List User). is_trader (role_in users user)) kept.in_force.people ∙ traders_stay policy history user
+-- who trades is who trades for an account
+trades : (role : Option Role) → is_some (option_and_then account_of_role role) ≡ is_trader role
+trades None = refl
+trades (Some (roles.Trader account)) = refl
+trades (Some (roles.Officer powers scope)) = refl
+trades (Some (roles.Reader readings)) = refl
+
+pub traders_have_accounts : (policy : PolicyData) (user : UserName) → is_some (account_of policy user) ≡ is_trader (role_in policy.users user)
+traders_have_accounts policy user = trades (role_in policy.users user)
 
 pub officers_are_known : (policy : PolicyData) (history : List RecordData) (k : Keepers) (user : UserName) → IsKept policy history k
     → is_officer (role_in k.people user) ≡ is_officer (role_in policy.users user)

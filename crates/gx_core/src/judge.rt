@@ -11,6 +11,7 @@ ghost use Rattle.gx_people.specs.Entitled.{holds_in_role};
 ghost use Rattle.gx_core.specs.Gates.{left_by};
 ghost use Rattle.gx_core.specs.Known.{accounts_held, change_asked, cuts_none, has_used, is_available_after, named_asked, names_known, order_asked, power_held, role_asking};
 ghost use Rattle.gx_core.specs.Steps.{next_of, verdict_of};
+ghost use Rattle.gx_core.specs.Told.{stream_of};
 
 use crate::gate::Gate;
 use crate::outcome::Outcome;
@@ -28,16 +29,6 @@ fn is_on_line(on: Option<u16>, line: u16) -> bool
     ensures { result ≡ is_on_line on line }
 {
     on == Some(line)
-}
-
-/// Whether a Login's session name is right, and the report that it asks for is there or comes next.
-fn is_available(owed: u64, request: &Request) -> bool
-    ensures { result ≡ is_available_after owed request.now }
-{
-    match request {
-        Request::Login(m) => m.session_is_right && (m.wanted <= 1 || m.wanted - 1 <= owed),
-        _ => true,
-    }
 }
 
 /// What the rules ask of a live order.
@@ -64,6 +55,13 @@ fn cuts_nothing(request: &Request, order: &LiveOrder) -> bool
     }
 }
 
+/// What the rules ask of the order that a request names.
+#[derive(Clone, Copy)]
+struct NamedFacts {
+    named: Option<NamedOrder>,
+    cancel_takes_nothing: bool,
+}
+
 impl Gate {
     /// Whether a Login's user is in the policy, and its password is right.
     #[tactic(auto, using(crate::proofs::Judged::users_are_known))]
@@ -76,17 +74,28 @@ impl Gate {
         }
     }
 
-    /// Whether orders are asked for by a trader, and commands by an officer.
-    #[tactic(auto, using(crate::proofs::Judged::traders_are_known, crate::proofs::Judged::officers_are_known))]
-    fn fits_role(&self, a: &Asked) -> bool
-        ensures { result ≡ fits_role (role_in self.now.policy.users a.now.user) a.now.request }
+    /// Whether a Login's session name is right, and the report that it asks for is there or comes next.
+    fn is_available(&self, a: &Asked) -> bool
+        ensures { result ≡ is_available_after (length (stream_of self.now a.now.user)) a.now.request }
     {
-        let people = &self.keepers.people;
         match &a.request {
-            Request::Enter(_) | Request::Replace(_) | Request::Cancel(_) => {
-                people.is_trader(a.user)
+            Request::Login(m) => {
+                m.session_is_right && (m.wanted <= 1 || m.wanted - 1 <= self.count_reports(a.user))
             }
-            Request::Command(_) => people.is_officer(a.user),
+            _ => true,
+        }
+    }
+
+    /// Whether orders are asked for by a trader, and commands by an officer; this is the account that the user trades for,
+    /// if he trades.
+    #[tactic(auto, using(crate::proofs::Judged::traders_have_accounts, crate::proofs::Judged::officers_are_known))]
+    fn fits_role(&self, a: &Asked, account: Option<AccountName>) -> bool
+        requires account { account ≡ account_of self.now.policy a.now.user }
+        ensures fits { result ≡ fits_role (role_in self.now.policy.users a.now.user) a.now.request }
+    {
+        match &a.request {
+            Request::Enter(_) | Request::Replace(_) | Request::Cancel(_) => account.is_some(),
+            Request::Command(_) => self.keepers.people.is_officer(a.user),
             _ => true,
         }
     }
@@ -116,22 +125,20 @@ impl Gate {
     }
 
     /// What the rules ask of the order that a Replace or a Cancel names.
-    #[tactic(auto, using(crate::proofs::Judged::named_are_known))]
-    fn named(&self, a: &Asked) -> Option<NamedOrder>
-        ensures { result ≡ named_asked self.now a.now }
-    {
-        let order = self.order_named(a)?;
-        Some(named_order(&order))
-    }
-
-    /// Whether a Cancel asks for no less than its order's size.
-    #[tactic(auto, using(crate::proofs::Judged::cuts_are_known))]
-    fn cancel_takes_nothing(&self, a: &Asked) -> bool
-        ensures { result ≡ cuts_none self.now a.now }
+    #[tactic(auto, using(crate::proofs::Judged::named_are_known, crate::proofs::Judged::cuts_are_known))]
+    fn named_facts(&self, a: &Asked) -> NamedFacts
+        ensures named { result.named ≡ named_asked self.now a.now }
+        ensures takes_nothing { result.cancel_takes_nothing ≡ cuts_none self.now a.now }
     {
         match self.order_named(a) {
-            Some(order) => cuts_nothing(&a.request, &order),
-            None => false,
+            Some(order) => NamedFacts {
+                named: Some(named_order(&order)),
+                cancel_takes_nothing: cuts_nothing(&a.request, &order),
+            },
+            None => NamedFacts {
+                named: None,
+                cancel_takes_nothing: false,
+            },
         }
     }
 
@@ -142,16 +149,17 @@ impl Gate {
     {
         let account = self.account_of(a.user);
         let on = self.on(a.user);
+        let order = self.named_facts(a);
         let command = self.command_facts(a);
         Facts {
             may_log_in: self.knows_who_asks(a),
             is_logged_in: on.is_some(),
-            session_is_available: is_available(self.count_reports(a.user), &a.request),
+            session_is_available: self.is_available(a),
             is_on_this_line: is_on_line(on, a.line),
-            role_fits: self.fits_role(a),
+            role_fits: self.fits_role(a, account),
             token_is_used: self.token_is_used(a),
-            named: self.named(a),
-            cancel_takes_nothing: self.cancel_takes_nothing(a),
+            named: order.named,
+            cancel_takes_nothing: order.cancel_takes_nothing,
             day_is_closed: self.is_closed(),
             account_is_killed: account.is_some_and(|name| self.is_killed(name)),
             firm_fits: fits_firm(&self.policy, account, &a.request),

@@ -57,6 +57,13 @@ impl<N: GateName> Keeper<N> {
         }
     }
 
+    /// How many lines were issued.
+    pub fn issued(&self) -> u16
+        ensures { result ≡ self.now.issued }
+    {
+        self.issued
+    }
+
     /// A pass with a line that was not issued before. It has met the whole history, which has no record of its line.
     ///
     /// # Errors

@@ -7,7 +7,7 @@ ghost use Rattle.gx_units.specs.declared.names.AccountName.{AccountName};
 ghost use Rattle.gx_units.specs.declared.names.UserName.{UserName};
 ghost use Rattle.gx_history.specs.Masks.{mask_by};
 ghost use Rattle.gx_history.specs.Logins.{password_is};
-ghost use Rattle.gx_history.specs.People.{account_of_role, is_officer, is_reader, is_trader, reader_in, role_in, user_in};
+ghost use Rattle.gx_history.specs.People.{account_of_role, is_officer, is_reader, reader_in, role_in, user_in};
 ghost use Rattle.gx_people.specs.Entitled.{granted_to, has, has_room, holds, may, revoked_from};
 ghost use Rattle.gx_people.specs.Entitled.{sees, sees_after, sees_with, sees_without};
 ghost use Rattle.gx_people.specs.View.{role_of_standing};
@@ -82,13 +82,6 @@ impl People {
         ensures { result ≡ is_some (user_in self.now user) }
     {
         self.by_name.contains_key(&user)
-    }
-
-    /// Whether the user enters orders.
-    pub fn is_trader(&self, user: UserName) -> bool
-        ensures { result ≡ is_trader (role_in self.now user) }
-    {
-        matches!(self.standing(user), Some(Standing::Trader(_)))
     }
 
     /// Whether the user gives commands.

@@ -1,31 +1,41 @@
 -- Laws of scripts: how lines end, and what follows a bad line.
-use Rattle.std.proofs.Common.{◌≡◌, ℕ, ◌+◌, ◌-◌, ◌≤◌, Bool, true, false, ◌||◌, cond, eqb, is_some, Option, Some, None, List, [], ◌∷◌, ◌++◌, length, take, refl, sym, ap, ◌∙◌, append_assoc, append-nil, arith, length-take, length-append}
+use Rattle.std.proofs.Common.{◌≡◌, ℕ, ◌+◌, ◌-◌, ◌<◌, ◌≤◌, Bool, true, false, not, ◌||◌, cond, eqb, is_some, Option, Some, None, List, [], ◌∷◌, ◌++◌, length, take, refl, sym, ap, ◌∙◌, append_assoc, append-nil, arith, length-take, length-append}
 use Rattle.std.specs.Prelude.{fold, slice_index}
-use Rattle.std.proofs.lemmas.Bool.{ltb-true, lt-ltb, ne_eqb}
+use Rattle.std.proofs.lemmas.Bool.{and_parts, ltb-true, lt-ltb}
 use Rattle.std.proofs.lemmas.List.Sums.{fold-append}
 use Rattle.gx_core.specs.Gates.{GateData}
 use Rattle.gx_script.specs.Words.{◌>>=◌}
 use Rattle.gx_script.specs.ScriptLines.{without_cr, is_too_long, line_within, line_of}
 use Rattle.gx_scripting.specs.Scripting.{Printed, effect_of, line_effect, ScriptRun, unread, with_line, on_line, Cut, on_byte, cut_of, after_lines, script_of, is_settled}
 use Rattle.gx_scripting.specs.ScriptPiping.{so_far}
+use Rattle.gx_scripting.specs.ScriptTexts.{has_no_end}
 
 pub cut_more : (bytes piece : List ℕ) → cut_of (bytes ++ piece) ≡ fold on_byte (cut_of bytes) piece
 unfolding cut_of
 cut_more bytes piece = fold-append on_byte (record { whole = []; rest = [] }) bytes piece
+
+not_true : (b : Bool) → not b ≡ true → b ≡ false
+not_true true h = cc
+not_true false h = refl
 
 -- LF ends a line
 pub cut_end : (bytes : List ℕ) (byte : ℕ) → byte ≡ 10
     → cut_of (bytes ++ byte ∷ []) ≡ record { whole = (cut_of bytes).whole ++ (cut_of bytes).rest ∷ []; rest = [] }
 cut_end bytes byte e = cut_more bytes (byte ∷ []) ∙ ap (on_byte (cut_of bytes)) e
 
--- another byte goes on with it
-pub cut_on : (bytes : List ℕ) (byte : ℕ) → (byte ≡ 10 → ⊥)
-    → cut_of (bytes ++ byte ∷ []) ≡ record { whole = (cut_of bytes).whole; rest = (cut_of bytes).rest ++ byte ∷ [] }
-cut_on bytes byte h =
-    let cut = cut_of bytes in
+-- bytes of which none is an LF go on with it
+goes_on : (front : List ℕ) (cut : Cut) → has_no_end front ≡ true → fold on_byte cut front ≡ record { whole = cut.whole; rest = cut.rest ++ front }
+goes_on [] cut h = ap (λ (rest : List ℕ). record { whole = cut.whole; rest = rest }) (sym (append-nil cut.rest))
+goes_on (byte ∷ front) cut h =
+    let p = and_parts _ _ h in
     let ended : Cut = record { whole = cut.whole ++ cut.rest ∷ []; rest = [] } in
     let longer : Cut = record { whole = cut.whole; rest = cut.rest ++ byte ∷ [] } in
-    cut_more bytes (byte ∷ []) ∙ ap (λ b. cond b ended longer) (ne_eqb byte 10 h)
+    ap (λ b. fold on_byte (cond b ended longer) front) (not_true (eqb byte 10) p.0)
+    ∙ (goes_on front longer p.1 ∙ ap (λ (rest : List ℕ). record { whole = cut.whole; rest = rest }) (append_assoc cut.rest (byte ∷ []) front))
+
+pub cut_on : (bytes front : List ℕ) → has_no_end front ≡ true
+    → cut_of (bytes ++ front) ≡ record { whole = (cut_of bytes).whole; rest = (cut_of bytes).rest ++ front }
+cut_on bytes front h = cut_more bytes front ∙ goes_on front (cut_of bytes) h
 
 pub lines_more : (before : GateData) (whole : List (List ℕ)) (line : List ℕ) → after_lines before (whole ++ line ∷ []) ≡ on_line (after_lines before whole) line
 lines_more before whole line = fold-append on_line (unread before) whole (line ∷ [])
@@ -48,6 +58,10 @@ pub too_long_more : (line : List ℕ) (byte : ℕ) → is_too_long line ≡ true
 too_long_more line byte h =
     let long = ltb-true 1024 (length (without_cr line)) h in
     lt-ltb 1024 _ (omega (arith, long, (without_cr_keeps line).0, (without_cr_keeps (line ++ byte ∷ [])).1, length-append line (byte ∷ [])))
+
+-- a line with more bytes than the longest has with its CR is too long
+pub long_is_too_long : (line : List ℕ) → 1025 < length line → is_too_long line ≡ true
+long_is_too_long line h = lt-ltb 1024 _ (omega (arith, h, (without_cr_keeps line).1))
 
 -- a line that is too long is bad
 pub long_is_bad : (gate : GateData) (line : List ℕ) → is_too_long line ≡ true → line_effect gate line ≡ None

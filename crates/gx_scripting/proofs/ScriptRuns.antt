@@ -1,4 +1,4 @@
--- Laws of scripts: one byte more, one piece more, and the end.
+-- Laws of scripts: a front more, a line's end, one piece more.
 use Rattle.std.proofs.Common.{◌≡◌, ℕ, ◌+◌, true, is_some, Option, Some, None, List, [], ◌∷◌, ◌++◌, Result, Ok, Err, IfErr, OnOk, refl, sym, ap, ◌∙◌, subst, append_assoc, append-nil, inl, inr}
 use Rattle.std.proofs.KnownBytes.{Appends-nil, Appends-trans}
 use Rattle.gx_core.specs.Gates.{GateData}
@@ -8,7 +8,8 @@ use Rattle.gx_scripting.specs.declared.script_fault.ScriptFault.TheVariants as f
 use Rattle.gx_script.specs.ScriptLines.{is_too_long}
 use Rattle.gx_scripting.specs.Scripting.{Printed, line_effect, ScriptRun, with_line, on_line, Cut, cut_of, after_lines, script_of, is_settled}
 use Rattle.gx_scripting.specs.ScriptPiping.{so_far, EndsLine, IsBegun, IsHalfway, IsOfNext, Stops, HalvesLine, IsBadLine, StopsAtLine, IsSoFar, TakesPiece, FindsBad, BreaksOff, StopsInPiece}
-use Rattle.gx_scripting.proofs.ScriptCuts.{cut_end, cut_on, lines_more, script_is, too_long_more, long_is_bad, settled_bad, settled_long, settled_stays, nothing_follows, lines_grow}
+use Rattle.gx_scripting.specs.ScriptTexts.{has_no_end}
+use Rattle.gx_scripting.proofs.ScriptCuts.{cut_end, cut_on, lines_more, script_is, long_is_bad, settled_bad, settled_long, settled_stays, nothing_follows, lines_grow}
 
 pub if_err : {T E : Type 0} (r : Result T E) (P Q : E → Type 0) → ((x : E) → P x → Q x) → IfErr r P → IfErr r Q
 if_err (Ok x) P Q f p = tt
@@ -135,51 +136,50 @@ module _ (before : GateData) (bytes : List ℕ) (gate : GateData) (line : List �
     stops_end now output left faults.ReadFailed d = half_end now output left faults.ReadFailed d
     stops_end now output left faults.Endless d = half_end now output left faults.Endless d
 
-  module _ (byte : ℕ) (goes_on : byte ≡ 10 → ⊥) where
-    so_far_on : so_far before (bytes ++ byte ∷ []) ≡ so_far before bytes
+  module _ (front : List ℕ) (goes_on : has_no_end front ≡ true) where
+    so_far_on : so_far before (bytes ++ front) ≡ so_far before bytes
     unfolding so_far
-    so_far_on = ap (λ (c : Cut). after_lines before c.whole) (cut_on bytes byte goes_on)
+    so_far_on = ap (λ (c : Cut). after_lines before c.whole) (cut_on bytes front goes_on)
 
-    rest_on : (cut_of (bytes ++ byte ∷ [])).rest ≡ line ++ byte ∷ []
-    rest_on = ap (λ (c : Cut). c.rest) (cut_on bytes byte goes_on) ∙ ap (λ l. l ++ byte ∷ []) (sym s.held)
+    rest_on : (cut_of (bytes ++ front)).rest ≡ line ++ front
+    rest_on = ap (λ (c : Cut). c.rest) (cut_on bytes front goes_on) ∙ ap (λ l. l ++ front) (sym s.held)
 
-    pub takes_on : (rest : List ℕ) (output : Option (List ℕ)) → rest ≡ line ++ byte ∷ [] → TakesPiece before bytes (byte ∷ []) gate rest lines output output
-    takes_on rest output r =
-        let t : (so_far before (bytes ++ byte ∷ [])).text ≡ (so_far before bytes).text = ap (λ (x : ScriptRun). x.text) so_far_on in
+    pub takes_on : (rest : List ℕ) (n : ℕ) (output : Option (List ℕ)) → rest ≡ line ++ front → n ≡ lines → TakesPiece before bytes front gate rest n output output
+    takes_on rest n output r m =
+        let t : (so_far before (bytes ++ front)).text ≡ (so_far before bytes).text = ap (λ (x : ScriptRun). x.text) so_far_on in
         record {
           follows = record {
             held = r ∙ sym rest_on;
-            run = so_far_on ∙ (s.run ∙ ap (λ u. good gate u lines) (sym t));
+            run = so_far_on ∙ (s.run ∙ (ap (λ u. good gate u lines) (sym t) ∙ ap (good gate (so_far before (bytes ++ front)).text) (sym m)));
           };
           text = [];
           written = Appends-nil output;
           more = t ∙ sym (append-nil (so_far before bytes).text);
         }
 
-    pub too_long : (n : ℕ) (output : Option (List ℕ)) → n ≡ lines + 1 → is_too_long line ≡ true → FindsBad before bytes (byte ∷ []) n gate output output
+    pub too_long : (n : ℕ) (output : Option (List ℕ)) → n ≡ lines + 1 → is_too_long (line ++ front) ≡ true → FindsBad before bytes front n gate output output
     unfolding on_line
-    too_long n output m h =
-        let longer = too_long_more line byte h in
-        let k : script_of before (bytes ++ byte ∷ []) ≡ bad_run gate (so_far before bytes).text lines =
-        script_is before (bytes ++ byte ∷ [])
-        ∙ (ap (on_line (so_far before (bytes ++ byte ∷ []))) rest_on
-        ∙ (ap (λ (r : ScriptRun). on_line r (line ++ byte ∷ [])) (so_far_on ∙ s.run)
-        ∙ ap (with_line (good gate (so_far before bytes).text lines)) (long_is_bad gate (line ++ byte ∷ []) longer))) in
+    too_long n output m longer =
+        let k : script_of before (bytes ++ front) ≡ bad_run gate (so_far before bytes).text lines =
+        script_is before (bytes ++ front)
+        ∙ (ap (on_line (so_far before (bytes ++ front))) rest_on
+        ∙ (ap (λ (r : ScriptRun). on_line r (line ++ front)) (so_far_on ∙ s.run)
+        ∙ ap (with_line (good gate (so_far before bytes).text lines)) (long_is_bad gate (line ++ front) longer))) in
         record {
           bad = ap (λ (r : ScriptRun). r.bad) k ∙ ap Some (sym m);
           gate = sym (ap (λ (r : ScriptRun). r.gate) k);
           text = [];
           written = Appends-nil output;
           more = ap (λ (r : ScriptRun). r.text) k ∙ sym (append-nil (so_far before bytes).text);
-          settled = settled_long before (bytes ++ byte ∷ []) (ap is_too_long rest_on ∙ longer);
+          settled = settled_long before (bytes ++ front) (ap is_too_long rest_on ∙ longer);
         }
 
-    pub breaks_on : (output : Option (List ℕ)) → BreaksOff before bytes (byte ∷ []) gate output output faults.OutOfMemory
+    pub breaks_on : (output : Option (List ℕ)) → BreaksOff before bytes front gate output output faults.OutOfMemory
     unfolding so_far
     breaks_on output = record {
       lines = (cut_of bytes).whole;
       others = [];
-      split = ap (λ (c : Cut). c.whole) (cut_on bytes byte goes_on) ∙ sym (append-nil (cut_of bytes).whole);
+      split = ap (λ (c : Cut). c.whole) (cut_on bytes front goes_on) ∙ sym (append-nil (cut_of bytes).whole);
       done = [];
       earlier = sym (append-nil (cut_of bytes).whole);
       good = ap (λ (r : ScriptRun). r.bad) s.run;
@@ -261,3 +261,10 @@ module _ (before : GateData) (bytes p : List ℕ) (gate : GateData) (rest : List
     stops_more now third faults.OutOfMemory f = breaks_more now third faults.OutOfMemory f
     stops_more now third faults.ReadFailed f = breaks_more now third faults.ReadFailed f
     stops_more now third faults.Endless f = breaks_more now third faults.Endless f
+
+-- and what stopped the first of two pieces
+pub stops_first : (before : GateData) (bytes : List ℕ) (gate : GateData) (rest : List ℕ) (lines : ℕ) (first second : Option (List ℕ)) → IsSoFar before bytes gate rest lines
+    → (p tail : List ℕ) (now : GateData) (fault : ScriptFault) → StopsInPiece before bytes p now first second fault → StopsInPiece before bytes (p ++ tail) now first second fault
+stops_first before bytes gate rest lines first second s p tail now fault h =
+    let StopsHere : List ℕ → Type 0 = λ x. StopsInPiece before x p now first second fault in
+    stops_more before bytes [] gate rest lines first first (takes_none before bytes gate rest lines first s) p tail (p ++ tail) refl now second fault (subst StopsHere (sym (append-nil bytes)) h)

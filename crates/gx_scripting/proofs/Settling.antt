@@ -271,8 +271,13 @@ pub record Settles (before : GateData) (moment : ℕ) (text : List ℕ) (now : G
   pub made : List RecordData
   pub goes_on : now.records ≡ before.records ++ made
 
-pub settles_first : (gate : GateData) (moment : ℕ) → Settles gate moment [] gate
-settles_first gate moment = record { comes_to = refl; policy_kept = refl; made = []; goes_on = sym (append-nil gate.records) }
+pub settles_first : (gate : GateData) (moment : ℕ) (text : List ℕ) → text ≡ [] → Settles gate moment text gate
+settles_first gate moment text none = record {
+  comes_to = ap (λ (told : List ℕ). record { gate = (settle_of gate moment).gate; text = told ++ (settle_of gate moment).text }) (sym none);
+  policy_kept = refl;
+  made = [];
+  goes_on = sym (append-nil gate.records);
+}
 
 -- one more
 pub settles_more : (before now after : GateData) (moment : ℕ) (text longer : List ℕ) → Settles before moment text now → IsLegal now.policy now.records → makes_none now moment ≡ false

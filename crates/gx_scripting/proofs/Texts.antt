@@ -1,12 +1,15 @@
 -- The lines of a text, with their ends, are the text.
-use Rattle.std.proofs.Common.{◌≡◌, ℕ, ◌+◌, ◌≤◌, length, length-append, arith, Bool, true, false, ◌&&◌, not, cond, eqb, List, [], ◌∷◌, ◌++◌, refl, sym, ap, ◌∙◌, append_assoc, append-nil}
-use Rattle.std.specs.Prelude.{fold}
-use Rattle.std.specs.List.{flat_map}
-use Rattle.std.proofs.lemmas.Bool.{eqb-true, and_parts, and_from}
+use Rattle.std.proofs.Common.{◌≡◌, ℕ, suc, ◌+◌, ◌-◌, ◌≤◌, length, length-append, take, drop, get_or, arith, Bool, true, false, ◌&&◌, not, cond, eqb, ltb, Some, None, List, [], ◌∷◌, ◌++◌, refl, sym, ap, ◌∙◌, subst, append_assoc, append-nil}
+use Rattle.std.specs.Prelude.{fold, Option, position, IfNone}
+use Rattle.std.specs.List.{flat_map, position_or_len}
+use Rattle.std.proofs.lemmas.Bool.{eqb-true, ltb-true, ltb-false, and_parts, and_from}
+use Rattle.std.proofs.lemmas.List.{take_all, take_rest}
+use Rattle.std.proofs.lemmas.List.Sums.{split_at_first, passes_at_first}
+use Rattle.std.proofs.lemmas.Option.{cond_some}
 use Rattle.std.proofs.lemmas.Grind.{flat_map-append}
 use Rattle.std.proofs.lemmas.List.Folds.{list_all-append}
 use Rattle.gx_scripting.specs.Scripting.{Cut, on_byte, cut_of}
-use Rattle.gx_scripting.specs.ScriptTexts.{ended, has_no_end, joined, are_lines}
+use Rattle.gx_scripting.specs.ScriptTexts.{ended, has_no_end, is_end, joined, are_lines}
 
 -- one byte more
 joined_step : (whole : List (List ℕ)) (rest : List ℕ) (byte : ℕ) (test : Bool) → eqb byte 10 ≡ test
@@ -60,3 +63,47 @@ piece_ahead bytes piece lines done rest held few short e =
 
 pub rest_ahead : (bytes rest : List ℕ) → rest ≡ (cut_of bytes).rest → length rest ≤ 1026 → length bytes ≤ length (flat_map ended (cut_of bytes).whole) + 5122
 rest_ahead bytes rest held few = omega (arith, few, ap length held, bytes_are bytes)
+
+-- in front of the first LF none stands
+front_has_none : (text : List ℕ) → has_no_end (take (position_or_len is_end text) text) ≡ true
+front_has_none [] = refl
+front_has_none (byte ∷ bytes) = at (is_end byte) refl (front_has_none bytes)
+  where
+    at : (b : Bool) → is_end byte ≡ b → has_no_end (take (position_or_len is_end bytes) bytes) ≡ true
+        → has_no_end (take (cond (not b) (1 + position_or_len is_end bytes) 0) (byte ∷ bytes)) ≡ true
+    at true e h = refl
+    at false e h = more (1 + position_or_len is_end bytes) (omega arith) (and_from _ _ (ap not e) h)
+      where
+        more : (n : ℕ) → n ≡ suc (position_or_len is_end bytes) → has_no_end (byte ∷ take (position_or_len is_end bytes) bytes) ≡ true → has_no_end (take n (byte ∷ bytes)) ≡ true
+        more n is h = rw is h
+
+module _ (text : List ℕ) (i : ℕ) (found : Some i ≡ position is_end text) where
+  place : (ltb (position_or_len is_end text) (length text) ≡ true) × (position_or_len is_end text ≡ i)
+  place = cond_some (ltb (position_or_len is_end text) (length text)) (position_or_len is_end text) i (sym found)
+
+  pub line_at_end : has_no_end (take i text) ≡ true
+  line_at_end = subst (λ n. has_no_end (take n text) ≡ true) place.1 (front_has_none text)
+
+  -- the first line, its LF, and what stands behind it
+  pub parts_at_end : text ≡ ended (take i text) ++ take (length text - (i + 1)) (drop (i + 1) text)
+  parts_at_end =
+      let p = position_or_len is_end text in
+      let within = ltb-true p (length text) place.0 in
+      let split : text ≡ ended (take p text) ++ drop (p + 1) text =
+      split_at_first is_end text 0 within
+      ∙ (ap (λ b. take p text ++ b ∷ drop (p + 1) text) (eqb-true (get_or text p 0) 10 (passes_at_first is_end text 0 within))
+      ∙ sym (append_assoc (take p text) (10 ∷ []) (drop (p + 1) text))) in
+      rw (take_rest text (i + 1)) (subst (λ n. text ≡ ended (take n text) ++ drop (n + 1) text) place.1 split)
+
+missed : (test : Bool) (p : ℕ) → None ≡ cond test (Some p) None → test ≡ false
+missed true p e = cc
+missed false p e = refl
+
+pub no_end_found : (text : List ℕ) → None ≡ position is_end text → has_no_end text ≡ true
+no_end_found text e =
+    let p = position_or_len is_end text in
+    ap has_no_end (sym (take_all p text (ltb-false p (length text) (missed _ _ e)))) ∙ front_has_none text
+
+pub where_none : {T : Type 0} (r : Option T) (A : Type 0) → A → IfNone r A
+where_none (Some x) A a = tt
+where_none None A a = a

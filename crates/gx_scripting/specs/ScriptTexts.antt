@@ -7,6 +7,10 @@ use Rattle.gx_scripting.specs.Scripting.{Cut}
 abbrev pub ended : List ℕ → List ℕ
 ended line = line ++ 10 ∷ []
 
+-- LF
+abbrev pub is_end : ℕ → Bool
+is_end byte = byte == 10
+
 -- no LF stands in a line
 abbrev pub has_no_end : List ℕ → Bool
 has_no_end line = list_all (λ byte. not (byte == 10)) line

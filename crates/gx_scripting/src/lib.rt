@@ -7,5 +7,5 @@ mod script;
 mod script_fault;
 
 pub use laws::{faults_leave_a_front, lines_make_the_text, nothing_follows_a_bad_line};
-pub use script::{run_script, run_script_explained};
+pub use script::run_script;
 pub use script_fault::{Explained, ScriptFault};

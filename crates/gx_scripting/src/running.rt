@@ -1,10 +1,11 @@
 //! What a line of a script does.
 
-ghost use Rattle.std.specs.Prelude.{◌≡◌, ◌+◌, ◌^◌, ◌<◌, ◌⊎◌, ◌++◌, length, Some, IsTrue, IsFalse, IfOk, IfErr, OnOk, OnErr};
+ghost use Rattle.std.specs.Prelude.{◌≡◌, ◌+◌, ◌^◌, ◌<◌, ◌⊎◌, ◌++◌, [], length, Some, IsTrue, IsFalse, IfOk, IfErr, OnOk, OnErr};
 ghost use Rattle.gx_core.specs.Matches.{matches_left};
 ghost use Rattle.gx_history.specs.Showing.{has_its_first, is_askable};
 ghost use Rattle.gx_history.specs.Streams.{stream};
 ghost use Rattle.gx_script.specs.Printing.{report_lines};
+ghost use Rattle.gx_script.specs.declared.line.ScriptLine.TheVariants.{Stream};
 ghost use Rattle.gx_script.specs.ScriptLines.{IsAskable, IsAskableLine};
 ghost use Rattle.gx_scripting.specs.Scripting.{request_of_step, step_of, match_of, makes_none, settle_of};
 ghost use Rattle.gx_scripting.specs.Scripting.{effect_of, line_effect};
@@ -14,7 +15,7 @@ use crate::script_fault::LineFault;
 use gx_core::{Gate, StepFault, asked, count_of};
 use gx_history::record::{Asked, Request};
 use gx_script::{
-    ScriptLine, ScriptStep, Wanted, Wrong, append, idle_line, outcome_line, refused_line,
+    ScriptLine, ScriptStep, Wanted, Wrong, append, append_idle, append_outcome, append_refused,
     report_lines,
 };
 use gx_units::{OutOfMemory, SessionName, UserName};
@@ -43,17 +44,18 @@ fn request_of(gate: &Gate, user: UserName, step: &ScriptStep) -> Request
     }
 }
 
-/// Makes a step, and gives its line.
+/// Makes a step, and puts its line into the text.
 #[tactic(auto, unfolding(crate::specs::Scripting::step_of))]
-fn step(alloc: Global, gate: &mut Gate, a: Asked) -> Result<Vec<u8>, OutOfMemory>
-    requires { IsTrue (is_askable a) }
-    ensures ok { IfOk result (λ text. step_of gate.old a
-        ≡ record { gate = gate.new; text = text.items }) }
+fn step(gate: &mut Gate, a: Asked, text: &mut Vec<u8>) -> Result<(), OutOfMemory>
+    requires askable { IsTrue (is_askable a) }
+    requires empty { text.old.items ≡ [] }
+    ensures ok { OnOk result (step_of gate.old a
+        ≡ record { gate = gate.new; text = text.new.items }) }
     ensures err { OnErr result (IsHalf gate.old (Some (step_of gate.old a)) gate.new) }
 {
     match gate.step(a) {
-        Ok(outcome) => outcome_line(alloc, outcome.number, &outcome.verdict),
-        Err(StepFault::DayFull) => refused_line(alloc),
+        Ok(outcome) => append_outcome(text, outcome.number, &outcome.verdict),
+        Err(StepFault::DayFull) => append_refused(text),
         Err(StepFault::OutOfMemory) => Err(OutOfMemory),
     }
 }
@@ -62,12 +64,7 @@ fn step(alloc: Global, gate: &mut Gate, a: Asked) -> Result<Vec<u8>, OutOfMemory
 ///
 /// Without memory the step may be made or not.
 #[tactic(auto, unfolding(crate::specs::Scripting::match_of))]
-fn add_match(
-    alloc: Global,
-    gate: &mut Gate,
-    moment: u64,
-    text: &mut Vec<u8>,
-) -> Result<bool, OutOfMemory>
+fn add_match(gate: &mut Gate, moment: u64, text: &mut Vec<u8>) -> Result<bool, OutOfMemory>
     ensures over { IfOk result (λ over. over ≡ makes_none gate.old moment) }
     ensures gate { OnOk result (gate.new ≡ (match_of gate.old moment).gate) }
     ensures text { OnOk result (text.new.items
@@ -77,42 +74,46 @@ fn add_match(
     ensures err { OnErr result ((gate.new ≡ gate.old)
         ⊎ (gate.new ≡ (match_of gate.old moment).gate)) }
 {
-    let (line, over) = match gate.match_one(moment) {
-        Ok(Some(outcome)) => (
-            outcome_line(alloc, outcome.number, &outcome.verdict)?,
-            false,
-        ),
-        Ok(None) => (idle_line(alloc)?, true),
-        Err(StepFault::DayFull) => (refused_line(alloc)?, true),
-        Err(StepFault::OutOfMemory) => return Err(OutOfMemory),
-    };
-    append(text, line.as_slice())?;
-    Ok(over)
+    match gate.match_one(moment) {
+        Ok(Some(outcome)) => {
+            append_outcome(text, outcome.number, &outcome.verdict)?;
+            Ok(false)
+        }
+        Ok(None) => {
+            append_idle(text)?;
+            Ok(true)
+        }
+        Err(StepFault::DayFull) => {
+            append_refused(text)?;
+            Ok(true)
+        }
+        Err(StepFault::OutOfMemory) => Err(OutOfMemory),
+    }
 }
 
-/// Makes a matching step, and gives its line.
-fn match_line(alloc: Global, gate: &mut Gate, moment: u64) -> Result<Vec<u8>, OutOfMemory>
-    ensures ok { IfOk result (λ text. match_of gate.old moment
-        ≡ record { gate = gate.new; text = text.items }) }
+/// Makes a matching step, and puts its line into the text.
+fn match_line(gate: &mut Gate, moment: u64, text: &mut Vec<u8>) -> Result<(), OutOfMemory>
+    requires empty { text.old.items ≡ [] }
+    ensures ok { OnOk result (match_of gate.old moment
+        ≡ record { gate = gate.new; text = text.new.items }) }
     ensures err { OnErr result (IsHalf gate.old (Some (match_of gate.old moment)) gate.new) }
 {
-    let mut text = Vec::new(alloc);
-    add_match(alloc, gate, moment, &mut text)?;
-    Ok(text)
+    add_match(gate, moment, text)?;
+    Ok(())
 }
 
-/// Makes matching steps until no order waits, and gives their lines.
-fn settle_lines(alloc: Global, gate: &mut Gate, moment: u64) -> Result<Vec<u8>, OutOfMemory>
-    ensures ok { IfOk result (λ text. settle_of gate.old moment
-        ≡ record { gate = gate.new; text = text.items }) }
+/// Makes matching steps until no order waits, and puts their lines into the text.
+fn settle_lines(gate: &mut Gate, moment: u64, text: &mut Vec<u8>) -> Result<(), OutOfMemory>
+    requires empty { text.old.items ≡ [] }
+    ensures ok { OnOk result (settle_of gate.old moment
+        ≡ record { gate = gate.new; text = text.new.items }) }
     ensures err { OnErr result (IsHalf gate.old (Some (settle_of gate.old moment)) gate.new) }
 {
-    let mut text = Vec::new(alloc);
     loop {
         // What this ensures: the records are those of a legal day, on which what settles rests.
         gate.is_legal();
-        if add_match(alloc, gate, moment, &mut text)? {
-            return Ok(text);
+        if add_match(gate, moment, text)? {
+            return Ok(());
         }
     }
 }
@@ -128,38 +129,51 @@ fn stream_lines(alloc: Global, gate: &Gate, user: UserName) -> Result<Vec<u8>, O
     report_lines(alloc, user, reports)
 }
 
-/// Does what a line asks for, and gives what it prints.
+/// Puts the lines of the user's stream into the text. The user has to be one of the policy.
 #[tactic(auto, unfolding(crate::specs::Scripting::effect_of))]
-fn run_line(alloc: Global, gate: &mut Gate, line: &ScriptLine) -> Result<Vec<u8>, LineFault>
-    requires { IsAskableLine line.now }
-    ensures ok { IfOk result (λ text. effect_of gate.old line.now
-        ≡ Some (record { gate = gate.new; text = text.items })) }
+fn add_stream(gate: &Gate, user: UserName, text: &mut Vec<u8>) -> Result<(), LineFault>
+    requires empty { text.old.items ≡ [] }
+    ensures ok { OnOk result (effect_of gate.now (Stream user)
+        ≡ Some (record { gate = gate.now; text = text.new.items })) }
+    ensures err { IfErr result (Leaves gate.now (effect_of gate.now (Stream user)) gate.now) }
+{
+    if !gate.knows(user) {
+        return Err(LineFault::Bad(Wrong::new(2, Wanted::KnownUser)));
+    }
+    let lines = stream_lines(*text.allocator(), gate, user)?;
+    append(text, lines.as_slice())?;
+    Ok(())
+}
+
+/// Does what a line asks for, and puts what it prints into the text.
+#[tactic(auto, unfolding(crate::specs::Scripting::effect_of))]
+fn run_line(gate: &mut Gate, line: &ScriptLine, text: &mut Vec<u8>) -> Result<(), LineFault>
+    requires askable { IsAskableLine line.now }
+    requires empty { text.old.items ≡ [] }
+    ensures ok { OnOk result (effect_of gate.old line.now
+        ≡ Some (record { gate = gate.new; text = text.new.items })) }
     ensures err { IfErr result (Leaves gate.old (effect_of gate.old line.now) gate.new) }
 {
     match line {
-        ScriptLine::Skipped => Ok(Vec::new(alloc)),
+        ScriptLine::Skipped => Ok(()),
         ScriptLine::Step(moment, user, asks) => {
             let request = request_of(gate, *user, asks);
-            Ok(step(alloc, gate, asked(*user, request, *moment))?)
+            Ok(step(gate, asked(*user, request, *moment), text)?)
         }
-        ScriptLine::Match(moment) => Ok(match_line(alloc, gate, *moment)?),
-        ScriptLine::Settle(moment) => Ok(settle_lines(alloc, gate, *moment)?),
-        ScriptLine::Stream(user) => {
-            if !gate.knows(*user) {
-                return Err(LineFault::Bad(Wrong::new(2, Wanted::KnownUser)));
-            }
-            Ok(stream_lines(alloc, gate, *user)?)
-        }
+        ScriptLine::Match(moment) => Ok(match_line(gate, *moment, text)?),
+        ScriptLine::Settle(moment) => Ok(settle_lines(gate, *moment, text)?),
+        ScriptLine::Stream(user) => add_stream(gate, *user, text),
     }
 }
 
-/// Does what the bytes of a line ask for, and gives what they print.
+/// Does what the bytes of a line ask for, and puts what they print into the text.
 #[tactic(auto, unfolding(crate::specs::Scripting::line_effect))]
-pub(crate) fn take_line(alloc: Global, gate: &mut Gate, line: &[u8]) -> Result<Vec<u8>, LineFault>
-    ensures ok { IfOk result (λ text. line_effect gate.old line.now
-        ≡ Some (record { gate = gate.new; text = text.items })) }
+pub(crate) fn take_line(gate: &mut Gate, line: &[u8], text: &mut Vec<u8>) -> Result<(), LineFault>
+    requires empty { text.old.items ≡ [] }
+    ensures ok { OnOk result (line_effect gate.old line.now
+        ≡ Some (record { gate = gate.new; text = text.new.items })) }
     ensures err { IfErr result (Leaves gate.old (line_effect gate.old line.now) gate.new) }
 {
     let line = ScriptLine::read(line)?;
-    run_line(alloc, gate, &line)
+    run_line(gate, &line, text)
 }

@@ -1,43 +1,40 @@
 //! A script over any reader and any writer.
 
 ghost use Rattle.std.specs.Prelude.{◌≡◌, ℕ, ◌+◌, ◌-◌, ◌^◌, ◌<◌, ◌≤◌};
-ghost use Rattle.std.specs.Prelude.{List, [], ◌∷◌, ◌++◌, length, Some, None, IfErr, OnOk, OnErr};
+ghost use Rattle.std.specs.Prelude.{List, [], ◌++◌, length, position, Option, Some, None, IsTrue, IfErr, IfNone, IfSome, OnOk, OnErr};
 ghost use Rattle.gx_core.specs.Gates.{GateData};
 ghost use Rattle.gx_devices.specs.Devices.{counted_on, IsUnfailing};
 ghost use Rattle.gx_scripting.specs.ScriptPiping.{EndsLine, StopsAtLine, IsSoFar, TakesPiece, StopsInPiece};
 ghost use Rattle.gx_scripting.specs.ScriptPiping.{IsScript, IsCutShort, IsAll, IsBlamedRightly};
 ghost use Rattle.gx_scripting.specs.ScriptPiping.{IfBadLine, UnlessBadLine};
+ghost use Rattle.gx_scripting.specs.ScriptTexts.{ended, has_no_end, is_end};
 
 use crate::running::take_line;
 use crate::script_fault::{Explained, LineFault, ScriptFault};
 use gx_core::Gate;
 use gx_devices::{Counted, write_whole};
-use gx_script::{Wanted, Wrong, is_too_long};
+use gx_script::{Wanted, Wrong};
 use gx_units::OutOfMemory;
 use std::alloc::Global;
 use std::io::{Read, Write};
+
+/// The most bytes of a line that may still be no longer than it may be: 1,024 and a CR.
+const LONGEST: usize = 1025;
 
 /// What is held back between two pieces: the bytes of the line that has not ended, and how many lines have.
 #[derive(Drop)]
 struct Held {
     rest: Vec<u8>,
     lines: u64,
+    /// What the last line that was done prints.
+    text: Vec<u8>,
     /// What is wrong with the bad line, once there is one.
     wrong: Option<Wrong>,
     ghost one_line: { length rest.items ≤ 1026 },
 }
 
-fn push(text: &mut Vec<u8>, byte: u8) -> Result<(), OutOfMemory>
-    ensures ok { OnOk result (text.new.items ≡ text.old.items ++ byte ∷ []) }
-    ensures err { OnErr result (text.new.items ≡ text.old.items) }
-{
-    text.push(byte)?;
-    Ok(())
-}
-
 /// Does the line that is held back, and writes what it prints.
 fn end_line<W: Write>(
-    alloc: Global,
     gate: &mut Gate,
     held: &mut Held,
     writer: &mut Counted<W>,
@@ -53,9 +50,10 @@ fn end_line<W: Write>(
         (W.contents writer.old.device) (W.contents writer.new.device)) }
     ensures told { IfErr result (IsBlamedRightly 0 0 writer.old.failed writer.new.failed) }
 {
-    match take_line(alloc, gate, held.rest.as_slice()) {
-        Ok(text) => {
-            write_whole(writer, text.as_slice())?;
+    held.text.clear();
+    match take_line(gate, held.rest.as_slice(), &mut held.text) {
+        Ok(()) => {
+            write_whole(writer, held.text.as_slice())?;
             held.rest.clear();
             held.lines += 1;
             Ok(())
@@ -68,42 +66,86 @@ fn end_line<W: Write>(
     }
 }
 
-/// Takes one byte more. A line that is too long is told before its end is there.
-fn take_byte<W: Write>(
-    alloc: Global,
+/// Puts the bytes at the end of what is held back.
+fn hold(held: &mut Held, front: &[u8]) -> Result<(), OutOfMemory>
+    requires { length held.old.rest.items + length front.now ≤ 1025 }
+    ensures rest { OnOk result (held.new.rest.items ≡ held.old.rest.items ++ front.now) }
+    ensures lines { OnOk result (held.new.lines ≡ held.old.lines) }
+{
+    held.rest.extend_from_slice(front)?;
+    Ok(())
+}
+
+/// Takes bytes that go on with the line that is held back, and do not end it. A line that is too long is told before its
+/// end is there.
+fn take_front(held: &mut Held, front: &[u8]) -> Result<(), ScriptFault>
+    requires no_end { IsTrue (has_no_end front.now) }
+    requires room { held.old.lines < 2 ^ 64 - 1 }
+    ensures ok { OnOk result ((before gate : GateData) (bytes : List ℕ) (output : Option (List ℕ))
+        → IsSoFar before bytes gate held.old.rest.items held.old.lines
+        → TakesPiece before bytes front.now gate held.new.rest.items held.new.lines
+        output output) }
+    ensures lines { OnOk result (held.new.lines ≡ held.old.lines) }
+    ensures err { IfErr result (λ e.
+        (before gate : GateData) (bytes : List ℕ) (output : Option (List ℕ))
+        → IsSoFar before bytes gate held.old.rest.items held.old.lines
+        → StopsInPiece before bytes front.now gate output output e) }
+    ensures told { IfErr result (λ e. (writes : ℕ) → IsBlamedRightly 0 0 writes writes e) }
+{
+    if held.rest.len() + front.len() > LONGEST {
+        held.wrong = Some(Wrong::new(1, Wanted::Shorter));
+        return Err(ScriptFault::BadLine(held.lines + 1));
+    }
+    hold(held, front)?;
+    Ok(())
+}
+
+/// Takes the rest of a line, and its end: does the line, and writes what it prints.
+fn take_ended<W: Write>(
     gate: &mut Gate,
     held: &mut Held,
     writer: &mut Counted<W>,
-    byte: u8,
+    front: &[u8],
 ) -> Result<(), ScriptFault>
+    requires no_end { IsTrue (has_no_end front.now) }
     requires writer { writer.old.failed < 2 ^ 64 - 1 }
     requires room { held.old.lines < 2 ^ 64 - 1 }
     ensures ok { OnOk result ((before : GateData) (bytes : List ℕ)
         → IsSoFar before bytes gate.old held.old.rest.items held.old.lines
-        → TakesPiece before bytes (byte ∷ []) gate.new held.new.rest.items held.new.lines
+        → TakesPiece before bytes (ended front.now) gate.new held.new.rest.items held.new.lines
         (W.contents writer.old.device) (W.contents writer.new.device)) }
-    ensures counted { OnOk result (held.new.lines ≤ held.old.lines + 1) }
+    ensures counted { OnOk result (held.new.lines ≡ held.old.lines + 1) }
     ensures kept { OnOk result (writer.new.failed ≡ writer.old.failed) }
     ensures err { IfErr result (λ e. (before : GateData) (bytes : List ℕ)
         → IsSoFar before bytes gate.old held.old.rest.items held.old.lines
-        → StopsInPiece before bytes (byte ∷ []) gate.new
+        → StopsInPiece before bytes (ended front.now) gate.new
         (W.contents writer.old.device) (W.contents writer.new.device) e) }
     ensures told { IfErr result (IsBlamedRightly 0 0 writer.old.failed writer.new.failed) }
 {
-    if byte == b'\n' {
-        return end_line(alloc, gate, held, writer);
-    }
-    if is_too_long(held.rest.as_slice()) {
-        held.wrong = Some(Wrong::new(1, Wanted::Shorter));
-        return Err(ScriptFault::BadLine(held.lines + 1));
-    }
-    push(&mut held.rest, byte)?;
-    Ok(())
+    take_front(held, front)?;
+    end_line(gate, held, writer)
+}
+
+/// Where the first LF stands.
+fn end_of_line(text: &[u8]) -> Option<usize>
+    ensures { result ≡ position is_end text.now }
+{
+    text.iter().position(|byte| *byte == b'\n')
+}
+
+/// The first line of a text without its LF, and what stands behind that; `None` where no LF stands in it.
+fn first_line(text: &[u8]) -> Option<(&[u8], &[u8])>
+    ensures parts { IfSome result (λ parts.
+        text.now ≡ ended parts.0.now ++ parts.1.now) }
+    ensures line { IfSome result (λ parts. IsTrue (has_no_end parts.0.now)) }
+    ensures none { IfNone result (IsTrue (has_no_end text.now)) }
+{
+    let end = end_of_line(text)?;
+    Some((&text[..end], &text[end + 1..]))
 }
 
 /// Takes a piece of the script: does the lines that end in it, and writes what they print.
 fn take_piece<W: Write>(
-    alloc: Global,
     gate: &mut Gate,
     held: &mut Held,
     writer: &mut Counted<W>,
@@ -124,15 +166,16 @@ fn take_piece<W: Write>(
     ensures told { IfErr result (IsBlamedRightly 0 0 writer.old.failed writer.new.failed) }
     ensures bounded { length held.new.rest.items ≤ 1026 }
 {
-    for byte in piece {
-        take_byte(alloc, gate, held, writer, *byte)?;
+    let mut left = piece;
+    while let Some((line, behind)) = first_line(left) {
+        take_ended(gate, held, writer, line)?;
+        left = behind;
     }
-    Ok(())
+    take_front(held, left)
 }
 
 /// Reads a script to its end, or to a fault.
 fn follow<R: Read, W: Write>(
-    alloc: Global,
     gate: &mut Gate,
     held: &mut Held,
     reader: &mut Counted<R>,
@@ -165,9 +208,9 @@ fn follow<R: Read, W: Write>(
             Err(_) => return Err(ScriptFault::ReadFailed),
         };
         if n == 0 {
-            return end_line(alloc, gate, held, writer);
+            return end_line(gate, held, writer);
         }
-        take_piece(alloc, gate, held, writer, &buffer[..n])?;
+        take_piece(gate, held, writer, &buffer[..n])?;
     }
     Err(ScriptFault::Endless)
 }
@@ -180,6 +223,7 @@ impl Held {
         Held {
             rest: Vec::new(alloc),
             lines: 0,
+            text: Vec::new(alloc),
             wrong: None,
         }
     }
@@ -188,47 +232,13 @@ impl Held {
 /// Runs a script on a gate: reads it to its end, does its lines in order, and writes what each prints. The lines and
 /// what they print are told in `docs/OPERATIONS.md`.
 ///
-/// `BadLine`: the number of the first bad line; the lines before it were done, and what they print was written.
+/// `BadLine`: the number of the first bad line, and beside it what is wrong with it; the lines before it were done, and
+/// what they print was written.
 /// `ReadFailed` and `Endless`: every line that ended in the bytes read was done, and all that they print was written.
 /// `WriteFailed`: so it is with the first lines; the next one was done, and a front of what it prints was written.
 /// `OutOfMemory`: so it is with the first lines; of the records that the next one leaves the first were made, and nothing
 /// of what it prints was written.
 pub fn run_script<R: Read, W: Write>(
-    alloc: Global,
-    gate: &mut Gate,
-    reader: &mut Counted<R>,
-    writer: &mut Counted<W>,
-) -> Result<(), ScriptFault>
-    requires reader { reader.old.failed < 2 ^ 64 - 1 }
-    requires writer { writer.old.failed < 2 ^ 64 - 1 }
-    ensures script { OnOk result (IsScript
-        (R.remaining reader.old.device) (R.remaining reader.new.device)
-        (W.contents writer.old.device) (W.contents writer.new.device) gate.old gate.new None) }
-    // Where the reader tells its bytes, the gate and the bytes written are those of the script of all of them.
-    ensures all { OnOk result (IsAll
-        (R.remaining reader.old.device)
-        (W.contents writer.old.device) (W.contents writer.new.device) gate.old gate.new None) }
-    ensures bad { IfErr result (λ e. IfBadLine e (λ n. IsScript
-        (R.remaining reader.old.device) (R.remaining reader.new.device)
-        (W.contents writer.old.device) (W.contents writer.new.device) gate.old gate.new (Some n))) }
-    ensures first_bad { IfErr result (λ e. IfBadLine e (λ n. IsAll
-        (R.remaining reader.old.device)
-        (W.contents writer.old.device) (W.contents writer.new.device) gate.old gate.new (Some n))) }
-    ensures fault { IfErr result (λ e. UnlessBadLine e (IsCutShort
-        (R.remaining reader.old.device) (R.remaining reader.new.device)
-        (W.contents writer.old.device) (W.contents writer.new.device) gate.old gate.new e)) }
-    ensures endless { IfErr result (λ e. e ≡ ScriptFault.Endless
-        → counted_on reader.old.calls 1000000000 ≤ reader.new.calls) }
-    ensures unfailing { OnOk result (IsUnfailing
-        reader.old.failed reader.new.failed writer.old.failed writer.new.failed) }
-    ensures told { IfErr result (λ e. IsBlamedRightly
-        reader.old.failed reader.new.failed writer.old.failed writer.new.failed e) }
-{
-    follow(alloc, gate, &mut Held::new(alloc), reader, writer)
-}
-
-/// As `run_script`; beside a bad line's number it says what is wrong with the line.
-pub fn run_script_explained<R: Read, W: Write>(
     alloc: Global,
     gate: &mut Gate,
     reader: &mut Counted<R>,
@@ -260,7 +270,7 @@ pub fn run_script_explained<R: Read, W: Write>(
         reader.old.failed reader.new.failed writer.old.failed writer.new.failed e.fault) }
 {
     let mut held = Held::new(alloc);
-    match follow(alloc, gate, &mut held, reader, writer) {
+    match follow(gate, &mut held, reader, writer) {
         Ok(()) => Ok(()),
         Err(fault) => Err(Explained {
             fault,

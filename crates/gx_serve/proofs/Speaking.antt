@@ -166,3 +166,8 @@ rest_cut policy user first before mid after (session, g) s = record {
   said = welcome policy user session first s.to s.spoken s.ending s.speech s.ends;
   front = front_behind (control_bytes (controls.Accepted session first)) (s.spoken ++ s.ending) before mid after g s.front;
 }
+
+-- Nothing was sent.
+
+pub nothing_sent : (output : Option (List ℕ)) (text : List ℕ) → IsFront output output text
+nothing_sent output text = record { front = []; rest = text; written = Appends-nil output; whole = refl }

@@ -29,6 +29,6 @@ pub use link::Link;
 pub use lobby::Lobby;
 pub use matching::match_on;
 pub use reading::read_on;
-pub use serving::{Served, serve};
+pub use serving::{Served, serve, serve_door};
 pub use stop::Stop;
 pub use writing::write_on;

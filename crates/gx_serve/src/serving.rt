@@ -174,9 +174,12 @@ fn run<'x, T: Drop + Send, D: Door<Ticket = T> + Sync, R: Threads + Wait + Clock
     })
 }
 
-/// Serves at a door. Gives back a pass, and why the server gave up, if it did; `None` where memory was
-/// refused before any connection was taken.
-fn serve_door<
+/// Serves at any door: takes connections, each in threads of its own, and makes matching steps, until so many were
+/// served, or the lobby was asked to end. All threads have ended then.
+///
+/// Gives back a pass, and why the server gave up, if it did; `None` where memory or a thread was refused before any
+/// connection was taken.
+pub fn serve_door<
     T: Drop + Send,
     D: Door<Ticket = T> + Sync,
     R: Threads + Wait + Clock + Eprint + Sync,

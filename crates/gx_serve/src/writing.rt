@@ -33,6 +33,15 @@ pub enum Greeted {
     Cut,
 }
 
+/// Why nothing more is sent.
+#[derive(Clone, Copy)]
+enum Unsent {
+    /// A packet was not sent.
+    Fault(SendFault),
+    /// What was done is not kept, and so told to nobody.
+    Unkept,
+}
+
 /// The packet of a login's answer.
 fn answer_control(answer: LoginAnswer) -> Control
     ensures { result ≡ answer_control answer }
@@ -71,6 +80,75 @@ fn send<O: Write>(alloc: Global, due: &Due, writer: &mut Counted<O>) -> Result<(
     }
 }
 
+/// Whether what was done so far may be told. Where it may not, no more is to be done: the server is asked to end.
+fn is_kept<D: Door, R: Wait>(rt: &R, door: &D, stop: &Stop) -> bool {
+    let kept = door.keep(rt);
+    if !kept {
+        stop.ask();
+    }
+    kept
+}
+
+/// Whether what is due may be sent: reports tell of what was done.
+fn may_send<D: Door, R: Wait>(rt: &R, door: &D, stop: &Stop, due: &Due) -> bool {
+    match due {
+        Due::Reports(_) => is_kept(rt, door, stop),
+        Due::Sign(_) | Due::Nothing | Due::Over => true,
+    }
+}
+
+/// Sends what is due, reports once all that was done is kept.
+#[tactic(auto, using(crate::proofs::Speaking::nothing_sent))]
+fn send_kept<D: Door, O: Write, R: Wait>(
+    rt: &R,
+    alloc: Global,
+    door: &D,
+    stop: &Stop,
+    due: &Due,
+    writer: &mut Counted<O>,
+) -> Result<(), Unsent>
+    requires { writer.old.failed < 2 ^ 64 - 1 }
+    ensures sent { OnOk result (Appends
+        (O.contents writer.old.device) (O.contents writer.new.device) (due_text due.now)) }
+    ensures front { OnErr result (IsFront
+        (O.contents writer.old.device) (O.contents writer.new.device) (due_text due.now)) }
+    ensures kept { OnOk result (writer.new.failed ≡ writer.old.failed) }
+{
+    if !may_send(rt, door, stop, due) {
+        return Err(Unsent::Unkept);
+    }
+    match send(alloc, due, writer) {
+        Ok(()) => Ok(()),
+        Err(fault) => Err(Unsent::Fault(fault)),
+    }
+}
+
+/// Sends the answer to a login, once all that was done is kept.
+#[tactic(auto, using(crate::proofs::Speaking::nothing_sent))]
+fn send_answer<D: Door, O: Write, R: Wait>(
+    rt: &R,
+    alloc: Global,
+    door: &D,
+    stop: &Stop,
+    answer: LoginAnswer,
+    writer: &mut Counted<O>,
+) -> Result<(), Unsent>
+    requires { writer.old.failed < 2 ^ 64 - 1 }
+    ensures sent { OnOk result (Appends (O.contents writer.old.device)
+        (O.contents writer.new.device) (control_bytes (answer_control answer))) }
+    ensures front { OnErr result (IsFront (O.contents writer.old.device)
+        (O.contents writer.new.device) (control_bytes (answer_control answer))) }
+    ensures kept { OnOk result (writer.new.failed ≡ writer.old.failed) }
+{
+    if !is_kept(rt, door, stop) {
+        return Err(Unsent::Unkept);
+    }
+    match send_control(alloc, answer_control(answer), writer) {
+        Ok(()) => Ok(()),
+        Err(fault) => Err(Unsent::Fault(fault)),
+    }
+}
+
 /// Whether nothing is sent behind it.
 fn is_last(due: &Due) -> bool
     ensures { result ≡ is_last due.now }
@@ -103,10 +181,10 @@ fn go_on<D: Door, R: Wait + Clock>(
 }
 
 /// What a session is told where a packet was not sent.
-fn told<'a>(fault: SendFault) -> Event<'a> {
-    match fault {
-        SendFault::OutOfMemory => Event::Refused(StepFault::OutOfMemory),
-        SendFault::WriteFailed => Event::Fault,
+fn told<'a>(unsent: Unsent) -> Event<'a> {
+    match unsent {
+        Unsent::Fault(SendFault::OutOfMemory) => Event::Refused(StepFault::OutOfMemory),
+        Unsent::Fault(SendFault::WriteFailed) | Unsent::Unkept => Event::Fault,
     }
 }
 
@@ -120,7 +198,7 @@ fn after_answer(user: UserName, answer: LoginAnswer) -> Greeted
     }
 }
 
-/// Waits for the answer to the login, and sends it.
+/// Waits for the answer to the login, and sends it once all that was done is kept.
 #[tactic(auto, using(crate::proofs::Speaking::is_greeted))]
 fn write_answer<D: Door, O: Write, R: Wait + Clock>(
     rt: &R,
@@ -138,10 +216,10 @@ fn write_answer<D: Door, O: Write, R: Wait + Clock>(
     let Some((user, answer)) = link.await_answer(rt, door, stop) else {
         return Greeted::Over;
     };
-    match send_control(alloc, answer_control(answer), writer) {
+    match send_answer(rt, alloc, door, stop, answer, writer) {
         Ok(()) => after_answer(user, answer),
-        Err(fault) => {
-            link.tell(rt, door, told(fault));
+        Err(unsent) => {
+            link.tell(rt, door, told(unsent));
             Greeted::Cut
         }
     }
@@ -169,8 +247,8 @@ fn write_reports<D: Door, O: Write, R: Wait + Clock>(
     let mut watch = Watch::new();
     for _ in rt.forever() {
         let due = link.await_due(rt, door, stop, user, next, &mut watch);
-        if let Err(fault) = send(alloc, &due, writer) {
-            link.tell(rt, door, told(fault));
+        if let Err(unsent) = send_kept(rt, alloc, door, stop, &due, writer) {
+            link.tell(rt, door, told(unsent));
             return false;
         }
         if is_last(&due) {
@@ -183,7 +261,8 @@ fn write_reports<D: Door, O: Write, R: Wait + Clock>(
 
 /// Writes the answer to a connection's login, and then, where it was accepted, its user's reports from the
 /// number that the answer names on, each once and in order, heartbeats between them, until the
-/// session is over or the writer fails. Answers whether all was written.
+/// session is over or the writer fails. The answer and the reports are sent once the door keeps all that was done; where
+/// it can't, nothing more is sent, and the server is asked to end. Answers whether all was written.
 pub fn write_on<D: Door, O: Write, R: Wait + Clock>(
     rt: &R,
     alloc: Global,

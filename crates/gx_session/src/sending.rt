@@ -1,6 +1,6 @@
 //! Sending reports, and packets of the session's own.
 
-ghost use Rattle.std.specs.Prelude.{◌≡◌, ◌-◌, ◌^◌, ◌<◌, IfOk, IfErr, OnOk, OnErr};
+ghost use Rattle.std.specs.Prelude.{◌≡◌, ◌-◌, ◌^◌, ◌<◌, ◌++◌, IfOk, IfErr, OnOk, OnErr};
 ghost use Rattle.std.specs.Io.KnownBytes.{Appends};
 ghost use Rattle.gx_devices.specs.Devices.{IsFront};
 ghost use Rattle.gx_session.specs.Faults.{IsBlamed};
@@ -12,28 +12,29 @@ use gx_core::Pulled;
 use gx_devices::{Counted, write_whole};
 use gx_history::report::Report;
 use gx_ouch::MESSAGE_ROOM;
-use gx_soup::{Payload, ServerPacket, encode};
+use gx_soup::{ServerPacket, append_sequenced, encode};
 use gx_units::OutOfMemory;
 use std::alloc::Global;
 use std::io::Write;
 
-/// A report in a Sequenced Data packet.
-fn report_packet(alloc: Global, report: &Report) -> Result<Vec<u8>, OutOfMemory>
-    ensures { IfOk result (λ text. text.items ≡ report_packet report.now) }
+/// Room for nearly each report in its packet.
+const PACKET_ROOM: usize = 72;
+
+/// Puts a report in a Sequenced Data packet at the end of the text.
+fn append_report(text: &mut Vec<u8>, report: &Report) -> Result<(), OutOfMemory>
+    ensures { OnOk result (text.new.items ≡ text.old.items ++ report_packet report.now) }
 {
     let mut room = [0u8; MESSAGE_ROOM];
     let length = report.write(&mut room);
-    let payload = Payload::new(alloc, &room[..length])?;
-    encode(alloc, &ServerPacket::Sequenced(payload))
+    append_sequenced(text, &room[..length])
 }
 
 fn reports_text(alloc: Global, reports: &[Report]) -> Result<Vec<u8>, OutOfMemory>
     ensures { IfOk result (λ text. text.items ≡ reports_text reports.now) }
 {
-    let mut text = Vec::new(alloc);
+    let mut text = Vec::with_capacity(alloc, reports.len().saturating_mul(PACKET_ROOM))?;
     for report in reports {
-        let packet = report_packet(alloc, report)?;
-        text.extend_from_slice(packet.as_slice())?;
+        append_report(&mut text, report)?;
     }
     Ok(text)
 }

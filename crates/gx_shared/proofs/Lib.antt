@@ -1,3 +1,5 @@
 pub mod Idling
+pub mod LoggedOut
 pub mod Meetings
+pub mod Noted
 pub mod Refusals

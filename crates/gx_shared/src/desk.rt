@@ -4,20 +4,24 @@ ghost use Rattle.std.specs.Prelude.{◌≡◌, ◌≢◌, ◌↔◌, ◌++◌, �
 ghost use mathlib.Core.List.{IsPrefix};
 ghost use Rattle.gx_units.specs.Spelling.{folded_user};
 ghost use Rattle.gx_history.specs.InForce.{line_of};
+ghost use Rattle.gx_history.specs.Lists.{slice};
 ghost use Rattle.gx_history.specs.Showing.{has_its_first};
 ghost use Rattle.gx_history.specs.Verdicts.{IsLegal};
 ghost use Rattle.gx_core.specs.Gates.{left_by, matched_by};
 ghost use Rattle.gx_core.specs.Matches.{matching_of};
+ghost use Rattle.gx_pass.specs.declared.pass.PassFault.TheVariants as pass_faults;
 ghost use Rattle.gx_pass.specs.Views.{mine, of_line};
 ghost use Rattle.gx_shared.specs.declared.fault.PullFault.TheVariants as pull_faults;
 ghost use Rattle.gx_shared.specs.Acts.{asked_on, gate_at, gate_met, login_on};
 ghost use Rattle.gx_shared.specs.Acts.{AddsOwn, EndsWith, IsLater, IsPulled, IsToldFull, LogsIn, MayBeRefused};
+ghost use Rattle.gx_shared.specs.Lines.{highest_line};
 
 use crate::fault::PullFault;
+use crate::resuming::resume;
 use crate::steps::{asked_on, leave, match_one, pull, step};
 use gx_core::{Gate, LoginAnswer, Outcome, Pulled, StepFault};
 use gx_history::policy::Policy;
-use gx_history::record::Request;
+use gx_history::record::{Record, Request};
 use gx_pass::{Blank, GateName, Keeper, Pass, PassFault};
 use gx_units::{Moment, OutOfMemory, Password, SessionName, UserName};
 use std::alloc::Global;
@@ -51,6 +55,26 @@ impl<N: GateName> Desk<N> {
         let gate = Gate::open(alloc, policy)?;
         let keeper = Keeper::open(blank);
         Ok(Desk { gate, keeper })
+    }
+
+    /// A desk over a gate that has records, and a pass of a new line, which has met them. No line of theirs is issued any
+    /// more.
+    pub fn over(gate: Gate, blank: Blank) -> Result<(Desk<N>, Pass<N>), PassFault>
+        requires policy { gate.policy ≡ N.policy }
+        requires blank { blank ≡ N.table }
+        ensures desk { IfOk result (λ made. made.0 ≡ gate.records) }
+        ensures front { IfOk result (λ made. made.1.front ≡ gate.records) }
+        ensures own { IfOk result (λ made. mine made.1 ≡ []) }
+        ensures no_lines { IfErr result (λ e.
+            e ≡ pass_faults.NoLines → highest_line gate.records ≡ 65535) }
+    {
+        match resume(&gate, blank) {
+            Ok((keeper, pass)) => Ok((Desk { gate, keeper }, pass)),
+            Err(fault) => {
+                gate.close();
+                Err(fault)
+            }
+        }
     }
 
     /// A pass of a new line, which has met all records.
@@ -167,6 +191,24 @@ impl<N: GateName> Desk<N> {
         let line = pass.line();
         let entered = self.keeper.enter(pass);
         let result = pull(&self.gate, line, user.folded(), from, most);
+        (leave(&self.gate, &mut self.keeper, entered), result)
+    }
+
+    /// The records from this number on, 0 counting as 1, and at most so many.
+    pub fn records(
+        &mut self,
+        pass: Pass<N>,
+        from: u64,
+        most: u64,
+    ) -> (Pass<N>, Result<Vec<Record>, OutOfMemory>)
+        ensures same { self.new ≡ self.old }
+        ensures front { result.0.front ≡ self.new }
+        ensures later { IsLater N.policy pass result.0 }
+        ensures own { mine result.0 ≡ mine pass }
+        ensures records { IfOk result.1 (λ v. v.items ≡ slice self.new from most) }
+    {
+        let entered = self.keeper.enter(pass);
+        let result = self.gate.records(from, most);
         (leave(&self.gate, &mut self.keeper, entered), result)
     }
 

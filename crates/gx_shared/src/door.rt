@@ -4,6 +4,7 @@ ghost use Rattle.std.specs.Prelude.{◌≡◌, ◌≢◌, ◌↔◌, ◌≤◌, 
 ghost use Rattle.gx_units.specs.Spelling.{folded_user};
 ghost use Rattle.gx_history.specs.declared.record.Request.TheVariants as requests;
 ghost use Rattle.gx_history.specs.InForce.{line_of};
+ghost use Rattle.gx_history.specs.Lists.{slice};
 ghost use Rattle.gx_history.specs.Showing.{has_its_first};
 ghost use Rattle.gx_history.specs.Verdicts.{IsLegal};
 ghost use Rattle.gx_core.specs.Gates.{left_by, matched_by};
@@ -15,9 +16,9 @@ ghost use Rattle.gx_shared.specs.Acts.{AddsOwn, EndsWith, IsLater, IsPulled, IsT
 
 use crate::fault::PullFault;
 use gx_core::{LoginAnswer, Outcome, Pulled, StepFault};
-use gx_history::record::Request;
+use gx_history::record::{Record, Request};
 use gx_pass::PassFault;
-use gx_units::{Moment, Password, SessionName, UserName};
+use gx_units::{Moment, OutOfMemory, Password, SessionName, UserName};
 use std::sync::Wait;
 
 /// A gate that threads share. Each call that takes a pass gives it back, with what was met.
@@ -128,6 +129,23 @@ pub trait Door {
         ensures never_refused { OnErr result.1 (MayBeRefused (gate_met policy (held result.0))
             (asked_on (held pass).line user requests.Logout moment)) }
         ensures full { IfErr result.1 (IsToldFull (gate_met policy (held result.0))) };
+
+    /// The records from this number on, 0 counting as 1, and at most so many.
+    fn records<R: Wait>(
+        &self,
+        rt: &R,
+        pass: Self::Ticket,
+        from: u64,
+        most: u64,
+    ) -> (Self::Ticket, Result<Vec<Record>, OutOfMemory>)
+        ensures later { IsLater policy (held pass) (held result.0) }
+        ensures own { mine (held result.0) ≡ mine (held pass) }
+        ensures records { IfOk result.1
+            (λ v. v.items ≡ slice (held result.0).front from most) };
+
+    /// Whether what was done so far may be told: a door that keeps its records elsewhere keeps all that there are by
+    /// now, and answers false where it can't, and from then on. Whoever tells of records asks before.
+    fn keep<R: Wait>(&self, rt: &R) -> bool;
 
     /// Both passes have met the same records.
     fn meet<R: Wait>(

@@ -7,9 +7,12 @@
 mod desk;
 mod door;
 mod fault;
+mod leaving;
+mod resuming;
 mod shared;
 mod steps;
 
 pub use door::Door;
 pub use fault::PullFault;
+pub use leaving::log_out_all;
 pub use shared::SharedGate;

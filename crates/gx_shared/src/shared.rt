@@ -5,21 +5,24 @@ ghost use mathlib.Core.List.{IsPrefix};
 ghost use Rattle.gx_units.specs.Spelling.{folded_user};
 ghost use Rattle.gx_history.specs.declared.record.Request.TheVariants as requests;
 ghost use Rattle.gx_history.specs.InForce.{line_of};
+ghost use Rattle.gx_history.specs.Lists.{slice};
 ghost use Rattle.gx_history.specs.Showing.{has_its_first};
 ghost use Rattle.gx_history.specs.Verdicts.{IsLegal};
 ghost use Rattle.gx_core.specs.Gates.{left_by, matched_by};
 ghost use Rattle.gx_core.specs.Matches.{matching_of};
+ghost use Rattle.gx_pass.specs.declared.pass.PassFault.TheVariants as pass_faults;
 ghost use Rattle.gx_pass.specs.Views.{mine, of_line};
 ghost use Rattle.gx_shared.specs.declared.fault.PullFault.TheVariants as pull_faults;
 ghost use Rattle.gx_shared.specs.Acts.{asked_on, gate_met, login_on};
 ghost use Rattle.gx_shared.specs.Acts.{AddsOwn, EndsWith, IsLater, IsPulled, IsToldFull, LogsIn, MayBeRefused};
+ghost use Rattle.gx_shared.specs.Lines.{highest_line};
 
 use crate::desk::Desk;
 use crate::door::Door;
 use crate::fault::PullFault;
 use gx_core::{Gate, LoginAnswer, Outcome, Pulled, StepFault};
 use gx_history::policy::Policy;
-use gx_history::record::Request;
+use gx_history::record::{Record, Request};
 use gx_pass::{Blank, GateName, Pass, PassFault};
 use gx_units::{Moment, OutOfMemory, Password, SessionName, UserName};
 use std::alloc::Global;
@@ -42,6 +45,32 @@ impl<N: GateName> SharedGate<N> {
         Ok(SharedGate {
             desk: Mutex::new(desk),
         })
+    }
+
+    /// A gate that has records, which no thread shares yet, and a pass of a new line, which has met them. Lines that
+    /// are issued from now on are above the highest of theirs.
+    ///
+    /// # Errors
+    ///
+    /// `NoLines` only where a record has the last line that there is. The gate is closed then, as it is where memory is
+    /// refused.
+    pub fn over(gate: Gate, blank: Blank) -> Result<(SharedGate<N>, Pass<N>), PassFault>
+        requires policy { gate.policy ≡ N.policy }
+        requires blank { blank ≡ N.table }
+        ensures front { IfOk result (λ made. made.1.front ≡ gate.records) }
+        ensures own { IfOk result (λ made. mine made.1 ≡ []) }
+        ensures no_lines { IfErr result (λ e.
+            e ≡ pass_faults.NoLines → highest_line gate.records ≡ 65535) }
+    {
+        match Desk::over(gate, blank) {
+            Ok((desk, pass)) => Ok((
+                SharedGate {
+                    desk: Mutex::new(desk),
+                },
+                pass,
+            )),
+            Err(fault) => Err(fault),
+        }
     }
 
     /// The gate. It has all that the pass has met, and of the pass's line its own records.
@@ -127,6 +156,20 @@ impl<N: GateName> Door for SharedGate<N> {
         moment: Moment,
     ) -> (Pass<N>, Result<Outcome, StepFault>) {
         self.desk.lock(rt).act(pass, user, Request::Logout, moment)
+    }
+
+    fn records<R: Wait>(
+        &self,
+        rt: &R,
+        pass: Pass<N>,
+        from: u64,
+        most: u64,
+    ) -> (Pass<N>, Result<Vec<Record>, OutOfMemory>) {
+        self.desk.lock(rt).records(pass, from, most)
+    }
+
+    fn keep<R: Wait>(&self, _rt: &R) -> bool {
+        true
     }
 
     fn meet<R: Wait>(&self, rt: &R, one: Pass<N>, other: Pass<N>) -> (Pass<N>, Pass<N>) {

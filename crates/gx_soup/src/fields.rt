@@ -1,10 +1,10 @@
 //! Text fields: fixed bytes, spaces and numbers.
 
-ghost use Rattle.std.specs.Prelude.{◌≡◌, ◌≤◌, ◌-◌, ◌^◌, length, min, IfOk};
+ghost use Rattle.std.specs.Prelude.{◌≡◌, ◌≤◌, length, None, IfNone, IfOk, IfSome};
 ghost use Rattle.std.specs.Char.{is_ascii_digit};
 ghost use Rattle.std.specs.List.{list_all};
 ghost use Rattle.gx_units.specs.Spelling.{padded_left};
-ghost use Rattle.gx_soup.specs.Login.{number_of, spelled, with_digit, greatest};
+ghost use Rattle.gx_soup.specs.Login.{in_64_bits, number_of, spelled, with_digit};
 
 use gx_units::{OutOfMemory, trimmed};
 use std::alloc::Global;
@@ -38,7 +38,7 @@ pub(crate) fn number_of(field: &[u8]) -> Option<u64>
     if !are_digits(digits) {
         return None;
     }
-    Some(spelled_value(digits).min(u128::from(u64::MAX)) as u64)
+    Some(spelled_value(digits).unwrap_or(u64::MAX))
 }
 
 fn are_digits(text: &[u8]) -> bool
@@ -47,22 +47,30 @@ fn are_digits(text: &[u8]) -> bool
     text.iter().all(|byte| byte.is_ascii_digit())
 }
 
-/// The number that ASCII digits spell, or the greatest of 128 bits where it is past that.
-pub fn spelled_value(digits: &[u8]) -> u128
-    ensures { result ≡ min (spelled digits.now) (2 ^ 128 - 1) }
+/// The number that ASCII digits spell; `None` where 64 bits do not hold it.
+pub fn spelled_value(digits: &[u8]) -> Option<u64>
+    ensures { result ≡ in_64_bits (spelled digits.now) }
 {
-    let mut number = 0;
+    let mut number = Some(0);
     for digit in digits {
-        number = capped_digit(number, *digit);
+        number = next_value(number, *digit);
     }
     number
 }
 
+/// One digit more, where there is a number.
+fn next_value(number: Option<u64>, digit: u8) -> Option<u64>
+    ensures some { IfSome number (λ n. result ≡ in_64_bits (with_digit n digit)) }
+    ensures none { IfNone number (result ≡ None) }
+{
+    with_digit(number?, digit)
+}
+
 /// One digit more.
-fn capped_digit(number: u128, c: u8) -> u128
-    ensures { result ≡ min (with_digit number c) (2 ^ 128 - 1) }
+fn with_digit(number: u64, digit: u8) -> Option<u64>
+    ensures { result ≡ in_64_bits (with_digit number digit) }
 {
     number
-        .saturating_mul(10)
-        .saturating_add(u128::from(c.saturating_sub(b'0')))
+        .checked_mul(10)?
+        .checked_add(u64::from(digit.saturating_sub(b'0')))
 }

@@ -14,4 +14,4 @@ pub use fields::spelled_value;
 pub use laws::{held_back, nothing_after_fault, packets_grow, read_back};
 pub use packet::{ClientPacket, LoginRequest, ServerPacket, SoupFault};
 pub use payload::Payload;
-pub use writing::{encode, encode_client};
+pub use writing::{append_sequenced, encode, encode_client};

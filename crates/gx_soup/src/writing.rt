@@ -1,6 +1,7 @@
 //! Packets as bytes.
 
-ghost use Rattle.std.specs.Prelude.{◌≡◌, ◌≤◌, length, IfOk};
+ghost use Rattle.std.specs.Prelude.{◌≡◌, ◌≤◌, ◌++◌, length, IfOk, OnOk};
+ghost use Rattle.gx_soup.specs.declared.packet.ServerPacket.TheVariants.{Sequenced};
 ghost use Rattle.gx_soup.specs.Standard.{longest_payload};
 ghost use Rattle.gx_soup.specs.Writing.{framed, server_bytes, HasRoom, client_bytes, ClientHasRoom, number_field, session_field, login_payload, reason_code};
 
@@ -56,13 +57,30 @@ fn framed(alloc: Global, kind: u8, payload: &[u8]) -> Result<Vec<u8>, OutOfMemor
     requires { length payload.now ≤ longest_payload }
     ensures { IfOk result (λ bytes. bytes.items ≡ framed kind payload.now) }
 {
-    let count = payload.len() + 1;
     let mut bytes = Vec::with_capacity(alloc, payload.len() + 3)?;
-    bytes.push((count / 256) as u8)?;
-    bytes.push((count % 256) as u8)?;
-    bytes.push(kind)?;
-    bytes.extend_from_slice(payload)?;
+    append_framed(&mut bytes, kind, payload)?;
     Ok(bytes)
+}
+
+/// Puts a length, a type, and what the packet carries at the end of the text.
+fn append_framed(text: &mut Vec<u8>, kind: u8, payload: &[u8]) -> Result<(), OutOfMemory>
+    requires { length payload.now ≤ longest_payload }
+    ensures { OnOk result (text.new.items ≡ text.old.items ++ framed kind payload.now) }
+{
+    let count = payload.len() + 1;
+    text.extend_from_slice(&[(count / 256) as u8, (count % 256) as u8, kind])?;
+    text.extend_from_slice(payload)?;
+    Ok(())
+}
+
+/// Puts a Sequenced Data packet that carries these bytes at the end of the text: 65,534 bytes at most.
+#[tactic(auto, unfolding(crate::specs::Writing::server_bytes))]
+pub fn append_sequenced(text: &mut Vec<u8>, payload: &[u8]) -> Result<(), OutOfMemory>
+    requires { length payload.now ≤ longest_payload }
+    ensures { OnOk result (text.new.items
+        ≡ text.old.items ++ server_bytes (Sequenced payload.now)) }
+{
+    append_framed(text, b'S', payload)
 }
 
 fn login_payload(alloc: Global, login: &LoginRequest) -> Result<Vec<u8>, OutOfMemory>

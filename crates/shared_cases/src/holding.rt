@@ -2,10 +2,10 @@
 
 use crate::counting::{Count, Flag, Until};
 use gx_core::{LoginAnswer, Outcome, Pulled, StepFault};
-use gx_history::record::Request;
+use gx_history::record::{Record, Request};
 use gx_pass::PassFault;
 use gx_shared::{Door, PullFault};
-use gx_units::{Moment, Password, SessionName, UserName};
+use gx_units::{Moment, OutOfMemory, Password, SessionName, UserName};
 use std::sync::Wait;
 use std::time::Clock;
 
@@ -141,6 +141,20 @@ impl<D: Door, C: Clock> Door for Holds<'_, D, C> {
         moment: Moment,
     ) -> (D::Ticket, Result<Outcome, StepFault>) {
         self.door.logout(rt, pass, user, moment)
+    }
+
+    fn records<R: Wait>(
+        &self,
+        rt: &R,
+        pass: D::Ticket,
+        from: u64,
+        most: u64,
+    ) -> (D::Ticket, Result<Vec<Record>, OutOfMemory>) {
+        self.door.records(rt, pass, from, most)
+    }
+
+    fn keep<R: Wait>(&self, rt: &R) -> bool {
+        self.door.keep(rt)
     }
 
     fn meet<R: Wait>(&self, rt: &R, one: D::Ticket, other: D::Ticket) -> (D::Ticket, D::Ticket) {

@@ -1,14 +1,23 @@
-use Rattle.std.proofs.Common.{◌≡◌, ℕ, min, take, get_or, ap, sym, ◌∙◌, arith, ◌-◌, ◌^◌}
+use Rattle.std.proofs.Common.{◌≡◌, ◌≢◌, ℕ, ◌≤◌, ◌<◌, ◌^◌, Bool, true, false, cond, ltb, take, get_or, Option, Some, None, IfNone, IfSome, refl, ap, sym, ◌∙◌, arith}
+use Rattle.std.proofs.lemmas.Bool.{ltb-false, le-ltb}
 use Rattle.std.proofs.lemmas.List.Sums.{fold_more}
-use Rattle.gx_soup.specs.Login.{spelled, with_digit}
+use Rattle.gx_soup.specs.Login.{in_64_bits, spelled, with_digit}
 use Rattle.gx_soup.proofs.fields.spelled_value.Goals as goal
 
-capped : (n c : ℕ) → min (with_digit (min n (2 ^ 128 - 1)) c) (2 ^ 128 - 1) ≡ min (with_digit n c) (2 ^ 128 - 1)
-capped n c = omega arith
+-- what 64 bits do not hold, they do not hold with one digit more
+stays : (n c : ℕ) (b : Bool) → ltb n (2 ^ 64) ≡ b → (next : Option ℕ) → IfSome (cond b (Some n) None) (λ m. next ≡ in_64_bits (with_digit m c)) → IfNone (cond b (Some n) None) (next ≡ None)
+    → next ≡ in_64_bits (with_digit n c)
+stays n c true e next s z = s
+stays n c false e next s z =
+    let past = ltb-false n (2 ^ 64) e in
+    z ∙ ap (λ t. cond t (Some (with_digit n c)) None) (sym (le-ltb (with_digit n c) (2 ^ 64) (omega (arith, past))))
 
 pub loop-digit-preserved : goal.loop-digit-preserved
 loop-digit-preserved c =
     let digits = c.args.digits.now in
     let before = spelled (take c.loop-digit.digit-index digits) in
     let digit = get_or digits c.loop-digit.digit-index 0 in
-    c.capped_digit-number.ensures ∙ (ap (λ n. min (with_digit n digit) (2 ^ 128 - 1)) c.loop-digit.invariant ∙ (capped before digit ∙ ap (λ n. min n (2 ^ 128 - 1)) (sym (fold_more with_digit 0 digits c.loop-digit.digit-index 0 c.loop-digit-test.true))))
+    stays before digit (ltb before (2 ^ 64)) refl _
+    (rw (sym c.loop-digit.invariant) c.next_value-number.ensures.some)
+    (rw (sym c.loop-digit.invariant) c.next_value-number.ensures.none)
+    ∙ ap in_64_bits (sym (fold_more with_digit 0 digits c.loop-digit.digit-index 0 c.loop-digit-test.true))

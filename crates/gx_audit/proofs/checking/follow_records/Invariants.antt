@@ -1,6 +1,6 @@
 use Rattle.std.proofs.Common.{◌≡◌, ◌≤◌, ◌-◌, ◌++◌, length, drop}
 use Rattle.gx_audit.specs.Auditing.{whole_audit, AreShown}
-use Rattle.gx_audit.proofs.checking.check_records.Given as goal
+use Rattle.gx_audit.proofs.checking.follow_records.Given as goal
 
 abbrev pub invariant-loop-at : goal.invariant-loop-at
 invariant-loop-at l = record {

@@ -1,6 +1,6 @@
 use Rattle.std.proofs.Common.{arith, ◌∙◌, refl}
-use Rattle.gx_audit.proofs.Walking.{begins, none_shown, bytes_further, shown_further, fault_told, left_told, all_legal}
-use Rattle.gx_audit.proofs.checking.check_records.Goals as goal
+use Rattle.gx_audit.proofs.Walking.{begins, none_shown, bytes_further, shown_further, fault_told}
+use Rattle.gx_audit.proofs.checking.follow_records.Goals as goal
 
 pub loop-at-init : goal.loop-at-init
 loop-at-init c = record {
@@ -21,18 +21,16 @@ loop-at-preserved c = record {
       c.loop-at.invariant.bytes c.in-Ok.ensures.ok c.record_at.ensures;
 }
 
-pub returns-in-Err : goal.returns-in-Err
-returns-in-Err c =
+pub returns-in-Err-clause-fault : goal.returns-in-Err-clause-fault
+returns-in-Err-clause-fault c =
     fault_told c.args.version c.args.gate.now.policy c.loop-at.gate.policy c.loop-at.gate.records c.record_at.result c.args.bytes.now c.loop-at.at c.in-Err.fault
     c.loop-at.invariant.policy c.requires.version c.check_record.ensures.legal c.loop-at.invariant.shown c.loop-at.invariant.bytes (omega arith)
     c.record_at.ensures c.in-Err.ensures.fault
 
-pub returns-then-at-bytes : goal.returns-then-at-bytes
-returns-then-at-bytes c =
-    left_told c.args.version c.args.gate.now.policy c.loop-at.gate.policy c.loop-at.gate.records c.args.bytes.now c.loop-at.at c.loop-at.invariant.policy
-    c.requires.version c.is_legal.ensures.legal c.loop-at.invariant.shown c.loop-at.invariant.bytes (omega arith) (omega arith)
-
-pub returns : goal.returns
-returns c =
-    all_legal c.args.version c.args.gate.now.policy c.loop-at.gate.policy c.loop-at.gate.records c.args.bytes.now c.loop-at.at c.length.result
-    c.loop-at.invariant.policy c.is_legal.ensures.legal c.loop-at.invariant.shown c.loop-at.invariant.bytes (omega arith) c.length.ensures.count
+pub returns-clause-whole : goal.returns-clause-whole
+returns-clause-whole c = record {
+  within = c.loop-at.invariant.within;
+  short = omega arith;
+  shown = c.loop-at.invariant.shown;
+  bytes_are = c.loop-at.invariant.bytes;
+}

@@ -1,0 +1,41 @@
+//! A day that goes on from its journal.
+
+ghost use Rattle.std.specs.Prelude.{◌≡◌, ◌≤◌, IfOk, IfErr, length};
+ghost use Rattle.gx_history.specs.Verdicts.{IsLegal};
+ghost use Rattle.gx_audit.specs.Replaying.{journal_size, HoldsRecords, IsReplayFault};
+
+use crate::checking::{follow_records, header_end};
+use crate::fault::AuditFault;
+use crate::version::AuditVersion;
+use gx_core::Gate;
+use gx_history::policy::Policy;
+use std::alloc::Global;
+
+/// The gate of the records that a journal holds: an audit of version 2, which may be cut in its last record. Each step is
+/// made again, as [`check_audit`](crate::check_audit) does.
+///
+/// # Errors
+///
+/// `Truncated` only where the bytes are too few for a header, and `OtherPolicy` where they do not begin with the policy's.
+/// Any other fault names its record.
+#[tactic(auto, using(crate::proofs::Journals::holds_records, crate::proofs::Journals::is_within))]
+pub fn replay(alloc: Global, policy: &Policy, journal: &[u8]) -> Result<Gate, AuditFault>
+    ensures policy { IfOk result (λ gate. gate.policy ≡ policy.now) }
+    ensures records { IfOk result (λ gate. HoldsRecords policy.now journal.now gate.records) }
+    ensures legal { IfOk result (λ gate. IsLegal policy.now gate.records) }
+    ensures size { IfOk result (λ gate.
+        journal_size (length gate.records) ≤ length journal.now) }
+    ensures fault { IfErr result (λ e. IsReplayFault policy.now journal.now e) }
+{
+    let start = header_end(policy, journal)?;
+    let Ok(mut gate) = Gate::open(alloc, policy) else {
+        return Err(AuditFault::OutOfMemory);
+    };
+    match follow_records(&mut gate, AuditVersion::Two, journal, start) {
+        Ok(_) => Ok(gate),
+        Err(fault) => {
+            gate.close();
+            Err(fault)
+        }
+    }
+}

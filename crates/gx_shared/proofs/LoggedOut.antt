@@ -1,0 +1,173 @@
+-- A user who is logged in on a line is logged out there.
+use Rattle.std.proofs.Common.{◌≡◌, ◌≢◌, ℕ, ◌+◌, ◌<◌, ◌≤◌, ◌==◌, Bool, true, false, List, [], ◌∷◌, ◌++◌, length, take, get_or, map, Option, Some, None, Result, Ok, Err, IfOk, is_ok, refl, sym, ap, ◌∙◌, subst, append_assoc, append-nil, eq-eqb, arith}
+use Rattle.std.specs.Prelude.{not, ◌&&◌, ◌||◌, IsTrue, IsOk, OnErr}
+use Rattle.std.specs.List.{list_any, AllByRecursion}
+use Rattle.std.specs.Option.{option_map_or}
+use Rattle.std.proofs.lemmas.List.{take_all, take_more}
+use Rattle.std.proofs.lemmas.List.Folds.{list_any-append}
+use Rattle.std.proofs.lemmas.Option.{none-some}
+use Rattle.gx_units.specs.Names.{same_user}
+use Rattle.gx_units.specs.Spelling.{folded_user}
+use Rattle.gx_units.specs.declared.names.UserName.{UserName}
+use Rattle.gx_history.specs.declared.facts.Facts.{Facts}
+use Rattle.gx_history.specs.declared.facts.RuleFigures.{RuleFigures}
+use Rattle.gx_history.specs.declared.policy.FileRule.{FileRule}
+use Rattle.gx_history.specs.declared.policy.PolicyData.{PolicyData}
+use Rattle.gx_history.specs.declared.policy.User.{User}
+use Rattle.gx_history.specs.declared.record.Asked.{Asked}
+use Rattle.gx_history.specs.declared.record.RecordData.{RecordData}
+use Rattle.gx_history.specs.declared.record.Request.{Request}
+use Rattle.gx_history.specs.declared.record.Request.TheVariants as requests
+use Rattle.gx_history.specs.declared.record.Step.TheVariants as steps
+use Rattle.gx_history.specs.declared.record.Verdict.{Verdict}
+use Rattle.gx_history.specs.declared.record.Verdict.TheVariants as verdicts
+use Rattle.gx_history.specs.Asking.{facts, is_on_line}
+use Rattle.gx_history.specs.Effects.{ChangesLine}
+use Rattle.gx_history.specs.InForce.{line_of}
+use Rattle.gx_history.specs.People.{covers}
+use Rattle.gx_history.specs.RuleNames.{rules_before, rules_behind}
+use Rattle.gx_history.specs.Rules.{Rule, BuiltIn, OfFile, applies, written_order}
+use Rattle.gx_history.specs.Verdicts.{facts_now, rules_now, verdict}
+use Rattle.gx_history_laws.proofs.Adding.{user_is}
+use Rattle.gx_history_laws.proofs.Granting.{granted_where_none}
+use Rattle.gx_history_laws.proofs.Pushing.{all_next}
+use Rattle.gx_effects.proofs.Lines.{logout_takes_effect}
+use Rattle.gx_places.specs.Places.{has_kept_places}
+use Rattle.gx_core.specs.declared.outcome.Outcome.{Outcome}
+use Rattle.gx_core.specs.declared.outcome.StepFault.{StepFault}
+use Rattle.gx_core.specs.Gates.{GateData, left_by}
+use Rattle.gx_core.specs.Steps.{has_its_places, next_of, verdict_of, with_record}
+use Rattle.gx_shared.specs.Acts.{asked_on}
+use Rattle.gx_shared.specs.Logouts.{AddsLogouts, IsGrantedLogout, IsOff, NobodyIsOn}
+
+-- No rule forbids the Logout of a user who is on his line.
+
+passes : (b : Bool) {c : Bool} → c ≡ false → ((b && false) || c) ≡ false
+passes true h = h
+passes false h = h
+
+module _ (given : Facts) (on : given.is_on_this_line ≡ true) (fits : given.role_fits ≡ true) where
+  none_before : list_any (applies given requests.Logout) (map BuiltIn rules_before) ≡ false
+  unfolding rules_before
+  none_before = ap (λ b. not b || (not given.role_fits || false)) on ∙ ap (λ b. not b || false) fits
+
+  none_behind : list_any (applies given requests.Logout) (map BuiltIn rules_behind) ≡ false
+  unfolding rules_behind
+  none_behind = refl
+
+  none_of_file : (rules : List (FileRule × RuleFigures)) → list_any (applies given requests.Logout) (map OfFile rules) ≡ false
+  none_of_file [] = refl
+  none_of_file (r ∷ rules) = passes (option_map_or (covers r.0.scope) given.account false) (none_of_file rules)
+
+  none_forbids : (rules : List (FileRule × RuleFigures)) → list_any (applies given requests.Logout) (written_order rules) ≡ false
+  unfolding written_order
+  none_forbids rules =
+      let p : Rule → Bool = applies given requests.Logout in
+      list_any-append p (map BuiltIn rules_before ++ map OfFile rules) (map BuiltIn rules_behind)
+      ∙ ap (λ b. b || list_any p (map BuiltIn rules_behind)) (list_any-append p (map BuiltIn rules_before) (map OfFile rules))
+      ∙ ap (λ b. (b || list_any p (map OfFile rules)) || list_any p (map BuiltIn rules_behind)) none_before
+      ∙ ap (λ b. b || list_any p (map BuiltIn rules_behind)) (none_of_file rules)
+      ∙ none_behind
+
+logout_is_granted : (policy : PolicyData) (history : List RecordData) (line : ℕ) (user : UserName) (moment : ℕ) → line_of history (folded_user user) ≡ Some line
+    → verdict policy history (asked_on line user requests.Logout moment) ≡ verdicts.Granted
+unfolding facts
+logout_is_granted policy history line user moment on =
+    let a : Asked = asked_on line user requests.Logout moment in
+    (granted_where_none policy history a).1
+    (none_forbids (facts_now policy history a) (ap (λ (l : Option ℕ). is_on_line l line) on ∙ eq-eqb line line refl) refl (rules_now policy history a))
+
+-- its step
+record LogsOut (old new : GateData) (user : UserName) : Type 0 where
+  added : AddsLogouts old.records new.records
+  left : ChangesLine old.policy old.records new.records user None
+
+by_step : (old new : GateData) (a : Asked) (r : Result Outcome StepFault) → a.request ≡ requests.Logout → verdict_of old a ≡ verdicts.Granted
+    → (has_its_places old a ≡ true → is_ok r ≡ true) → IfOk r (λ o. next_of old a ≡ Some (left_by a o)) → IfOk r (λ o. o.verdict ≡ verdict_of old a)
+    → IfOk r (λ o. new.records ≡ with_record old a o) → LogsOut old new a.user
+by_step old new a (Ok o) asks grants sure next given grown = record {
+  added = record {
+    added = left_by a o ∷ [];
+    logouts = (record { asked = a; step_is = refl; request_is = asks; granted = given ∙ grants }, tt);
+    grown = grown;
+  };
+  left = subst (λ (records : List RecordData). ChangesLine old.policy old.records records a.user None) (sym grown)
+      (logout_takes_effect old.policy old.records a (left_by a o) next asks (given ∙ grants));
+}
+by_step old new a (Err e) asks grants sure next given grown =
+    let places : has_its_places old a ≡ true = λ i. has_kept_places (asks i) (grants i) in
+    let clash : false ≡ true = sure places in cc
+
+logs_out : (old new : GateData) (line : ℕ) (user : UserName) (moment : ℕ) (asked : Asked) (r : Result Outcome StepFault) → line_of old.records (folded_user user) ≡ Some line
+    → asked ≡ asked_on line user requests.Logout moment → (has_its_places old asked ≡ true → is_ok r ≡ true) → IfOk r (λ o. next_of old asked ≡ Some (left_by asked o))
+    → IfOk r (λ o. o.verdict ≡ verdict_of old asked) → IfOk r (λ o. new.records ≡ with_record old asked o) → LogsOut old new (folded_user user)
+logs_out old new line user moment asked r on is sure next given grown =
+    let request_is : asked.request ≡ requests.Logout = ap (λ (a : Asked). a.request) is in
+    let grants : verdict_of old asked ≡ verdicts.Granted = ap (verdict_of old) is ∙ logout_is_granted old.policy old.records line user moment on in
+    subst (λ (u : UserName). LogsOut old new u) (ap (λ (a : Asked). a.user) is) (by_step old new asked r request_is grants sure next given grown)
+
+pub adds_logout : (old new : GateData) (line : ℕ) (user : UserName) (moment : ℕ) (asked : Asked) (r : Result Outcome StepFault) → line_of old.records (folded_user user) ≡ Some line
+    → asked ≡ asked_on line user requests.Logout moment → (has_its_places old asked ≡ true → is_ok r ≡ true) → IfOk r (λ o. next_of old asked ≡ Some (left_by asked o))
+    → IfOk r (λ o. o.verdict ≡ verdict_of old asked) → IfOk r (λ o. new.records ≡ with_record old asked o) → AddsLogouts old.records new.records
+adds_logout old new line user moment asked r on is sure next given grown = (logs_out old new line user moment asked r on is sure next given grown).added
+
+pub leaves_line : (old new : GateData) (line : ℕ) (user : UserName) (moment : ℕ) (asked : Asked) (r : Result Outcome StepFault) → line_of old.records (folded_user user) ≡ Some line
+    → asked ≡ asked_on line user requests.Logout moment → (has_its_places old asked ≡ true → is_ok r ≡ true) → IfOk r (λ o. next_of old asked ≡ Some (left_by asked o))
+    → IfOk r (λ o. o.verdict ≡ verdict_of old asked) → IfOk r (λ o. new.records ≡ with_record old asked o) → ChangesLine old.policy old.records new.records (folded_user user) None
+leaves_line old new line user moment asked r on is sure next given grown = (logs_out old new line user moment asked r on is sure next given grown).left
+
+-- Who is off.
+
+-- on no line
+pub off_nowhere : (records : List RecordData) (user : UserName) → line_of records user ≡ None → IsOff records user
+off_nowhere records user none line some is = none-some line (sym none ∙ is)
+
+-- on a line that there is not
+pub off_zero : (records : List RecordData) (user : UserName) (on : ℕ) → line_of records user ≡ Some on → on ≡ 0 → IsOff records user
+off_zero records user on at zero line some is =
+    let same : Some on ≡ Some line = sym at ∙ is in
+    let both : on ≡ line = cc in
+    absurd (omega (arith, both, zero, some))
+
+-- whoever was off is off behind another's Logout
+pub others_off : (policy : PolicyData) (before after : List RecordData) (user other : UserName) → ChangesLine policy before after user None → IsOff before other → IsOff after other
+others_off policy before after user other left off = by (same_user user other) refl
+  where
+    by : (b : Bool) → same_user user other ≡ b → IsOff after other
+    by true same = off_nowhere after other (ap (line_of after) (sym (user_is user other same)) ∙ left.line_now)
+    by false apart = λ line some is. off line some (sym (left.lines_kept other apart) ∙ is)
+
+-- What was added.
+
+pub adds_nothing : (records : List RecordData) → AddsLogouts records records
+adds_nothing records = record { added = []; logouts = tt; grown = sym (append-nil records) }
+
+all_joined : {X : Type 0} (P : X → Type 0) (xs ys : List X) → AllByRecursion P xs → AllByRecursion P ys → AllByRecursion P (xs ++ ys)
+all_joined P [] ys h k = k
+all_joined P (x ∷ xs) ys h k = (h.0, all_joined P xs ys h.1 k)
+
+pub adds_more : (a b c : List RecordData) → AddsLogouts a b → AddsLogouts b c → AddsLogouts a c
+adds_more a b c first then = record {
+  added = first.added ++ then.added;
+  logouts = all_joined IsGrantedLogout first.added then.added first.logouts then.logouts;
+  grown = then.grown ∙ ap (λ (records : List RecordData). records ++ then.added) first.grown ∙ append_assoc a first.added then.added;
+}
+
+-- Each of the users so far is off.
+
+abbrev Off : List RecordData → User → Type 0
+Off records u = IsOff records (folded_user u.name)
+
+still : {X : Type 0} (P Q : X → Type 0) (xs : List X) → ((x : X) → P x → Q x) → AllByRecursion P xs → AllByRecursion Q xs
+still P Q [] keep h = tt
+still P Q (x ∷ xs) keep h = (keep x h.0, still P Q xs keep h.1)
+
+pub one_more_off : (before after : List RecordData) (users : List User) (i : ℕ) (u d : User) → i < length users → u ≡ get_or users i d → AllByRecursion (Off before) (take i users)
+    → ((other : UserName) → IsOff before other → IsOff after other) → IsOff after (folded_user u.name) → AllByRecursion (Off after) (take (i + 1) users)
+one_more_off before after users i u d within is so_far keep off =
+    subst (AllByRecursion (Off after)) (sym (take_more users i d within ∙ ap (λ (x : User). take i users ++ x ∷ []) (sym is)))
+    (all_next (Off after) (take i users) u (still (Off before) (Off after) (take i users) (λ x h. keep (folded_user x.name) h) so_far) off)
+
+pub nobody_on : (old new : GateData) (i : ℕ) → new.policy ≡ old.policy → length old.policy.users ≤ i → AllByRecursion (Off new.records) (take i old.policy.users) → NobodyIsOn new
+nobody_on old new i same past so_far =
+    subst (λ (p : PolicyData). AllByRecursion (Off new.records) p.users) (sym same) (subst (AllByRecursion (Off new.records)) (take_all i old.policy.users past) so_far)

@@ -1,0 +1,34 @@
+-- What is left once all connections are gone: nobody is logged in.
+use Rattle.std.specs.Prelude.{◌≡◌, ◌≢◌, ℕ, ◌<◌, List, ◌++◌, Some}
+use Rattle.std.specs.List.{AllByRecursion}
+use Rattle.gx_units.specs.declared.names.UserName.{UserName}
+use Rattle.gx_units.specs.Spelling.{folded_user}
+use Rattle.gx_history.specs.declared.policy.User.{User}
+use Rattle.gx_history.specs.declared.record.Asked.{Asked}
+use Rattle.gx_history.specs.declared.record.RecordData.{RecordData}
+use Rattle.gx_history.specs.declared.record.Request.TheVariants as requests
+use Rattle.gx_history.specs.declared.record.Step.TheVariants as steps
+use Rattle.gx_history.specs.declared.record.Verdict.TheVariants as verdicts
+use Rattle.gx_history.specs.InForce.{line_of}
+use Rattle.gx_core.specs.Gates.{GateData}
+
+-- a granted Logout
+pub record IsGrantedLogout (r : RecordData) : Type 0 where
+  pub asked : Asked
+  pub step_is : r.step ≡ steps.Asked asked
+  pub request_is : asked.request ≡ requests.Logout
+  pub granted : r.verdict ≡ verdicts.Granted
+
+-- granted Logouts were added, and nothing else
+pub record AddsLogouts (before after : List RecordData) : Type 0 where
+  pub added : List RecordData
+  pub logouts : AllByRecursion IsGrantedLogout added
+  pub grown : after ≡ before ++ added
+
+-- the user is logged in on none of the lines, which begin at 1
+abbrev pub IsOff : List RecordData → UserName → Type 0
+IsOff records user = (line : ℕ) → 0 < line → line_of records user ≢ Some line
+
+-- so is each user of the policy
+abbrev pub NobodyIsOn : GateData → Type 0
+NobodyIsOn gate = AllByRecursion (λ (u : User). IsOff gate.records (folded_user u.name)) gate.policy.users

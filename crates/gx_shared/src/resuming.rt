@@ -1,0 +1,118 @@
+//! The keeper of a history that was there before it.
+
+ghost use Rattle.std.specs.Prelude.{◌≡◌, ◌+◌, ◌<◌, ◌^◌, ◌++◌, ◌∷◌, [], length, max, IfErr, IfOk, OnErr, OnOk};
+ghost use Rattle.gx_pass.specs.declared.pass.PassFault.TheVariants as faults;
+ghost use Rattle.gx_pass.specs.Views.{line_in, mine};
+ghost use Rattle.gx_shared.specs.Lines.{highest_line, lines_to, IsResuming};
+
+use gx_core::Gate;
+use gx_history::record::{Record, RecordData, Step};
+use gx_pass::{Blank, GateName, Keeper, Pass, PassFault};
+use gx_units::OutOfMemory;
+
+/// So many records are asked for at once.
+const PORTION: u64 = 256;
+
+/// The line of a record's step, 0 where it is nobody's.
+fn line_in(noted: &RecordData) -> u16
+    ensures { result ≡ line_in noted.now }
+{
+    match noted.step {
+        Step::Asked(asked) => asked.line,
+        Step::Matching(_) => 0,
+    }
+}
+
+/// Issues one more line, whose pass stays in the keeper's hand.
+#[tactic(auto, using(crate::proofs::Noted::one_more_line))]
+fn hold_one<N: GateName>(keeper: &mut Keeper<N>) -> Result<(), OutOfMemory>
+    requires hand { keeper.old.hand ≡ lines_to keeper.old.issued }
+    requires left { keeper.old.issued < 65535 }
+    ensures list { keeper.new.list ≡ keeper.old.list }
+    ensures hand { keeper.new.hand ≡ lines_to keeper.new.issued }
+    ensures issued { OnOk result (keeper.new.issued ≡ keeper.old.issued + 1) }
+{
+    match keeper.issue() {
+        Ok(pass) => {
+            keeper.enter(pass);
+            Ok(())
+        }
+        Err(PassFault::OutOfMemory) => Err(OutOfMemory),
+        Err(PassFault::NoLines) => unreachable!(),
+    }
+}
+
+/// Issues the lines up to this one, whose passes stay in the keeper's hand.
+fn hold_up_to<N: GateName>(keeper: &mut Keeper<N>, line: u16) -> Result<(), OutOfMemory>
+    requires hand { keeper.old.hand ≡ lines_to keeper.old.issued }
+    ensures list { keeper.new.list ≡ keeper.old.list }
+    ensures hand { keeper.new.hand ≡ lines_to keeper.new.issued }
+    ensures issued { OnOk result (keeper.new.issued ≡ max keeper.old.issued line) }
+{
+    while keeper.issued() < line {
+        hold_one(keeper)?;
+    }
+    Ok(())
+}
+
+/// Notes a record that was there before.
+#[tactic(auto, using(crate::proofs::Noted::may_note, crate::proofs::Noted::highest_more))]
+fn note_one<N: GateName>(keeper: &mut Keeper<N>, earlier: RecordData) -> Result<(), OutOfMemory>
+    requires stands { IsResuming keeper.old }
+    requires room { length keeper.old.list + 1 < 2 ^ 64 }
+    ensures list { OnOk result (keeper.new.list ≡ keeper.old.list ++ earlier ∷ []) }
+    ensures stands { OnOk result (IsResuming keeper.new) }
+{
+    hold_up_to(keeper, line_in(&earlier))?;
+    keeper.note(earlier);
+    Ok(())
+}
+
+/// Notes records that were there before, in their order.
+fn note_portion<N: GateName>(keeper: &mut Keeper<N>, records: &[Record]) -> Result<(), OutOfMemory>
+    requires stands { IsResuming keeper.old }
+    requires room { length keeper.old.list + length records.now < 2 ^ 64 }
+    ensures list { OnOk result (keeper.new.list ≡ keeper.old.list ++ records.now) }
+    ensures stands { OnOk result (IsResuming keeper.new) }
+{
+    for earlier in records {
+        note_one(keeper, earlier.content())?;
+    }
+    Ok(())
+}
+
+/// Notes all records of the gate, in their order.
+fn note_all<N: GateName>(keeper: &mut Keeper<N>, gate: &Gate) -> Result<(), OutOfMemory>
+    requires new { keeper.old.list ≡ [] }
+    requires stands { IsResuming keeper.old }
+    ensures list { OnOk result (keeper.new.list ≡ gate.now.records) }
+    ensures stands { OnOk result (IsResuming keeper.new) }
+{
+    let length = gate.length();
+    let mut done = 0;
+    while done < length {
+        let portion = gate.records(done + 1, PORTION)?;
+        note_portion(keeper, portion.as_slice())?;
+        done += PORTION;
+    }
+    Ok(())
+}
+
+/// The keeper of the gate's records, and a pass of a new line, which has met them. The lines of the records stay in the
+/// keeper's hand for good.
+#[tactic(auto, using(crate::proofs::Noted::begins))]
+pub fn resume<N: GateName>(gate: &Gate, blank: Blank) -> Result<(Keeper<N>, Pass<N>), PassFault>
+    requires { blank ≡ N.table }
+    ensures keeper { IfOk result (λ made. made.0.list ≡ gate.now.records) }
+    ensures front { IfOk result (λ made. made.1.front ≡ gate.now.records) }
+    ensures own { IfOk result (λ made. mine made.1 ≡ []) }
+    ensures no_lines { IfErr result (λ e.
+        e ≡ faults.NoLines → highest_line gate.now.records ≡ 65535) }
+{
+    let mut keeper = Keeper::open(blank);
+    let Ok(()) = note_all(&mut keeper, gate) else {
+        return Err(PassFault::OutOfMemory);
+    };
+    let pass = keeper.issue()?;
+    Ok((keeper, pass))
+}
