@@ -5,6 +5,8 @@
 #   examples/bench/load.py crates/gate/out/gate --window 64           64 orders in flight each
 #   examples/bench/load.py crates/gate/out/gate --never-cross         no fills
 #   examples/bench/load.py crates/gate/out/gate --hostile             1,000 idle or bad connections
+#   examples/bench/load.py crates/gate/out/gate --journal             with a journal
+#   examples/bench/load.py crates/gate/out/gate --journal-sync        with one that is forced to the disk
 """Starts a server, lets 64 traders enter orders, and checks each report against the audit.
 
 Each trader's reports are compared with what the audit owes him, one by one and in order, so none
@@ -173,13 +175,17 @@ def select_now(line: socket.socket) -> bool:
 
 
 @contextmanager
-def server(program: str, folder: Path) -> Iterator[int]:
+def server(asked: argparse.Namespace, folder: Path) -> Iterator[int]:
     """A server on a free port, ended by the end of its standard input."""
     (folder / "policy.toml").write_text(policy_text())
     with socket.create_server(("127.0.0.1", 0)) as free:
         port = free.getsockname()[1]
-    words = [program, "serve", "--port", str(port), "--policy", str(folder / "policy.toml"),
+    words = [asked.gate, "serve", "--port", str(port), "--policy", str(folder / "policy.toml"),
              "--audit", str(folder / "audit"), "--connections-at-once", "2000"]
+    if asked.journal or asked.journal_sync:
+        words += ["--journal", str(folder / "journal")]
+    if asked.journal_sync:
+        words.append("--journal-sync")
     with subprocess.Popen(words, stdin=subprocess.PIPE, stderr=subprocess.PIPE) as running:
         try:
             if b"listening" not in running.stderr.readline():
@@ -279,12 +285,15 @@ def main() -> int:
     parser.add_argument("--processes", type=int, default=2, help="processes of traders (2)")
     parser.add_argument("--never-cross", action="store_true", help="orders that never trade")
     parser.add_argument("--hostile", action="store_true", help="beside 1,000 bad connections")
+    parser.add_argument("--journal", action="store_true", help="the server keeps a journal")
+    parser.add_argument("--journal-sync", action="store_true", help="and forces it to the disk")
+    parser.add_argument("--folder", help="where the files of the run are put (a temporary folder)")
     asked = parser.parse_args()
     asked.seconds = min(asked.seconds, 60)
     resource.setrlimit(resource.RLIMIT_NOFILE, (4096, 4096))
-    with tempfile.TemporaryDirectory() as name:
+    with tempfile.TemporaryDirectory(dir=asked.folder) as name:
         folder = Path(name)
-        with server(asked.gate, folder) as port:
+        with server(asked, folder) as port:
             faults, saw = measure(port, asked)
         owed = expected((folder / "audit").read_bytes())
         for trader in saw:
@@ -292,6 +301,10 @@ def main() -> int:
                 faults += 1
                 told, due = len(trader.reports), len(owed[trader.index])
                 print(f"T{trader.index:02d}: told {told} reports, owed {due}, or in another order")
+        journal = folder / "journal"
+        if journal.exists() and journal.read_bytes() != (folder / "audit").read_bytes():
+            faults += 1
+            print("the journal is not the audit")
         files = [str(folder / "audit"), "--policy", str(folder / "policy.toml")]
         faults += subprocess.run([asked.gate, "check", *files], check=False).returncode != 0
     return int(faults > 0)

@@ -1,6 +1,8 @@
 //! Why the program gave up, and how that is told.
 
 use gx_auditing::AuditingFault;
+use gx_journal::JournalFault;
+use gx_pass::PassFault;
 use gx_serve::ServeFault;
 use gx_server::{Device, ProgramFault};
 use gx_session::PipeFault;
@@ -75,6 +77,22 @@ impl<'a> Ended<'a> {
         }
     }
 
+    /// The fault of a journal in this file, and what the system said of it, if it said something.
+    pub(crate) fn of_journal(
+        fault: JournalFault,
+        name: &'a str,
+        said: Option<io::Error>,
+    ) -> Ended<'a> {
+        match fault {
+            JournalFault::OutOfMemory => OutOfMemory.into(),
+            JournalFault::WriteFailed => Ended {
+                fault: PipeFault::WriteFailed.into(),
+                place: Place::File(name),
+                said,
+            },
+        }
+    }
+
     /// The fault of a run over standard input and output, and what the system said of the one that failed.
     pub(crate) fn of_run(
         fault: ProgramFault,
@@ -128,6 +146,15 @@ impl<'a> From<ServeFault> for Ended<'a> {
     }
 }
 
+impl<'a> From<PassFault> for Ended<'a> {
+    fn from(fault: PassFault) -> Ended<'a> {
+        match fault {
+            PassFault::OutOfMemory => OutOfMemory.into(),
+            PassFault::NoLines => ProgramFault::NoLines.into(),
+        }
+    }
+}
+
 /// Puts on standard error what more there is to tell of the fault: of a policy file or of a script, where it stands; of a
 /// file or a device, what the system said.
 fn tell_more(rt: &HostRuntime, ended: &Ended) {
@@ -141,7 +168,12 @@ fn tell_more(rt: &HostRuntime, ended: &Ended) {
                 let _ = eprintln!(rt; "{wrong}");
             }
         }
-        ProgramFault::Unread | ProgramFault::ListenFailed | ProgramFault::Pipe(_) => {}
+        ProgramFault::Unread
+        | ProgramFault::ListenFailed
+        | ProgramFault::Pipe(_)
+        | ProgramFault::Journal(_)
+        | ProgramFault::JournalInUse
+        | ProgramFault::NoLines => {}
     }
     if let Some(error) = ended.said {
         let place = ended.place;

@@ -2,20 +2,25 @@
 #![tactic(auto)]
 
 mod ending;
+mod keeping;
 
 use clap::Error;
 use clap::error::ErrorKind as UsageFault;
 use ending::{Ended, Place, tell};
 use gx_auditing::{AuditAnswer, Choice, more_of_audit, show_audit, told_of_audit, write_audit};
-use gx_command_line::{Asked, AuditFiles, LONGEST_WORD, RunFiles, Serving, Wanted, first_bad_word};
+use gx_command_line::{
+    Asked, AuditFiles, JournalFile, LONGEST_WORD, RunFiles, Serving, Wanted, first_bad_word,
+};
 use gx_core::Gate;
 use gx_devices::Counted;
 use gx_history::policy::Policy;
+use gx_journal::{Kept, serve_journaled};
 use gx_scripting::run_script;
 use gx_serve::{Lobby, ServeFault, Served, serve};
 use gx_server::{Noted, migrated_policy, open_gate, policy_for, told_of_policy};
 use gx_session::run_pipe;
 use gx_units::OutOfMemory;
+use keeping::{Day, JournalDevice, take_up, tell_cut};
 use std::alloc::Global;
 use std::fs::File;
 use std::io::{ErrorKind, Read, Write};
@@ -189,13 +194,12 @@ fn end_with_input<R: Threads>(
     }
 }
 
-/// Serves connections, until as many as were asked for have ended, or standard input has.
-fn serve_on<'a, R>(
+/// Listens for connections: the listener, and the lobby of the server, which ends as was asked for.
+fn open_lobby<'a, R>(
     rt: &R,
     host: &HostRuntime,
-    policy: &Policy,
     serving: &Serving<'a>,
-) -> Result<Served, Ended<'a>>
+) -> Result<(TcpListener, Arc<Lobby, Global>), Ended<'a>>
 where
     R: Net<Listener = TcpListener, Stream = TcpStream> + Threads + Wait + Clock + Eprint + Sync,
 {
@@ -206,6 +210,20 @@ where
     if serving.connections.is_none() {
         end_with_input(rt, *host, &lobby)?;
     }
+    Ok((listener, lobby))
+}
+
+/// Serves connections, until as many as were asked for have ended, or standard input has.
+fn serve_on<'a, R>(
+    rt: &R,
+    host: &HostRuntime,
+    policy: &Policy,
+    serving: &Serving<'a>,
+) -> Result<Served, Ended<'a>>
+where
+    R: Net<Listener = TcpListener, Stream = TcpStream> + Threads + Wait + Clock + Eprint + Sync,
+{
+    let (listener, lobby) = open_lobby(rt, host, serving)?;
     let connections = connections_of(serving);
     Ok(serve(rt, host.alloc(), policy, &lobby, listener, connections)?)
 }
@@ -227,13 +245,79 @@ where
     kept
 }
 
+/// Serves connections of a day that goes on, and keeps its records.
+fn go_on<'a, R>(
+    rt: &R,
+    host: &HostRuntime,
+    serving: &Serving<'a>,
+    day: Day,
+) -> Result<Kept<Noted<JournalDevice>>, Ended<'a>>
+where
+    R: Net<Listener = TcpListener, Stream = TcpStream> + Threads + Wait + Clock + Eprint + Sync,
+{
+    let Day { gate, cut, device } = day;
+    match open_lobby(rt, host, serving) {
+        Ok((listener, lobby)) => {
+            let count = gate.length();
+            tell_cut(host, count, cut);
+            let connections = connections_of(serving);
+            let alloc = host.alloc();
+            let kept = serve_journaled(
+                rt,
+                alloc,
+                gate,
+                count,
+                device,
+                &lobby,
+                listener,
+                connections,
+            );
+            Ok(kept?)
+        }
+        Err(ended) => {
+            gate.close();
+            Err(ended)
+        }
+    }
+}
+
+/// Serves connections of the day that a journal holds, keeps its records, and writes the audit.
+fn serve_kept<'a, R>(
+    rt: &R,
+    host: &HostRuntime,
+    policy: &Policy,
+    serving: &Serving<'a>,
+    journal: JournalFile<'a>,
+) -> Result<(), Ended<'a>>
+where
+    R: Net<Listener = TcpListener, Stream = TcpStream> + Threads + Wait + Clock + Eprint + Sync,
+{
+    let day = take_up(host, policy, journal)?;
+    let Kept {
+        gate,
+        ended,
+        fault,
+        device,
+    } = go_on(rt, host, serving, day)?;
+    let audited = keep_audit(host, &gate, serving.files.audit);
+    gate.close();
+    if let Some(fault) = fault {
+        return Err(Ended::of_journal(fault, journal.path, device.cause));
+    }
+    ended?;
+    audited
+}
+
 /// Serves connections, and writes the audit.
 fn serve_port<'a, R>(rt: &R, host: &HostRuntime, serving: Serving<'a>) -> Result<(), Ended<'a>>
 where
     R: Net<Listener = TcpListener, Stream = TcpStream> + Threads + Wait + Clock + Eprint + Sync,
 {
     let policy = policy_of(host, serving.files.policy)?;
-    serve_under(rt, host, &policy, &serving)
+    match serving.journal {
+        Some(journal) => serve_kept(rt, host, &policy, &serving, journal),
+        None => serve_under(rt, host, &policy, &serving),
+    }
 }
 
 /// Puts behind an answer what more there is to tell of it; nothing where there is no memory for it. The first line on

@@ -3,7 +3,7 @@
 
 mod words;
 
-use clap::{Arg, ArgMatches, Command, Error, value_parser};
+use clap::{Arg, ArgAction, ArgMatches, Command, Error, value_parser};
 use std::alloc::{AllocError, Global};
 pub use words::{BadWord, LONGEST_WORD, first_bad_word};
 
@@ -75,6 +75,17 @@ pub struct Serving<'a> {
     pub connections: Option<u16>,
     /// How many connections to serve at once.
     pub at_once: u16,
+    /// The journal of the day, if one is kept.
+    pub journal: Option<JournalFile<'a>>,
+}
+
+/// Where a server keeps the journal of its day, and what that outlives.
+#[derive(Clone, Copy, Debug, PartialEq, Eq)]
+pub struct JournalFile<'a> {
+    /// The journal.
+    pub path: &'a str,
+    /// Whether it is forced to the disk, so that it outlives the machine too.
+    pub is_synced: bool,
 }
 
 /// Which records of an audit are wanted.
@@ -169,6 +180,26 @@ fn at_once_option<'a>(alloc: Global) -> Arg<'a> {
         .help("How many connections to serve at once; further ones wait")
 }
 
+/// The option `--journal FILE`.
+fn journal_option<'a>(alloc: Global) -> Arg<'a> {
+    Arg::new(alloc, "journal")
+        .long("journal")
+        .value_name("FILE")
+        .help(
+            "Where to keep the day: each record is written before anything that comes of it is sent; \
+             a day that is there goes on",
+        )
+}
+
+/// The option `--journal-sync`.
+fn journal_sync_option<'a>(alloc: Global) -> Result<Arg<'a>, AllocError> {
+    Arg::new(alloc, "journal-sync")
+        .long("journal-sync")
+        .action(ArgAction::SetTrue)
+        .help("Force the journal to the disk too, before anything is sent")
+        .requires_arg("journal")
+}
+
 /// `gate serve`.
 fn serve_command<'a>(alloc: Global) -> Result<Command<'a>, AllocError> {
     let port = Arg::new(alloc, "port")
@@ -182,6 +213,8 @@ fn serve_command<'a>(alloc: Global) -> Result<Command<'a>, AllocError> {
     );
     let serve = serve.arg(port)?.arg(connections_option(alloc))?;
     let serve = serve.arg(at_once_option(alloc))?;
+    let serve = serve.arg(journal_option(alloc))?;
+    let serve = serve.arg(journal_sync_option(alloc)?)?;
     Ok(
         serve
             .arg(run_policy_option(alloc))?
@@ -294,6 +327,15 @@ fn server_options<'a>(given: &ArgMatches<'a>) -> Option<Serving<'a>> {
         port: given.get_one::<u16>("port")?,
         connections: given.get_one::<u16>("connections"),
         at_once: given.get_one::<u16>("at-once")?,
+        journal: journal_file(given),
+    })
+}
+
+/// Where the journal is kept, if one is wanted.
+fn journal_file<'a>(given: &ArgMatches<'a>) -> Option<JournalFile<'a>> {
+    Some(JournalFile {
+        path: given.get_str("journal")?,
+        is_synced: given.get_flag("journal-sync"),
     })
 }
 

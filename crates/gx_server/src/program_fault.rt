@@ -1,14 +1,15 @@
 //! Why the program gave up, and how that is told.
 
-ghost use Rattle.std.specs.Prelude.{◌≡◌, ◌≢◌, ◌+◌, ◌≤◌, ◌++◌, length, if◌then◌else◌};
+ghost use Rattle.std.specs.Prelude.{◌≡◌, ◌≢◌, ◌+◌, ◌≤◌, ◌++◌, length, decimal, if◌then◌else◌};
 ghost use Rattle.arrayvec.specs.ArrayVec.{array_vec_len};
 ghost use Rattle.gx_policyfile.specs.Field.{is_memory};
 ghost use Rattle.gx_server.specs.declared.program_fault.ProgramFault.TheVariants as faults;
 ghost use Rattle.gx_session.specs.Faults.{fault_words};
 ghost use Rattle.gx_server.specs.Telling.{out_of_memory, script_words, policy_words, gate_line, fault_line, script_status, status_of};
-ghost use Rattle.gx_server.specs.Telling.{script_device, device_of};
+ghost use Rattle.gx_server.specs.Telling.{journal_fault, journal_status, journal_words, script_device, device_of};
 
 use arrayvec::ArrayVec;
+use gx_audit::AuditFault;
 use gx_policyfile::{FaultKind, PolicyFault};
 use gx_scripting::{Explained, ScriptFault};
 use gx_session::PipeFault;
@@ -41,6 +42,12 @@ pub enum ProgramFault {
     Policy(PolicyFault),
     /// The port can't be listened on, or no connection to it could be accepted.
     ListenFailed,
+    /// What the journal's file holds is no journal of a day under the policy.
+    Journal(AuditFault),
+    /// Another program keeps a journal in the file.
+    JournalInUse,
+    /// The journal's day has no line left for a connection.
+    NoLines,
 }
 
 impl From<PipeFault> for ProgramFault {
@@ -79,6 +86,17 @@ impl From<PolicyFault> for ProgramFault {
     }
 }
 
+impl From<AuditFault> for ProgramFault {
+    ghost from_gives = { λ fault e. e ≡ journal_fault fault };
+
+    fn from(fault: AuditFault) -> ProgramFault {
+        match fault {
+            AuditFault::OutOfMemory => ProgramFault::Pipe(PipeFault::OutOfMemory),
+            fault => ProgramFault::Journal(fault),
+        }
+    }
+}
+
 impl ProgramFault {
     /// Why a policy file can't be read, where the system answers with an error of this kind.
     pub fn unread(kind: ErrorKind) -> ProgramFault
@@ -91,12 +109,14 @@ impl ProgramFault {
         }
     }
 
-    /// The exit status: 3 for a fault of the policy file, 4 for a bad line of a script, else 1.
+    /// The exit status: 3 for a fault of the policy file, 4 for a bad line of a script or for what is no journal, else 1.
     pub fn status(&self) -> u8
         ensures { result ≡ status_of self.now }
     {
         match self {
             ProgramFault::Pipe(_) | ProgramFault::Unread | ProgramFault::ListenFailed => 1,
+            ProgramFault::JournalInUse | ProgramFault::NoLines => 1,
+            ProgramFault::Journal(fault) => journal_status(*fault),
             ProgramFault::Script(explained) => script_status(explained.fault),
             ProgramFault::Policy(fault) => { if fault.kind.is_memory() { 1 } else { 3 } }
         }
@@ -124,6 +144,9 @@ impl ProgramFault {
             ProgramFault::Unread => line_of(b"read failed"),
             ProgramFault::Policy(fault) => policy_line(fault.kind),
             ProgramFault::ListenFailed => line_of(b"listen failed"),
+            ProgramFault::Journal(fault) => journal_line(*fault),
+            ProgramFault::JournalInUse => line_of(b"journal in use"),
+            ProgramFault::NoLines => line_of(b"no lines left"),
         }
     }
 }
@@ -181,6 +204,37 @@ fn policy_line(kind: FaultKind) -> FaultLine
         return line_of(b"out of memory");
     }
     line_around(b"policy fault", b" ", kind.words().as_bytes())
+}
+
+/// The status of what is no journal.
+fn journal_status(fault: AuditFault) -> u8
+    ensures { result ≡ journal_status fault }
+{
+    match fault {
+        AuditFault::OutOfMemory => 1,
+        _ => 4,
+    }
+}
+
+fn journal_line(fault: AuditFault) -> FaultLine
+    ensures { result.items ≡ gate_line (journal_words fault) }
+{
+    match fault {
+        AuditFault::Truncated => line_of(b"journal truncated"),
+        AuditFault::BadRecord(number) => numbered_line(b"journal bad record ", number),
+        AuditFault::IllegalVerdict(number) => numbered_line(b"journal illegal verdict ", number),
+        AuditFault::OutOfMemory => line_of(b"out of memory"),
+        AuditFault::OtherPolicy => line_of(b"journal other policy"),
+    }
+}
+
+/// A line of words and a number.
+fn numbered_line(words: &[u8], number: u64) -> FaultLine
+    requires { length words.now ≤ 37 }
+    ensures { result.items ≡ gate_line (words.now ++ decimal number) }
+{
+    let mut digits = Buffer::new();
+    line_around(words, digits.format(number).as_bytes(), b"")
 }
 
 /// A line of these words.

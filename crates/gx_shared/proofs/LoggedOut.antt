@@ -1,12 +1,10 @@
 -- A user who is logged in on a line is logged out there.
-use Rattle.std.proofs.Common.{◌≡◌, ◌≢◌, ℕ, ◌+◌, ◌<◌, ◌≤◌, ◌==◌, Bool, true, false, List, [], ◌∷◌, ◌++◌, length, take, get_or, map, Option, Some, None, Result, Ok, Err, IfOk, is_ok, refl, sym, ap, ◌∙◌, subst, append_assoc, append-nil, eq-eqb, arith}
-use Rattle.std.specs.Prelude.{not, ◌&&◌, ◌||◌, IsTrue, IsOk, OnErr}
+use Rattle.std.proofs.Common.{◌≡◌, ℕ, ◌+◌, ◌<◌, Bool, true, false, List, [], ◌∷◌, ◌++◌, length, take, get_or, map, Option, Some, None, Result, Ok, Err, IfOk, is_ok, refl, sym, ap, ◌∙◌, subst, append_assoc, eq-eqb}
+use Rattle.std.specs.Prelude.{not, ◌&&◌, ◌||◌}
 use Rattle.std.specs.List.{list_any, AllByRecursion}
 use Rattle.std.specs.Option.{option_map_or}
-use Rattle.std.proofs.lemmas.List.{take_all, take_more}
+use Rattle.std.proofs.lemmas.List.{take_more}
 use Rattle.std.proofs.lemmas.List.Folds.{list_any-append}
-use Rattle.std.proofs.lemmas.Option.{none-some}
-use Rattle.gx_units.specs.Names.{same_user}
 use Rattle.gx_units.specs.Spelling.{folded_user}
 use Rattle.gx_units.specs.declared.names.UserName.{UserName}
 use Rattle.gx_history.specs.declared.facts.Facts.{Facts}
@@ -16,10 +14,7 @@ use Rattle.gx_history.specs.declared.policy.PolicyData.{PolicyData}
 use Rattle.gx_history.specs.declared.policy.User.{User}
 use Rattle.gx_history.specs.declared.record.Asked.{Asked}
 use Rattle.gx_history.specs.declared.record.RecordData.{RecordData}
-use Rattle.gx_history.specs.declared.record.Request.{Request}
 use Rattle.gx_history.specs.declared.record.Request.TheVariants as requests
-use Rattle.gx_history.specs.declared.record.Step.TheVariants as steps
-use Rattle.gx_history.specs.declared.record.Verdict.{Verdict}
 use Rattle.gx_history.specs.declared.record.Verdict.TheVariants as verdicts
 use Rattle.gx_history.specs.Asking.{facts, is_on_line}
 use Rattle.gx_history.specs.Effects.{ChangesLine}
@@ -28,7 +23,6 @@ use Rattle.gx_history.specs.People.{covers}
 use Rattle.gx_history.specs.RuleNames.{rules_before, rules_behind}
 use Rattle.gx_history.specs.Rules.{Rule, BuiltIn, OfFile, applies, written_order}
 use Rattle.gx_history.specs.Verdicts.{facts_now, rules_now, verdict}
-use Rattle.gx_history_laws.proofs.Adding.{user_is}
 use Rattle.gx_history_laws.proofs.Granting.{granted_where_none}
 use Rattle.gx_history_laws.proofs.Pushing.{all_next}
 use Rattle.gx_effects.proofs.Lines.{logout_takes_effect}
@@ -38,7 +32,7 @@ use Rattle.gx_core.specs.declared.outcome.StepFault.{StepFault}
 use Rattle.gx_core.specs.Gates.{GateData, left_by}
 use Rattle.gx_core.specs.Steps.{has_its_places, next_of, verdict_of, with_record}
 use Rattle.gx_shared.specs.Acts.{asked_on}
-use Rattle.gx_shared.specs.Logouts.{AddsLogouts, IsGrantedLogout, IsOff, NobodyIsOn}
+use Rattle.gx_shared.specs.Logouts.{AddsLogouts, IsGrantedLogout, IsOff}
 
 -- No rule forbids the Logout of a user who is on his line.
 
@@ -116,31 +110,7 @@ pub leaves_line : (old new : GateData) (line : ℕ) (user : UserName) (moment : 
     → IfOk r (λ o. o.verdict ≡ verdict_of old asked) → IfOk r (λ o. new.records ≡ with_record old asked o) → ChangesLine old.policy old.records new.records (folded_user user) None
 leaves_line old new line user moment asked r on is sure next given grown = (logs_out old new line user moment asked r on is sure next given grown).left
 
--- Who is off.
-
--- on no line
-pub off_nowhere : (records : List RecordData) (user : UserName) → line_of records user ≡ None → IsOff records user
-off_nowhere records user none line some is = none-some line (sym none ∙ is)
-
--- on a line that there is not
-pub off_zero : (records : List RecordData) (user : UserName) (on : ℕ) → line_of records user ≡ Some on → on ≡ 0 → IsOff records user
-off_zero records user on at zero line some is =
-    let same : Some on ≡ Some line = sym at ∙ is in
-    let both : on ≡ line = cc in
-    absurd (omega (arith, both, zero, some))
-
--- whoever was off is off behind another's Logout
-pub others_off : (policy : PolicyData) (before after : List RecordData) (user other : UserName) → ChangesLine policy before after user None → IsOff before other → IsOff after other
-others_off policy before after user other left off = by (same_user user other) refl
-  where
-    by : (b : Bool) → same_user user other ≡ b → IsOff after other
-    by true same = off_nowhere after other (ap (line_of after) (sym (user_is user other same)) ∙ left.line_now)
-    by false apart = λ line some is. off line some (sym (left.lines_kept other apart) ∙ is)
-
 -- What was added.
-
-pub adds_nothing : (records : List RecordData) → AddsLogouts records records
-adds_nothing records = record { added = []; logouts = tt; grown = sym (append-nil records) }
 
 all_joined : {X : Type 0} (P : X → Type 0) (xs ys : List X) → AllByRecursion P xs → AllByRecursion P ys → AllByRecursion P (xs ++ ys)
 all_joined P [] ys h k = k
@@ -167,7 +137,3 @@ pub one_more_off : (before after : List RecordData) (users : List User) (i : ℕ
 one_more_off before after users i u d within is so_far keep off =
     subst (AllByRecursion (Off after)) (sym (take_more users i d within ∙ ap (λ (x : User). take i users ++ x ∷ []) (sym is)))
     (all_next (Off after) (take i users) u (still (Off before) (Off after) (take i users) (λ x h. keep (folded_user x.name) h) so_far) off)
-
-pub nobody_on : (old new : GateData) (i : ℕ) → new.policy ≡ old.policy → length old.policy.users ≤ i → AllByRecursion (Off new.records) (take i old.policy.users) → NobodyIsOn new
-nobody_on old new i same past so_far =
-    subst (λ (p : PolicyData). AllByRecursion (Off new.records) p.users) (sym same) (subst (AllByRecursion (Off new.records)) (take_all i old.policy.users past) so_far)

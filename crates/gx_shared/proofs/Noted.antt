@@ -1,6 +1,5 @@
 -- The lines of records that were there before, in the keeper's hand.
-use Rattle.std.proofs.Common.{◌≡◌, ◌≢◌, ℕ, zero, suc, ◌+◌, ◌<◌, ◌≤◌, max, pred, List, [], ◌∷◌, ◌++◌, length, take, drop, get_or, refl, sym, ap, ◌∙◌, subst, inl, inr, append_assoc, length-append, length-take, arith}
-use Rattle.std.proofs.lemmas.List.{take_all, take_more}
+use Rattle.std.proofs.Common.{◌≡◌, ◌≢◌, ℕ, zero, suc, ◌+◌, ◌<◌, ◌≤◌, max, pred, List, [], ◌∷◌, ◌++◌, take, drop, refl, sym, ap, ◌∙◌, subst, inl, inr, arith}
 use Rattle.std.proofs.Math.Seq.{take-add}
 use mathlib.Core.Logic.{dite}
 use native.Mathlib.Decide.{ℕ_discrete}
@@ -43,31 +42,6 @@ pub highest_more : (records : List RecordData) (r : RecordData) → highest_line
 highest_more [] r = omega arith
 highest_more (first ∷ records) r = ap (λ (n : ℕ). max (line_in first) n) (highest_more records r) ∙ omega arith
 
--- the keeper behind one more record
-pub stands_on : (was held now : Keeps) (r : RecordData) (line : ℕ) → IsResuming was → line ≡ line_in r → held.list ≡ was.list → held.hand ≡ lines_to held.issued → held.issued ≡ max was.issued line
-    → now ≡ keeps (held.list ++ r ∷ []) held.hand held.issued → IsResuming now
-stands_on was held now r line stood line_is same hand issued noted =
-    subst IsResuming (sym noted)
-    (record {
-      issued =
-          issued ∙ ap (λ (n : ℕ). max n line) stood.issued ∙ ap (λ (n : ℕ). max (highest_line was.list) n) line_is ∙ sym (highest_more was.list r)
-          ∙ ap (λ (records : List RecordData). highest_line (records ++ r ∷ [])) (sym same);
-      hand = hand;
-    })
-
--- one more record of the portion is noted
-pub noted_on : (before now later records : List RecordData) (i : ℕ) (r d : RecordData) → i < length records → r ≡ get_or records i d → now ≡ before ++ take i records
-    → later ≡ now ++ r ∷ [] → later ≡ before ++ take (i + 1) records
-noted_on before now later records i r d within is so_far more =
-    more ∙ ap (λ (rs : List RecordData). rs ++ r ∷ []) so_far ∙ append_assoc before (take i records) (r ∷ [])
-    ∙ ap (λ (rs : List RecordData). before ++ rs) (ap (λ (x : RecordData). take i records ++ x ∷ []) is ∙ sym (take_more records i d within))
-
--- there is room for it
-pub room_left : (before now records : List RecordData) (i most : ℕ) → i < length records → now ≡ before ++ take i records → length before + length records < most → length now + 1 < most
-room_left before now records i most within so_far room =
-    let size : length now ≡ length before + length (take i records) = ap length so_far ∙ length-append before (take i records) in
-    omega (arith, size, length-take i records, within, room)
-
 before_next : (done : ℕ) → pred (max 1 (done + 1)) ≡ done
 before_next done = grind arith
 
@@ -76,15 +50,3 @@ pub portion_noted : (records now portion later : List RecordData) (done most : �
     → later ≡ take (done + most) records
 portion_noted records now portion later done most so_far is more =
     more ∙ (λ i. so_far i ++ (is ∙ ap (λ (n : ℕ). take most (drop n records)) (before_next done)) i) ∙ sym (take-add done most records)
-
--- there is room for a portion
-pub portion_room : (records now portion : List RecordData) (done most : ℕ) → now ≡ take done records → portion ≡ slice records (done + 1) most
-    → length now + length portion ≤ done + most
-portion_room records now portion done most so_far is =
-    let size : length now ≡ length (take done records) = ap length so_far in
-    let part : length portion ≡ length (slice records (done + 1) most) = ap length is in
-    omega (arith, size, part, length-take done records, length-take most (drop (pred (max 1 (done + 1))) records))
-
--- all are noted
-pub all_noted : (records now : List RecordData) (done : ℕ) → length records ≤ done → now ≡ take done records → now ≡ records
-all_noted records now done past so_far = so_far ∙ take_all done records past

@@ -1,5 +1,5 @@
 -- What a step that was refused is not, and when it is told that the day is full.
-use Rattle.std.proofs.Common.{◌≡◌, Bool, true, false, Result, Ok, Err, IfErr, OnErr, is_ok, refl, sym, ◌∙◌, ap, subst}
+use Rattle.std.proofs.Common.{◌≡◌, Bool, true, false, Result, Ok, Err, IfErr, OnErr, is_ok, refl, ap, subst}
 use Rattle.gx_history.specs.declared.policy.PolicyData.{PolicyData}
 use Rattle.gx_history.specs.declared.record.Asked.{Asked}
 use Rattle.gx_core.specs.declared.outcome.StepFault.{StepFault}

@@ -3,6 +3,7 @@
 ghost use Rattle.std.specs.Prelude.{IsTrue};
 ghost use Rattle.gx_history.specs.Showing.{has_its_first};
 
+use gx_audit::AuditFault;
 use gx_core::{LoginAnswer, Outcome, StepFault};
 use gx_desk::{Action, Command, Tag};
 use gx_history::record::{Request, Verdict};
@@ -61,6 +62,7 @@ pub(crate) enum Ended {
     Step(StepFault),
     Pull(PullFault),
     Serve(ServeFault),
+    Journal(AuditFault),
     Socket,
 }
 
@@ -72,6 +74,7 @@ impl fmt::Display for Ended {
             Ended::Step(fault) => write!(f, "refused: {fault}"),
             Ended::Pull(fault) => write!(f, "not pulled: {fault}"),
             Ended::Serve(fault) => write!(f, "not served: {fault}"),
+            Ended::Journal(fault) => write!(f, "no journal: {fault}"),
             Ended::Socket => f.write_str("a socket failed"),
         }
     }

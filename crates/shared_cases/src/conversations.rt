@@ -25,7 +25,7 @@ use std::time::Clock;
 const START: u64 = 0;
 
 /// What both were sent, ALICE first.
-type Texts = (Vec<u8>, Vec<u8>);
+pub(crate) type Texts = (Vec<u8>, Vec<u8>);
 
 /// Serves one of the two, and gives what he was sent.
 fn attend<'x, T: Drop + Send, D: Door<Ticket = T> + Sync, R: Threads + Wait + Clock + Sync>(
@@ -55,7 +55,12 @@ fn attend<'x, T: Drop + Send, D: Door<Ticket = T> + Sync, R: Threads + Wait + Cl
 }
 
 /// Serves both, beside a matcher. Gives the matcher's pass and what they were sent; None where no thread could be made.
-fn attend_both<'x, T: Drop + Send, D: Door<Ticket = T> + Sync, R: Threads + Wait + Clock + Sync>(
+pub(crate) fn attend_both<
+    'x,
+    T: Drop + Send,
+    D: Door<Ticket = T> + Sync,
+    R: Threads + Wait + Clock + Sync,
+>(
     rt: &'x R,
     alloc: Global,
     door: &'x D,

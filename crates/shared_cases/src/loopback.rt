@@ -27,7 +27,7 @@ const DRIPPED: usize = 20;
 type Texts = (Vec<u8>, Vec<u8>);
 
 /// Listens on a port that the system chooses.
-fn listen<R: Net<Listener = TcpListener, Stream = TcpStream>>(
+pub(crate) fn listen<R: Net<Listener = TcpListener, Stream = TcpStream>>(
     rt: &R,
 ) -> io::Result<(TcpListener, SocketAddr)> {
     let any = SocketAddr::from((Ipv4Addr::LOCALHOST, 0));
@@ -36,7 +36,7 @@ fn listen<R: Net<Listener = TcpListener, Stream = TcpStream>>(
     Ok((listener, address))
 }
 
-fn connect<R: Net<Listener = TcpListener, Stream = TcpStream>>(
+pub(crate) fn connect<R: Net<Listener = TcpListener, Stream = TcpStream>>(
     rt: &R,
     address: SocketAddr,
 ) -> io::Result<TcpStream> {
@@ -56,7 +56,7 @@ fn drip(stream: &TcpStream, text: &[u8]) -> io::Result<()> {
 }
 
 /// Reads until so many reports have come, or the end.
-fn hear(stream: &TcpStream, reports: u64, text: &mut Vec<u8>) -> io::Result<()> {
+pub(crate) fn hear(stream: &TcpStream, reports: u64, text: &mut Vec<u8>) -> io::Result<()> {
     let mut reader = stream;
     let mut room = [0u8; 256];
     for _ in 0..READS {

@@ -7,20 +7,24 @@ mod conversations;
 mod counting;
 mod devices;
 mod holding;
+mod keeping;
 mod lengths;
 mod lines;
 mod loopback;
 mod packets;
 mod plays;
 mod races;
+mod restarts;
 mod still;
 
-use asking::Ended;
+use asking::{Ended, put};
 use conversations::run_play;
+use gx_audit::RECORD_SIZE;
 use gx_history::policy::Policy;
 use gx_pass::Blank;
 use gx_policyfile::sample;
 use gx_units::OutOfMemory;
+use keeping::{Paper, run_kept};
 use plays::Play;
 use std::alloc::Global;
 use std::io;
@@ -70,6 +74,43 @@ fn run_plays<R: Threads + Wait + Clock + Sync>(
     Ok(())
 }
 
+/// A play on a gate of its own whose records are kept on a device.
+fn play_kept<R: Threads + Wait + Clock + Sync>(
+    rt: &R,
+    alloc: Global,
+    policy: &Policy,
+    play: Play,
+    paper: Paper,
+    out: &mut String,
+) -> Result<(), Ended> {
+    run_kept::<Brand, R>(rt, alloc, policy, Blank::new(alloc)?, play, paper, out)
+}
+
+/// The plays whose records are kept, on a date that stands still.
+fn run_kept_plays<R: Threads + Wait + Clock + Sync>(
+    rt: &R,
+    alloc: Global,
+    policy: &Policy,
+    out: &mut String,
+) -> Result<(), Ended> {
+    let still = Still::new(rt);
+    put(
+        out,
+        "Three hundred orders, kept on a device that takes 100 bytes at a call:\n",
+    )?;
+    let paper = Paper::new(alloc, 100, usize::MAX);
+    play_kept(&still, alloc, policy, Play::Exchange, paper, out)?;
+    put(
+        out,
+        "The same, on a device that fails in the middle of record 201:\n",
+    )?;
+    let paper = Paper::new(alloc, usize::MAX, 200 * RECORD_SIZE + 50);
+    play_kept(&still, alloc, policy, Play::Exchange, paper, out)?;
+    put(out, "Two orders, on a device that takes nothing:\n")?;
+    let paper = Paper::new(alloc, usize::MAX, 0);
+    play_kept(&still, alloc, policy, Play::Farewell, paper, out)
+}
+
 /// All runs, each on a gate of its own.
 fn run_all<R>(rt: &R, alloc: Global, policy: &Policy, out: &mut String) -> Result<(), Ended>
 where
@@ -79,7 +120,9 @@ where
     lines::run_lines::<Brand, R>(rt, alloc, policy, Blank::new(alloc)?, out)?;
     races::run_races::<Brand, R>(rt, alloc, policy, Blank::new(alloc)?, out)?;
     run_plays(rt, alloc, policy, out)?;
-    loopback::run_loopback(rt, alloc, policy, out)
+    loopback::run_loopback(rt, alloc, policy, out)?;
+    run_kept_plays(rt, alloc, policy, out)?;
+    restarts::run_restart(rt, alloc, policy, out)
 }
 
 /// All runs under the sample policy.

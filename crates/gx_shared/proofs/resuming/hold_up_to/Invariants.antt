@@ -1,4 +1,4 @@
-use Rattle.std.proofs.Common.{◌≡◌, ◌-◌, ◌≤◌, max}
+use Rattle.std.proofs.Common.{◌≡◌, ◌-◌, max}
 use Rattle.gx_shared.specs.Lines.{lines_to}
 use Rattle.gx_shared.proofs.resuming.hold_up_to.Given as goal
 

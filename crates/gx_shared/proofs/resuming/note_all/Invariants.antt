@@ -1,4 +1,4 @@
-use Rattle.std.proofs.Common.{◌≡◌, ◌-◌, length, take}
+use Rattle.std.proofs.Common.{◌≡◌, ◌-◌, take}
 use Rattle.gx_shared.specs.Lines.{IsResuming}
 use Rattle.gx_shared.proofs.resuming.note_all.Given as goal
 

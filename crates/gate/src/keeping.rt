@@ -1,0 +1,131 @@
+//! The journal of a server's day, as a file.
+
+ghost use Rattle.std.specs.Prelude.{◌-◌, ◌^◌, ◌<◌};
+
+use crate::ending::{Ended, Place};
+use gx_audit::write_header;
+use gx_command_line::JournalFile;
+use gx_core::Gate;
+use gx_devices::{Counted, write_whole};
+use gx_history::policy::Policy;
+use gx_journal::{Resumed, resume};
+use gx_server::{Noted, ProgramFault};
+use std::fs::{File, OpenOptions, TryLockError};
+use std::io::Write;
+use std::{fs, io};
+
+/// The file of a journal. A flush forces it to the disk, where that was asked for.
+#[derive(Drop)]
+pub(crate) struct JournalDevice {
+    file: File,
+    is_synced: bool,
+}
+
+impl Write for JournalDevice {
+    fn write(&mut self, buf: &[u8]) -> io::Result<usize> {
+        self.file.write(buf)
+    }
+
+    fn flush(&mut self) -> io::Result<()> {
+        if self.is_synced {
+            self.file.sync_data()
+        } else {
+            Ok(())
+        }
+    }
+}
+
+/// A day that goes on. Its gate is closed, and never dropped.
+pub(crate) struct Day {
+    /// The gate of the records in the journal.
+    pub(crate) gate: Gate,
+    /// How many bytes of another one, which was cut off, stood behind them.
+    pub(crate) cut: u64,
+    /// The journal, behind its last whole record.
+    pub(crate) device: Noted<JournalDevice>,
+}
+
+/// Opens the file of a journal, for this program alone.
+fn open_file<'a>(rt: &HostRuntime, path: &'a str) -> Result<File, Ended<'a>> {
+    let mut options = OpenOptions::new();
+    options.read(true).append(true).create(true);
+    let file = match options.open(rt, path) {
+        Ok(file) => file,
+        Err(error) => return Err(Ended::unwritten(Place::File(path), error)),
+    };
+    match file.try_lock() {
+        Ok(()) => Ok(file),
+        Err(TryLockError::WouldBlock) => Err(ProgramFault::JournalInUse.into()),
+        Err(TryLockError::Error(error)) => Err(Ended::unwritten(Place::File(path), error)),
+    }
+}
+
+/// The day that the file holds, and how many bytes it has.
+fn read_day<'a>(
+    rt: &HostRuntime,
+    policy: &Policy,
+    path: &'a str,
+) -> Result<(Resumed, u64), Ended<'a>> {
+    let bytes = match fs::read(rt, path) {
+        Ok(bytes) => bytes,
+        Err(error) => return Err(Ended::unread(path, error)),
+    };
+    match resume(rt.alloc(), policy, bytes.as_slice()) {
+        Ok(resumed) => Ok((resumed, bytes.len() as u64)),
+        Err(fault) => Err(ProgramFault::from(fault).into()),
+    }
+}
+
+/// Cuts off what does not stand, and writes the header where no day was begun.
+fn prepare<'a>(
+    policy: &Policy,
+    path: &'a str,
+    kept: u64,
+    device: &mut Counted<Noted<JournalDevice>>,
+) -> Result<(), Ended<'a>>
+    requires { device.old.failed < 2 ^ 64 - 1 }
+{
+    if let Err(error) = device.device().device.file.set_len(kept) {
+        return Err(Ended::unwritten(Place::File(path), error));
+    }
+    if kept > 0 {
+        return Ok(());
+    }
+    match write_whole(device, &write_header(policy)) {
+        Ok(()) => Ok(()),
+        Err(failed) => Err(Ended::of_journal(failed.into(), path, device.device().cause)),
+    }
+}
+
+/// The day of the journal in the file, which is this program's from now on.
+pub(crate) fn take_up<'a>(
+    rt: &HostRuntime,
+    policy: &Policy,
+    journal: JournalFile<'a>,
+) -> Result<Day, Ended<'a>> {
+    let file = open_file(rt, journal.path)?;
+    let (resumed, length) = read_day(rt, policy, journal.path)?;
+    let Resumed { gate, kept } = resumed;
+    let mut device = Counted::new(Noted::new(JournalDevice {
+        file,
+        is_synced: journal.is_synced,
+    }));
+    match prepare(policy, journal.path, kept, &mut device) {
+        Ok(()) => Ok(Day {
+            cut: length.saturating_sub(kept),
+            gate,
+            device: device.into_inner(),
+        }),
+        Err(ended) => {
+            gate.close();
+            Err(ended)
+        }
+    }
+}
+
+/// Tells that a part of a record was cut off, if so.
+pub(crate) fn tell_cut(rt: &HostRuntime, count: u64, cut: u64) {
+    if cut > 0 {
+        let _ = eprintln!(rt; "journal: {count} records, and {cut} bytes of one that was cut off");
+    }
+}

@@ -1,0 +1,3 @@
+pub mod Rolling
+pub mod Keeping
+pub mod Days

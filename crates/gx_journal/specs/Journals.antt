@@ -1,0 +1,60 @@
+-- What a journal keeps of a day.
+use Rattle.std.specs.Prelude.{◌≡◌, ℕ, ◌<◌, ◌≤◌, max, List, length, take, drop, [], Bool, Option, Some, None, IsTrue, IsFalse, is_some}
+use Rattle.std.specs.Io.KnownBytes.{append_known}
+use Rattle.gx_devices.specs.Devices.{IsFront}
+use Rattle.gx_history.specs.declared.record.RecordData.{RecordData}
+use Rattle.gx_audit.specs.declared.version.AuditVersion.TheVariants as versions
+use Rattle.gx_audit.specs.Auditing.{all_bytes}
+use Rattle.gx_pass.specs.declared.view.Holds.{Holds}
+use Rattle.gx_pass.specs.Views.{holds}
+use Rattle.gx_journal.specs.declared.fault.JournalFault.{JournalFault}
+use Rattle.gx_journal.specs.declared.fault.JournalFault.TheVariants as faults
+
+-- what a device holds, as far as that is known, how many of the day's records are on it, and why no more are put there
+pub record TapeData : Type 0 where
+  pub contents : Option (List ℕ)
+  pub done : ℕ
+  pub fault : Option JournalFault
+
+-- what the journal's pass has met, and the device
+pub record JournalData : Type 0 where
+  pub met : Holds
+  pub tape : TapeData
+
+abbrev pub is_broken : TapeData → Bool
+is_broken tape = is_some tape.fault
+
+-- the bytes of records, as a journal has them
+abbrev pub journal_bytes : List RecordData → List ℕ
+journal_bytes records = all_bytes versions.Two records
+
+-- the records behind the first `count`, up to those that are done
+abbrev pub added : ℕ → ℕ → List RecordData → List RecordData
+added count done records = drop count (take done records)
+
+-- where it is known what was held, this is held: that, and the text behind it
+abbrev pub IsGrown : (before after : Option (List ℕ)) → List ℕ → Type 0
+IsGrown before after text = IsTrue (is_some before) → after ≡ append_known before text
+
+-- what a pass has met that may be out
+abbrev pub met_by : {T : Type 0} → (T → Holds) → Option T → Holds
+met_by held (Some pass) = held pass
+met_by held None = holds 0 [] 0
+
+-- so many records there are at least, as the pass knows
+abbrev pub known : Holds → ℕ
+known h = max h.told (length h.front)
+
+-- The day begins with its earlier records. The device holds what it held at first, and behind it the bytes of the records that are done; once it is broken, a
+-- front of the bytes of all records that the pass has met.
+pub record IsKept (begun : Option (List ℕ)) (count : ℕ) (earlier : List RecordData) (j : JournalData) : Type 0 where
+  pub begins : take (length earlier) j.met.front ≡ earlier
+  pub first : count ≤ j.tape.done
+  pub met : j.tape.done ≤ length j.met.front
+  pub whole : IsFalse (is_broken j.tape) → IsGrown begun j.tape.contents (journal_bytes (added count j.tape.done j.met.front))
+  pub cut : IsTrue (is_broken j.tape) → ∥ IsFront begun j.tape.contents (journal_bytes (drop count j.met.front)) ∥₁
+
+-- of the counts of failed calls of a writer, before and after: it is blamed exactly where a call of it failed
+abbrev pub IsBlamed : (writes writes' : ℕ) → JournalFault → Type 0
+IsBlamed writes writes' faults.WriteFailed = writes < writes'
+IsBlamed writes writes' faults.OutOfMemory = writes' ≡ writes

@@ -1,0 +1,187 @@
+//! A journal of a day.
+
+ghost use Rattle.std.specs.Prelude.{◌≡◌, ◌+◌, ◌<◌, ◌≤◌, ◌⊎◌, ◌^◌, drop, length, take, IfOk, IsFalse, IsTrue, None, Some};
+ghost use mathlib.Core.List.{IsPrefix};
+ghost use Rattle.gx_devices.specs.Devices.{IsFront};
+ghost use Rattle.gx_history.specs.Lists.{slice};
+ghost use Rattle.gx_pass.specs.Views.{retold};
+ghost use Rattle.gx_shared.specs.Acts.{IsLater};
+ghost use Rattle.gx_journal.specs.Journals.{added, is_broken, journal_bytes, known, IsGrown, IsKept};
+
+use crate::fault::JournalFault;
+use crate::name::JournalName;
+use crate::tape::Tape;
+use gx_history::record::Record;
+use gx_shared::Door;
+use gx_units::OutOfMemory;
+use std::alloc::Global;
+use std::io::Write;
+use std::marker::{Model, PhantomData};
+use std::sync::Wait;
+
+/// How many records are written at a time.
+const PIECE: u64 = 256;
+
+/// Writes the records of a day behind those that were on its device at first, each once and in order. Contracts see
+/// what its pass has met, what the device holds, how many records are on it, and why no more are put there.
+pub struct Journal<D: Door, W: Write, J: JournalName> {
+    /// Taken out for each call of the door.
+    pass: Option<D::Ticket>,
+    tape: Tape<W>,
+    of: PhantomData<J>,
+}
+
+impl<D: Door, W: Write, J: JournalName> Model for Journal<D, W, J> {
+    ghost use Rattle.std.specs.Prelude.{is_some, IsTrue};
+    ghost use Rattle.gx_journal.specs.Journals.{met_by, IsKept, JournalData};
+
+    ghost Value = { JournalData };
+
+    ghost view = { λ j. record { met = met_by D.held j.pass; tape = j.tape } };
+
+    ghost invariant = { λ j. IsTrue (is_some j.pass)
+        × IsKept J.begun J.count J.earlier
+        (record { met = met_by D.held j.pass; tape = j.tape }) };
+}
+
+impl<D: Door, W: Write, J: JournalName> Journal<D, W, J> {
+    /// A journal on a device with so many of the records that the pass has met, which are the day's first.
+    pub fn new(alloc: Global, pass: D::Ticket, count: u64, device: W) -> Journal<D, W, J>
+        requires begun { W.contents device ≡ J.begun }
+        requires count { count ≡ J.count }
+        requires met { (D.held pass).front ≡ J.earlier }
+        requires within { count ≤ length J.earlier }
+        ensures met { result.met ≡ D.held pass }
+        ensures contents { result.tape.contents ≡ J.begun }
+        ensures done { result.tape.done ≡ count }
+        ensures fault { result.tape.fault ≡ None }
+    {
+        Journal {
+            pass: Some(pass),
+            tape: Tape::new(alloc, count, device),
+            of: PhantomData,
+        }
+    }
+
+    /// Writes what records there are, and answers whether they are all on the device: at least as many as the pass has
+    /// met, or was told of. Once it is broken it writes nothing, and the answer is no.
+    pub fn keep<R: Wait>(&mut self, rt: &R, door: &D) -> bool
+        ensures kept { IsTrue result → known self.old.met ≤ self.new.tape.done }
+        ensures sound { IsTrue result → self.new.tape.fault ≡ None }
+        ensures met { IsPrefix self.old.met.front self.new.met.front }
+        ensures refused { IsTrue (is_broken self.old.tape) → IsFalse result }
+        ensures over { IsTrue (is_broken self.old.tape) → self.new.tape ≡ self.old.tape }
+    {
+        let count = self.length(door);
+        self.write_up_to(rt, door, count)
+    }
+
+    /// How many records there are: at least as many as the pass has met.
+    fn length(&mut self, door: &D) -> u64
+        ensures told { self.new.met ≡ retold self.old.met result }
+        ensures more { self.old.met.told ≤ result }
+        ensures front { length self.old.met.front ≤ result }
+        ensures tape { self.new.tape ≡ self.old.tape }
+    {
+        let Some(mut pass) = self.pass.take() else {
+            unreachable!()
+        };
+        let count = door.length(&mut pass);
+        self.pass = Some(pass);
+        count
+    }
+
+    /// Writes records until so many are on the device. Answers whether they are.
+    fn write_up_to<R: Wait>(&mut self, rt: &R, door: &D, count: u64) -> bool
+        requires known { count ≤ known self.old.met }
+        ensures written { IsTrue result → count ≤ self.new.tape.done }
+        ensures sound { IsTrue result → self.new.tape.fault ≡ None }
+        ensures broken { IsFalse result → IsTrue (is_broken self.new.tape) }
+        ensures met { IsPrefix self.old.met.front self.new.met.front }
+        ensures refused { IsTrue (is_broken self.old.tape) → IsFalse result }
+        ensures over { IsTrue (is_broken self.old.tape) → self.new.tape ≡ self.old.tape }
+    {
+        if self.tape.is_broken() {
+            return false;
+        }
+        while self.tape.done() < count {
+            if !self.write_piece(rt, door, count) {
+                return false;
+            }
+        }
+        true
+    }
+
+    /// Writes the next records, at most up to so many. Answers whether it did.
+    fn write_piece<R: Wait>(&mut self, rt: &R, door: &D, count: u64) -> bool
+        requires known { count ≤ known self.old.met }
+        requires left { self.old.tape.done < count }
+        requires sound { IsFalse (is_broken self.old.tape) }
+        ensures known { count ≤ known self.new.met }
+        ensures met { IsPrefix self.old.met.front self.new.met.front }
+        ensures more { IsTrue result → self.old.tape.done < self.new.tape.done }
+        ensures sound { IsTrue result → IsFalse (is_broken self.new.tape) }
+        ensures broken { IsFalse result → IsTrue (is_broken self.new.tape) }
+    {
+        let most = PIECE.min(count - self.tape.done());
+        match self.fetch(rt, door, most) {
+            Ok(records) => self.put(records.as_slice()),
+            Err(_) => self.give_up(JournalFault::OutOfMemory),
+        }
+    }
+
+    /// The records behind those that are on the device, at most so many.
+    fn fetch<R: Wait>(&mut self, rt: &R, door: &D, most: u64) -> Result<Vec<Record>, OutOfMemory>
+        requires sound { IsFalse (is_broken self.old.tape) }
+        requires some { 0 < most }
+        requires room { self.old.tape.done + most < 2 ^ 64 }
+        ensures later { IsLater D.policy self.old.met self.new.met }
+        ensures tape { self.new.tape ≡ self.old.tape }
+        ensures records { IfOk result (λ v.
+            v.items ≡ slice self.new.met.front (self.new.tape.done + 1) most) }
+    {
+        let Some(pass) = self.pass.take() else {
+            unreachable!()
+        };
+        let (pass, records) = door.records(rt, pass, self.tape.done() + 1, most);
+        self.pass = Some(pass);
+        records
+    }
+
+    /// Puts the next of the records that the pass has met on the device. Answers whether it did.
+    fn put(&mut self, records: &[Record]) -> bool
+        requires next { records.now
+            ≡ take (length records.now) (drop self.old.tape.done self.old.met.front) }
+        requires room { self.old.tape.done + length records.now < 2 ^ 64 }
+        requires sound { IsFalse (is_broken self.old.tape) }
+        ensures met { self.new.met ≡ self.old.met }
+        ensures done { IsTrue result
+            → self.new.tape.done ≡ self.old.tape.done + length records.now }
+        ensures sound { IsTrue result → IsFalse (is_broken self.new.tape) }
+        ensures broken { IsFalse result → IsTrue (is_broken self.new.tape) }
+    {
+        self.tape.put(records)
+    }
+
+    /// Writes nothing any more.
+    fn give_up(&mut self, fault: JournalFault) -> bool
+        requires sound { IsFalse (is_broken self.old.tape) }
+        ensures answer { IsFalse result }
+        ensures met { self.new.met ≡ self.old.met }
+        ensures broken { IsTrue (is_broken self.new.tape) }
+    {
+        self.tape.give_up(fault);
+        false
+    }
+
+    /// The pass, and the device with the day's records that are on it.
+    pub(crate) fn into_parts(self) -> (D::Ticket, Tape<W>)
+        ensures met { D.held result.0 ≡ self.met }
+        ensures tape { result.1 ≡ self.tape }
+        ensures kept { IsKept J.begun J.count J.earlier self }
+    {
+        let Journal { pass, tape, of: _ } = self;
+        let Some(pass) = pass else { unreachable!() };
+        (pass, tape)
+    }
+}

@@ -1,0 +1,139 @@
+//! A door whose records are kept.
+
+ghost use Rattle.std.specs.Prelude.{◌≡◌, ◌≤◌, length};
+
+use crate::journal::Journal;
+use crate::name::JournalName;
+use gx_core::{LoginAnswer, Outcome, Pulled, StepFault};
+use gx_history::record::{Record, Request};
+use gx_pass::PassFault;
+use gx_shared::{Door, PullFault};
+use gx_units::{Moment, OutOfMemory, Password, SessionName, UserName};
+use std::alloc::Global;
+use std::io::Write;
+use std::sync::{Mutex, Wait};
+
+/// A door over another one: what was done at it may be told once its records are in the journal.
+///
+/// The journal has a lock of its own, which nobody holds who holds that of the gate.
+pub struct Journaled<'x, D: Door, W: Write, J: JournalName> {
+    door: &'x D,
+    journal: Mutex<Journal<D, W, J>>,
+}
+
+impl<'x, D: Door, W: Write, J: JournalName> Journaled<'x, D, W, J> {
+    /// A door with a journal on this device, on which there are so many of the records that the pass has met, the day's
+    /// first.
+    pub fn new(
+        alloc: Global,
+        door: &'x D,
+        pass: D::Ticket,
+        count: u64,
+        device: W,
+    ) -> Journaled<'x, D, W, J>
+        requires begun { W.contents device ≡ J.begun }
+        requires count { count ≡ J.count }
+        requires met { (D.held pass).front ≡ J.earlier }
+        requires within { count ≤ length J.earlier }
+    {
+        Journaled {
+            door,
+            journal: Mutex::new(Journal::new(alloc, pass, count, device)),
+        }
+    }
+
+    /// The journal, which no thread shares any more.
+    pub fn into_journal(self) -> Journal<D, W, J> {
+        let Journaled { door: _, journal } = self;
+        journal.into_inner()
+    }
+}
+
+impl<D: Door, W: Write, J: JournalName> Door for Journaled<'_, D, W, J> {
+    type Ticket = D::Ticket;
+
+    ghost policy = { D.policy };
+
+    ghost held = { D.held };
+
+    fn issue<R: Wait>(&self, rt: &R) -> Result<D::Ticket, PassFault> {
+        self.door.issue(rt)
+    }
+
+    fn login<R: Wait>(
+        &self,
+        rt: &R,
+        pass: D::Ticket,
+        user: UserName,
+        password: Password,
+        session: SessionName,
+        wanted: u64,
+        moment: Moment,
+    ) -> (D::Ticket, Result<LoginAnswer, StepFault>) {
+        self.door
+            .login(rt, pass, user, password, session, wanted, moment)
+    }
+
+    fn act<R: Wait>(
+        &self,
+        rt: &R,
+        pass: D::Ticket,
+        user: UserName,
+        request: Request,
+        moment: Moment,
+    ) -> (D::Ticket, Result<Outcome, StepFault>) {
+        self.door.act(rt, pass, user, request, moment)
+    }
+
+    fn match_one<R: Wait>(
+        &self,
+        rt: &R,
+        pass: D::Ticket,
+        moment: Moment,
+    ) -> (D::Ticket, Result<Option<Outcome>, StepFault>) {
+        self.door.match_one(rt, pass, moment)
+    }
+
+    fn pull<R: Wait>(
+        &self,
+        rt: &R,
+        pass: D::Ticket,
+        user: UserName,
+        from: u64,
+        most: u64,
+    ) -> (D::Ticket, Result<Pulled, PullFault>) {
+        self.door.pull(rt, pass, user, from, most)
+    }
+
+    fn logout<R: Wait>(
+        &self,
+        rt: &R,
+        pass: D::Ticket,
+        user: UserName,
+        moment: Moment,
+    ) -> (D::Ticket, Result<Outcome, StepFault>) {
+        self.door.logout(rt, pass, user, moment)
+    }
+
+    fn meet<R: Wait>(&self, rt: &R, one: D::Ticket, other: D::Ticket) -> (D::Ticket, D::Ticket) {
+        self.door.meet(rt, one, other)
+    }
+
+    fn length(&self, pass: &mut D::Ticket) -> u64 {
+        self.door.length(pass)
+    }
+
+    fn records<R: Wait>(
+        &self,
+        rt: &R,
+        pass: D::Ticket,
+        from: u64,
+        most: u64,
+    ) -> (D::Ticket, Result<Vec<Record>, OutOfMemory>) {
+        self.door.records(rt, pass, from, most)
+    }
+
+    fn keep<R: Wait>(&self, rt: &R) -> bool {
+        self.journal.lock(rt).keep(rt, self.door)
+    }
+}

@@ -1,0 +1,23 @@
+//! The journal of a day: each record is written to a device before anything that comes of it is told, so that a day
+//! outlives its program.
+//!
+//! A journal is an audit of version 2: the header of the policy, and then the records, 128 bytes each. A [`Journaled`]
+//! door hands on what it is asked to another door, and keeps the records of that when a writer is about to tell
+//! something. Records that are there together are written together, by whoever comes first.
+#![tactic(auto)]
+
+mod fault;
+mod journal;
+mod journaled;
+mod name;
+mod rest;
+mod resuming;
+mod serving;
+mod tape;
+
+pub use fault::JournalFault;
+pub use journal::Journal;
+pub use journaled::Journaled;
+pub use name::JournalName;
+pub use resuming::{Resumed, resume};
+pub use serving::{Kept, close_kept, serve_journaled};

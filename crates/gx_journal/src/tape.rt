@@ -1,0 +1,144 @@
+//! A device that records are put on.
+
+ghost use Rattle.std.specs.Prelude.{◌≡◌, ◌+◌, ◌-◌, ◌^◌, ◌<◌, length, None, Some, is_none, IsSome, IsTrue, IsFalse, IfErr, OnErr, OnOk};
+ghost use Rattle.std.specs.Io.KnownBytes.{Appends};
+ghost use Rattle.gx_devices.specs.Devices.{IsFront};
+ghost use Rattle.gx_journal.specs.declared.fault.JournalFault.TheVariants as faults;
+ghost use Rattle.gx_journal.specs.Journals.{is_broken, journal_bytes, IsBlamed};
+
+use crate::fault::JournalFault;
+use gx_audit::{AuditVersion, audit_bytes};
+use gx_devices::{Counted, write_whole};
+use gx_history::record::Record;
+use std::alloc::Global;
+use std::io::Write;
+use std::marker::Model;
+
+/// A device that the day's records are put on, each as its 128 bytes in an audit of version 2. Behind its first fault
+/// nothing is put on it any more. Contracts see what the device holds, how many records are on it, and the fault.
+pub(crate) struct Tape<W: Write> {
+    alloc: Global,
+    writer: Counted<W>,
+    done: u64,
+    fault: Option<JournalFault>,
+}
+
+impl<W: Write> Model for Tape<W> {
+    ghost use Rattle.std.specs.Prelude.{◌≡◌, is_none, IsTrue};
+    ghost use Rattle.gx_journal.specs.Journals.{TapeData};
+
+    ghost Value = { TapeData };
+
+    ghost view = { λ t. record {
+      contents = W.contents t.writer.device;
+      done = t.done;
+      fault = t.fault;
+    } };
+
+    ghost invariant = { λ t. IsTrue (is_none t.fault) → t.writer.failed ≡ 0 };
+}
+
+/// Writes the records' bytes, and flushes the writer; where one fails, a front of them.
+fn put_on<W: Write>(
+    alloc: Global,
+    writer: &mut Counted<W>,
+    records: &[Record],
+) -> Result<(), JournalFault>
+    requires { writer.old.failed < 2 ^ 64 - 1 }
+    ensures whole { OnOk result (Appends
+        (W.contents writer.old.device) (W.contents writer.new.device)
+        (journal_bytes records.now)) }
+    ensures front { OnErr result (IsFront
+        (W.contents writer.old.device) (W.contents writer.new.device)
+        (journal_bytes records.now)) }
+    ensures kept { OnOk result (writer.new.failed ≡ writer.old.failed) }
+    ensures told { IfErr result (IsBlamed writer.old.failed writer.new.failed) }
+{
+    let bytes = audit_bytes(alloc, AuditVersion::Two, records)?;
+    write_whole(writer, bytes.as_slice())?;
+    Ok(())
+}
+
+impl<W: Write> Tape<W> {
+    /// A device with so many of the day's records.
+    pub(crate) fn new(alloc: Global, done: u64, device: W) -> Tape<W>
+        ensures contents { result.contents ≡ W.contents device }
+        ensures done { result.done ≡ done }
+        ensures fault { result.fault ≡ None }
+    {
+        Tape {
+            alloc,
+            writer: Counted::new(device),
+            done,
+            fault: None,
+        }
+    }
+
+    /// How many records are on it.
+    pub(crate) fn done(&self) -> u64
+        ensures { result ≡ self.now.done }
+    {
+        self.done
+    }
+
+    /// Whether nothing is put on it any more.
+    pub(crate) fn is_broken(&self) -> bool
+        ensures { result ≡ is_broken self.now }
+    {
+        self.fault.is_some()
+    }
+
+    /// Puts the records on it, in one call of the device if that takes them. Answers whether it did.
+    pub(crate) fn put(&mut self, records: &[Record]) -> bool
+        requires room { self.old.done + length records.now < 2 ^ 64 }
+        ensures answer { IsTrue result → self.new.fault ≡ None }
+        ensures whole { IsTrue result → Appends
+            self.old.contents self.new.contents (journal_bytes records.now) }
+        ensures done { IsTrue result → self.new.done ≡ self.old.done + length records.now }
+        ensures broken { IsFalse result → IsTrue (is_broken self.new) }
+        ensures front { IsFalse result → IsFront
+            self.old.contents self.new.contents (journal_bytes records.now) }
+        ensures stays { IsFalse result → self.new.done ≡ self.old.done }
+        ensures refused { IsTrue (is_broken self.old) → IsFalse result }
+        ensures over { IsTrue (is_broken self.old) → self.new ≡ self.old }
+    {
+        if self.fault.is_some() {
+            return false;
+        }
+        match put_on(self.alloc, &mut self.writer, records) {
+            Ok(()) => {
+                self.done += records.len() as u64;
+                true
+            }
+            Err(fault) => {
+                self.fault = Some(fault);
+                false
+            }
+        }
+    }
+
+    /// Puts nothing on it any more.
+    pub(crate) fn give_up(&mut self, fault: JournalFault)
+        ensures fault { IsTrue (is_broken self.new) }
+        ensures contents { self.new.contents ≡ self.old.contents }
+        ensures done { self.new.done ≡ self.old.done }
+    {
+        if self.fault.is_none() {
+            self.fault = Some(fault);
+        }
+    }
+
+    /// The device, and why nothing was put on it any more, if so.
+    pub(crate) fn into_parts(self) -> (W, Option<JournalFault>)
+        ensures contents { W.contents result.0 ≡ self.contents }
+        ensures fault { result.1 ≡ self.fault }
+    {
+        let Tape {
+            alloc: _,
+            writer,
+            done: _,
+            fault,
+        } = self;
+        (writer.into_inner(), fault)
+    }
+}
