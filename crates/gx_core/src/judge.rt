@@ -76,7 +76,8 @@ impl Gate {
 
     /// Whether a Login's session name is right, and the report that it asks for is there or comes next.
     fn is_available(&self, a: &Asked) -> bool
-        ensures { result ≡ is_available_after (length (stream_of self.now a.now.user)) a.now.request }
+        ensures { result
+            ≡ is_available_after (length (stream_of self.now a.now.user)) a.now.request }
     {
         match &a.request {
             Request::Login(m) => {
@@ -91,7 +92,8 @@ impl Gate {
     #[tactic(auto, using(crate::proofs::Judged::traders_have_accounts, crate::proofs::Judged::officers_are_known))]
     fn fits_role(&self, a: &Asked, account: Option<AccountName>) -> bool
         requires account { account ≡ account_of self.now.policy a.now.user }
-        ensures fits { result ≡ fits_role (role_in self.now.policy.users a.now.user) a.now.request }
+        ensures fits { result
+            ≡ fits_role (role_in self.now.policy.users a.now.user) a.now.request }
     {
         match &a.request {
             Request::Enter(_) | Request::Replace(_) | Request::Cancel(_) => account.is_some(),

@@ -81,7 +81,8 @@ fn hold(held: &mut Held, front: &[u8]) -> Result<(), OutOfMemory>
 fn take_front(held: &mut Held, front: &[u8]) -> Result<(), ScriptFault>
     requires no_end { IsTrue (has_no_end front.now) }
     requires room { held.old.lines < 2 ^ 64 - 1 }
-    ensures ok { OnOk result ((before gate : GateData) (bytes : List ℕ) (output : Option (List ℕ))
+    ensures ok { OnOk result (
+        (before gate : GateData) (bytes : List ℕ) (output : Option (List ℕ))
         → IsSoFar before bytes gate held.old.rest.items held.old.lines
         → TakesPiece before bytes front.now gate held.new.rest.items held.new.lines
         output output) }
