@@ -142,6 +142,7 @@ impl<'a> From<ServeFault> for Ended<'a> {
                 place: Place::Address,
                 said: Some(error),
             },
+            ServeFault::NoLines => ProgramFault::NoLines.into(),
         }
     }
 }

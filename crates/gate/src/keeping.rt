@@ -3,7 +3,7 @@
 ghost use Rattle.std.specs.Prelude.{◌-◌, ◌^◌, ◌<◌};
 
 use crate::ending::{Ended, Place};
-use gx_audit::write_header;
+use gx_audit_bytes::write_header;
 use gx_command_line::JournalFile;
 use gx_core::Gate;
 use gx_devices::{Counted, write_whole};

@@ -1,6 +1,8 @@
 //! The program `gate`: a sponsored-access gateway on the command line.
 #![tactic(auto)]
 
+ghost use Rattle.std.specs.Prelude.{◌-◌, ◌^◌, ◌<◌};
+
 mod ending;
 mod keeping;
 
@@ -14,10 +16,11 @@ use gx_command_line::{
 use gx_core::Gate;
 use gx_devices::Counted;
 use gx_history::policy::Policy;
-use gx_journal::{Kept, serve_journaled};
+use gx_journal::{JournalFault, Kept, serve_journaled};
+use gx_lobby::Lobby;
 use gx_scripting::run_script;
-use gx_serve::{Lobby, ServeFault, Served, serve};
-use gx_server::{Noted, migrated_policy, open_gate, policy_for, told_of_policy};
+use gx_serve::{ServeFault, Served, serve};
+use gx_server::{Noted, ProgramFault, migrated_policy, open_gate, policy_for, told_of_policy};
 use gx_session::run_pipe;
 use gx_units::OutOfMemory;
 use keeping::{Day, JournalDevice, take_up, tell_cut};
@@ -51,28 +54,11 @@ fn bytes_of<'a>(rt: &HostRuntime, path: &'a str) -> Result<Vec<u8>, Ended<'a>> {
     }
 }
 
-/// The gate of a run: under the policy of the file that was asked for, if one was.
-fn gate_of<'a>(rt: &HostRuntime, file: Option<&'a str>) -> Result<Gate, Ended<'a>> {
-    match file {
-        Some(path) => {
-            let bytes = bytes_of(rt, path)?;
-            Ok(open_gate(rt.alloc(), Some(bytes.as_slice()))?)
-        }
-        None => Ok(open_gate(rt.alloc(), None)?),
-    }
-}
-
-/// Serves one connection on a gate.
-fn serve_one<'a>(rt: &HostRuntime, gate: &mut Gate) -> Result<(), Ended<'a>> {
-    let mut reader = Counted::new(Noted::new(rt.reader()));
-    let mut writer = Counted::new(Noted::new(io::writer(rt)));
-    match run_pipe(rt.alloc(), gate, FIRST_MOMENT, &mut reader, &mut writer) {
-        Ok(()) => Ok(()),
-        Err(fault) => Err(Ended::of_run(
-            fault.into(),
-            reader.device().cause,
-            writer.device().cause,
-        )),
+/// The bytes of the policy file that was asked for, if one was.
+fn policy_file<'a>(rt: &HostRuntime, path: Option<&'a str>) -> Result<Option<Vec<u8>>, Ended<'a>> {
+    match path {
+        Some(path) => Ok(Some(bytes_of(rt, path)?)),
+        None => Ok(None),
     }
 }
 
@@ -101,49 +87,72 @@ fn keep_audit<'a>(rt: &HostRuntime, gate: &Gate, path: Option<&'a str>) -> Resul
     }
 }
 
-/// Serves one connection, and writes the audit.
-fn pipe<'a>(rt: &HostRuntime, files: RunFiles<'a>) -> Result<(), Ended<'a>> {
-    let mut gate = gate_of(rt, files.policy)?;
-    let served = serve_one(rt, &mut gate);
-    let kept = keep_audit(rt, &gate, files.audit);
+/// Closes a gate, and writes its audit, where one is wanted.
+fn close_audited<'a>(rt: &HostRuntime, gate: Gate, path: Option<&'a str>) -> Result<(), Ended<'a>> {
+    let kept = keep_audit(rt, &gate, path);
     gate.close();
-    served?;
     kept
 }
 
-/// Runs a script on a gate.
-fn follow<'a>(rt: &HostRuntime, gate: &mut Gate) -> Result<(), Ended<'a>> {
-    let mut reader = Counted::new(Noted::new(rt.reader()));
-    let mut writer = Counted::new(Noted::new(io::writer(rt)));
-    match run_script(rt.alloc(), gate, &mut reader, &mut writer) {
-        Ok(()) => Ok(()),
-        Err(explained) => Err(Ended::of_run(
-            explained.into(),
-            reader.device().cause,
-            writer.device().cause,
-        )),
+/// What standard input is.
+#[derive(Clone, Copy)]
+enum Input {
+    /// The packets of a connection.
+    Packets,
+    /// The lines of a script.
+    Lines,
+}
+
+/// Runs an input on a gate.
+fn run_input<R: Read, W: Write>(
+    alloc: Global,
+    input: Input,
+    gate: &mut Gate,
+    reader: &mut Counted<R>,
+    writer: &mut Counted<W>,
+) -> Result<(), ProgramFault>
+    requires reader { reader.old.failed < 2 ^ 64 - 1 }
+    requires writer { writer.old.failed < 2 ^ 64 - 1 }
+{
+    match input {
+        Input::Packets => Ok(run_pipe(alloc, gate, FIRST_MOMENT, reader, writer)?),
+        Input::Lines => Ok(run_script(alloc, gate, reader, writer)?),
     }
 }
 
-/// Runs a script, and writes the audit.
-fn script<'a>(rt: &HostRuntime, files: RunFiles<'a>) -> Result<(), Ended<'a>> {
-    let mut gate = gate_of(rt, files.policy)?;
-    let followed = follow(rt, &mut gate);
-    let kept = keep_audit(rt, &gate, files.audit);
-    gate.close();
-    followed?;
-    kept
+/// Runs standard input on a gate.
+fn follow<'a>(rt: &HostRuntime, input: Input, gate: &mut Gate) -> Result<(), Ended<'a>> {
+    let mut reader = Counted::new(Noted::new(rt.reader()));
+    let mut writer = Counted::new(Noted::new(io::writer(rt)));
+    match run_input(rt.alloc(), input, gate, &mut reader, &mut writer) {
+        Ok(()) => Ok(()),
+        Err(fault) => Err(Ended::of_run(fault, reader.device().cause, writer.device().cause)),
+    }
+}
+
+/// Runs standard input on a gate under a policy file, or under the sample policy, and writes the audit.
+fn follow_under<'a>(
+    rt: &HostRuntime,
+    input: Input,
+    file: Option<&[u8]>,
+    audit: Option<&'a str>,
+) -> Result<(), Ended<'a>> {
+    let mut gate = open_gate(rt.alloc(), file)?;
+    let followed = follow(rt, input, &mut gate);
+    let kept = close_audited(rt, gate, audit);
+    followed.and(kept)
+}
+
+/// Runs standard input, and writes the audit.
+fn run_files<'a>(rt: &HostRuntime, input: Input, files: RunFiles<'a>) -> Result<(), Ended<'a>> {
+    let file = policy_file(rt, files.policy)?;
+    follow_under(rt, input, file.as_deref(), files.audit)
 }
 
 /// The policy of a server or of a check: that of the file that was asked for, if one was.
-fn policy_of<'a>(rt: &HostRuntime, file: Option<&'a str>) -> Result<Policy, Ended<'a>> {
-    match file {
-        Some(path) => {
-            let bytes = bytes_of(rt, path)?;
-            Ok(policy_for(rt.alloc(), Some(bytes.as_slice()))?)
-        }
-        None => Ok(policy_for(rt.alloc(), None)?),
-    }
+fn policy_of<'a>(rt: &HostRuntime, path: Option<&'a str>) -> Result<Policy, Ended<'a>> {
+    let file = policy_file(rt, path)?;
+    Ok(policy_for(rt.alloc(), file.as_deref())?)
 }
 
 /// Listens on a port of this machine's own address, and tells which.
@@ -228,6 +237,11 @@ where
     Ok(serve(rt, host.alloc(), policy, &lobby, listener, connections)?)
 }
 
+/// How a server ended.
+fn served<'a>(ended: Result<(), ServeFault>) -> Result<(), Ended<'a>> {
+    Ok(ended?)
+}
+
 /// Serves connections under a policy, and writes the audit.
 fn serve_under<'a, R>(
     rt: &R,
@@ -239,10 +253,8 @@ where
     R: Net<Listener = TcpListener, Stream = TcpStream> + Threads + Wait + Clock + Eprint + Sync,
 {
     let Served { gate, ended } = serve_on(rt, host, policy, serving)?;
-    let kept = keep_audit(host, &gate, serving.files.audit);
-    gate.close();
-    ended?;
-    kept
+    let audited = close_audited(host, gate, serving.files.audit);
+    served(ended).and(audited)
 }
 
 /// Serves connections of a day that goes on, and keeps its records.
@@ -281,6 +293,18 @@ where
     }
 }
 
+/// Whether a journal in this file was kept, and what the system said where it was not.
+fn kept<'a>(
+    fault: Option<JournalFault>,
+    path: &'a str,
+    said: Option<io::Error>,
+) -> Result<(), Ended<'a>> {
+    match fault {
+        Some(fault) => Err(Ended::of_journal(fault, path, said)),
+        None => Ok(()),
+    }
+}
+
 /// Serves connections of the day that a journal holds, keeps its records, and writes the audit.
 fn serve_kept<'a, R>(
     rt: &R,
@@ -299,13 +323,10 @@ where
         fault,
         device,
     } = go_on(rt, host, serving, day)?;
-    let audited = keep_audit(host, &gate, serving.files.audit);
-    gate.close();
-    if let Some(fault) = fault {
-        return Err(Ended::of_journal(fault, journal.path, device.cause));
-    }
-    ended?;
-    audited
+    let audited = close_audited(host, gate, serving.files.audit);
+    kept(fault, journal.path, device.cause)
+        .and(served(ended))
+        .and(audited)
 }
 
 /// Serves connections, and writes the audit.
@@ -427,8 +448,8 @@ fn migrate<'a>(rt: &HostRuntime, path: &'a str) -> Result<(), Ended<'a>> {
 /// Does what was asked: the status of what was found.
 fn run<'a>(rt: &HostRuntime, asked: Asked<'a>) -> Result<ExitCode, Ended<'a>> {
     match asked {
-        Asked::Pipe(files) => pipe(rt, files)?,
-        Asked::Script(files) => script(rt, files)?,
+        Asked::Pipe(files) => run_files(rt, Input::Packets, files)?,
+        Asked::Script(files) => run_files(rt, Input::Lines, files)?,
         Asked::Policy(file) => policy(rt, file)?,
         Asked::Migrate(file) => migrate(rt, file)?,
         // served by `main`, which alone may start threads

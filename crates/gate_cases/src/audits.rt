@@ -3,8 +3,11 @@
 use crate::devices::{Limits, Sips};
 use crate::runs::put_hex;
 use crate::texts::{put, put_bytes};
-use gx_audit::{AuditVersion, RECORD_SIZE, audit_of};
-use gx_auditing::{AuditingFault, Choice, more_of_audit, show_audit, told_of_audit, write_audit};
+use gx_audit::audit_of;
+use gx_audit_bytes::{AuditVersion, RECORD_SIZE};
+use gx_auditing::{
+    AuditAnswer, AuditingFault, Choice, more_of_audit, show_audit, told_of_audit, write_audit,
+};
 use gx_core::Gate;
 use gx_devices::Counted;
 use gx_history::policy::Policy;
@@ -30,6 +33,17 @@ fn put_audit(alloc: Global, out: &mut String, audit: &[u8]) -> Result<(), OutOfM
     Ok(())
 }
 
+/// Puts what was written of an audit, and how that ended.
+fn put_written(
+    alloc: Global,
+    out: &mut String,
+    written: &[u8],
+    fault: Option<AuditingFault>,
+) -> Result<(), OutOfMemory> {
+    put_audit(alloc, out, written)?;
+    put_ended(out, fault)
+}
+
 /// Writes the gate's audit, and tells of it: its bytes, and how that ended.
 pub(crate) fn tell_audit(
     alloc: Global,
@@ -40,8 +54,7 @@ pub(crate) fn tell_audit(
     let mut writer = Counted::new(Sips::new(alloc, limits));
     let ended = write_audit(alloc, gate, &mut writer);
     let written = writer.into_inner().taken;
-    put_audit(alloc, out, written.as_slice())?;
-    put_ended(out, ended.err())
+    put_written(alloc, out, written.as_slice(), ended.err())
 }
 
 /// Tells the bytes of the gate's audit in version 1.
@@ -76,6 +89,32 @@ fn change(audit: &mut Vec<u8>, line: &str) {
     }
 }
 
+/// Puts what more there is to tell of an audit.
+fn put_more(
+    alloc: Global,
+    out: &mut String,
+    policy: &Policy,
+    audit: &[u8],
+    told: &AuditAnswer,
+) -> Result<(), OutOfMemory> {
+    match more_of_audit(alloc, policy, audit, told.answer)? {
+        Some(more) => put_bytes(out, more.as_slice()),
+        None => Ok(()),
+    }
+}
+
+/// Puts what an audit was found to be, and what more there is to tell.
+fn put_told(
+    alloc: Global,
+    out: &mut String,
+    policy: &Policy,
+    audit: &[u8],
+    told: &AuditAnswer,
+) -> Result<(), OutOfMemory> {
+    put_bytes(out, told.line.as_slice())?;
+    put_more(alloc, out, policy, audit, told)
+}
+
 /// Checks an audit, and tells the answer, and what more there is to tell.
 fn tell_check(
     alloc: Global,
@@ -84,13 +123,7 @@ fn tell_check(
     audit: &[u8],
 ) -> Result<(), OutOfMemory> {
     match told_of_audit(alloc, policy, audit) {
-        Ok(told) => {
-            put_bytes(out, told.line.as_slice())?;
-            if let Some(more) = more_of_audit(alloc, policy, audit, told.answer)? {
-                put_bytes(out, more.as_slice())?;
-            }
-            Ok(())
-        }
+        Ok(told) => put_told(alloc, out, policy, audit, &told),
         Err(fault) => put_ended(out, Some(fault)),
     }
 }
@@ -124,6 +157,19 @@ fn tell_changed(
     tell_check(alloc, out, policy, audit.as_slice())
 }
 
+/// Checks the gate's audit in this version as a line changes it.
+fn tell_check_of(
+    alloc: Global,
+    out: &mut String,
+    version: AuditVersion,
+    gate: &Gate,
+    policy: &Policy,
+    line: &str,
+) -> Result<(), OutOfMemory> {
+    let mut audit = audit_of(alloc, version, gate)?;
+    tell_changed(alloc, out, policy, &mut audit, line)
+}
+
 /// Checks the gate's audit in this version as each line changes it.
 pub(crate) fn tell_checks(
     alloc: Global,
@@ -134,8 +180,7 @@ pub(crate) fn tell_checks(
     text: &str,
 ) -> Result<(), OutOfMemory> {
     for line in text.lines() {
-        let mut audit = audit_of(alloc, version, gate)?;
-        tell_changed(alloc, out, policy, &mut audit, line)?;
+        tell_check_of(alloc, out, version, gate, policy, line)?;
     }
     Ok(())
 }
@@ -149,6 +194,31 @@ fn choice_of(words: &str) -> Option<Choice> {
     }
 }
 
+/// Puts what was shown, and how that ended.
+fn put_shown(
+    out: &mut String,
+    shown: &[u8],
+    fault: Option<AuditingFault>,
+) -> Result<(), OutOfMemory> {
+    put_bytes(out, shown)?;
+    put_ended(out, fault)
+}
+
+/// Shows the records of an audit that were chosen.
+fn show_chosen(
+    alloc: Global,
+    out: &mut String,
+    policy: &Policy,
+    choice: &Choice,
+    audit: &[u8],
+    limits: Limits,
+) -> Result<(), OutOfMemory> {
+    let mut writer = Counted::new(Sips::new(alloc, limits));
+    let ended = show_audit(alloc, policy, choice, audit, &mut writer);
+    let shown = writer.into_inner().taken;
+    put_shown(out, shown.as_slice(), ended.err())
+}
+
 /// Shows the records of the gate's audit in this version that the words choose.
 pub(crate) fn tell_shown(
     alloc: Global,
@@ -159,12 +229,9 @@ pub(crate) fn tell_shown(
     limits: Limits,
     words: &str,
 ) -> Result<(), OutOfMemory> {
-    let audit = audit_of(alloc, version, gate)?;
-    let mut writer = Counted::new(Sips::new(alloc, limits));
     let Some(choice) = choice_of(words) else {
         return put(out, "no such name\n");
     };
-    let ended = show_audit(alloc, policy, &choice, audit.as_slice(), &mut writer);
-    put_bytes(out, writer.into_inner().taken.as_slice())?;
-    put_ended(out, ended.err())
+    let audit = audit_of(alloc, version, gate)?;
+    show_chosen(alloc, out, policy, &choice, audit.as_slice(), limits)
 }

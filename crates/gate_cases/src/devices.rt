@@ -21,6 +21,23 @@ pub(crate) struct Limits {
     pub(crate) interrupts: usize,
 }
 
+/// Large pieces: all that a call has room for.
+pub(crate) const LARGE: Limits = Limits {
+    piece: usize::MAX,
+    sip: usize::MAX,
+    reads: usize::MAX,
+    writes: usize::MAX,
+    room: usize::MAX,
+    interrupts: 0,
+};
+
+/// A byte at a time.
+pub(crate) const BYTE_BY_BYTE: Limits = Limits {
+    piece: 1,
+    sip: 1,
+    ..LARGE
+};
+
 /// How often the next call is interrupted still.
 #[derive(Clone, Copy)]
 struct Interrupts {

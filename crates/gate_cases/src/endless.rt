@@ -35,6 +35,41 @@ impl Read for Endless<'_> {
     }
 }
 
+/// Puts what was written, in hex, how the run ended, and how often it read.
+fn put_endless(
+    alloc: Global,
+    out: &mut String,
+    written: &[u8],
+    end: End,
+    reads: u64,
+) -> Result<(), OutOfMemory> {
+    put_hex(alloc, out, written)?;
+    writeln!(out, "{end}, {reads} reads")?;
+    Ok(())
+}
+
+/// Runs a connection that is sent the bytes again and again, with so many reads at most.
+fn run_endless(
+    alloc: Global,
+    out: &mut String,
+    gate: &mut Gate,
+    limits: Limits,
+    most: u64,
+    bytes: &[u8],
+) -> Result<(), OutOfMemory> {
+    let mut reader = Counted::new(Endless {
+        bytes,
+        rest: &[],
+        piece: limits.piece,
+        reads: 0,
+    });
+    let mut writer = Counted::new(Sips::new(alloc, limits));
+    let end = End::Pipe(run_pipe_within(alloc, gate, 1, &mut reader, &mut writer, most));
+    let reads = reader.into_inner().reads;
+    let written = writer.into_inner().taken;
+    put_endless(alloc, out, written.as_slice(), end, reads)
+}
+
 /// Runs a connection that is sent the bytes again and again, with so many reads at most, and tells how it
 /// ended, how often it read, and what was written, in hex.
 pub(crate) fn tell_endless(
@@ -49,16 +84,5 @@ pub(crate) fn tell_endless(
         return put(out, "no such part\n");
     };
     let bytes = bytes_of(alloc, text)?;
-    let mut reader = Counted::new(Endless {
-        bytes: bytes.as_slice(),
-        rest: &[],
-        piece: limits.piece,
-        reads: 0,
-    });
-    let mut writer = Counted::new(Sips::new(alloc, limits));
-    let end = End::Pipe(run_pipe_within(alloc, gate, 1, &mut reader, &mut writer, most));
-    let reads = reader.into_inner().reads;
-    put_hex(alloc, out, writer.into_inner().taken.as_slice())?;
-    writeln!(out, "{end}, {reads} reads")?;
-    Ok(())
+    run_endless(alloc, out, gate, limits, most, bytes.as_slice())
 }

@@ -8,6 +8,14 @@
 //!   how much the policy holds, and its rules, or what is wrong with the file. Without such a part the case runs under
 //!   the sample policy less its rules that ask for figures.
 //! - `-- migrate`, alone: a policy file. It is told in version 2, or what is wrong with it.
+//! - `-- calls`, alone: calls of the program `gate`, a line each, the program's name being the first word. It is told what
+//!   each asks for, or the text that it is answered with: the help, or what is wrong.
+//! - `-- words`, alone: lines of words whose bytes are spelled in hex, the program's name being the first: the text that
+//!   tells the first which is not UTF-8.
+//! - `-- examples`, alone: files, a line each. A file's first line is a call, `.. gate script [--policy FILE] < FILE` or
+//!   the same of `gate pipe`. It is run, and what it prints is compared with what is stored beside its input: of
+//!   `NAME.ENDING` in `NAME.out.ENDING`. The files lie in this crate's folder `data/`, in which `rt ci` runs the program.
+//!   Its file `args` names them, since `rt try` shows a program only the files that its arguments name.
 //! - `-- pipe`: the bytes of a connection, in hex. The verdicts of its records are told, and the bytes that it was sent.
 //! - `-- script`: a script; `-- script-in-hex`: its bytes in hex. What it prints is told.
 //! - `-- again`: the lines of a script, each a run of its own, and run again where its step was refused, as for want of
@@ -43,8 +51,10 @@
 #![tactic(auto)]
 
 mod audits;
+mod calls;
 mod devices;
 mod endless;
+mod examples;
 mod patience;
 mod policies;
 mod runs;
@@ -52,7 +62,9 @@ mod sessions;
 mod texts;
 mod trials;
 
-use devices::Limits;
+use calls::{tell_calls, tell_words};
+use devices::{BYTE_BY_BYTE, LARGE, Limits};
+use examples::tell_examples;
 use gx_history::policy::Policy;
 use gx_policyfile::{SAMPLE, read_policy};
 use gx_server::{open_gate, sample_policy, told_of_policy};
@@ -65,41 +77,48 @@ use std::io;
 use std::io::Read as _;
 use texts::{bytes_of, put, put_bytes};
 
-/// Large pieces: all that a call has room for.
-const LARGE: Limits = Limits {
-    piece: usize::MAX,
-    sip: usize::MAX,
-    reads: usize::MAX,
-    writes: usize::MAX,
-    room: usize::MAX,
-    interrupts: 0,
-};
-
-const BYTE_BY_BYTE: Limits = Limits {
-    piece: 1,
-    sip: 1,
-    ..LARGE
-};
-
 /// Runs the parts on a new gate: under the policy of the file, if there is one. `policy` is what the gate opens on.
 fn run_once(
     alloc: Global,
+    out: &mut String,
     file: Option<&[u8]>,
     policy: &Policy,
     parts: &str,
     usual: Limits,
-) -> Result<String, OutOfMemory> {
-    let mut out = String::new(alloc);
+) -> Result<(), OutOfMemory> {
     match open_gate(alloc, file) {
         Ok(gate) => {
             let mut gate = gate;
-            let told = tell_parts(alloc, &mut out, &mut gate, policy, parts, usual);
+            let told = tell_parts(alloc, out, &mut gate, policy, parts, usual);
             gate.close();
-            told?;
+            told
         }
-        Err(fault) => put_fault(&mut out, &fault)?,
+        Err(fault) => put_fault(out, &fault),
     }
-    Ok(out)
+}
+
+/// Puts what was told over devices of both kinds: once, where it is the same.
+fn put_both(out: &mut String, large: &str, byte_by_byte: &str) -> Result<(), OutOfMemory> {
+    put(out, large)?;
+    if byte_by_byte == large {
+        return Ok(());
+    }
+    put(out, "byte by byte:\n")?;
+    put(out, byte_by_byte)
+}
+
+/// Runs the parts byte by byte, behind what was told of them with large pieces.
+fn run_byte_by_byte(
+    alloc: Global,
+    out: &mut String,
+    file: Option<&[u8]>,
+    policy: &Policy,
+    parts: &str,
+    large: &str,
+) -> Result<(), OutOfMemory> {
+    let mut told = String::new(alloc);
+    run_once(alloc, &mut told, file, policy, parts, BYTE_BY_BYTE)?;
+    put_both(out, large, told.as_str())
 }
 
 /// Runs the parts over devices of both kinds.
@@ -110,23 +129,34 @@ fn run(
     policy: &Policy,
     parts: &str,
 ) -> Result<(), OutOfMemory> {
-    let large = run_once(alloc, file, policy, parts, LARGE)?;
-    let byte_by_byte = run_once(alloc, file, policy, parts, BYTE_BY_BYTE)?;
-    put(out, large.as_str())?;
-    if byte_by_byte.as_str() == large.as_str() {
-        return Ok(());
-    }
-    put(out, "byte by byte:\n")?;
-    put(out, byte_by_byte.as_str())
+    let mut told = String::new(alloc);
+    run_once(alloc, &mut told, file, policy, parts, LARGE)?;
+    run_byte_by_byte(alloc, out, file, policy, parts, told.as_str())
 }
 
-/// Tells the rules of a policy file, and runs the parts under it.
-fn run_under(alloc: Global, out: &mut String, file: &[u8], parts: &str) -> Result<(), OutOfMemory> {
+/// Tells the rules of a policy, and runs the parts under its file.
+fn run_ruled(
+    alloc: Global,
+    out: &mut String,
+    file: &[u8],
+    policy: &Policy,
+    parts: &str,
+) -> Result<(), OutOfMemory> {
+    put_rules(out, policy)?;
+    run(alloc, out, Some(file), policy, parts)
+}
+
+/// Puts how much a policy file holds, tells its rules, and runs the parts under it.
+fn run_under(
+    alloc: Global,
+    out: &mut String,
+    line: &[u8],
+    file: &[u8],
+    parts: &str,
+) -> Result<(), OutOfMemory> {
+    put_bytes(out, line)?;
     match read_policy(alloc, file) {
-        Ok(policy) => {
-            put_rules(out, &policy)?;
-            run(alloc, out, Some(file), &policy, parts)
-        }
+        Ok(policy) => run_ruled(alloc, out, file, &policy, parts),
         Err(_) => Err(OutOfMemory),
     }
 }
@@ -134,12 +164,20 @@ fn run_under(alloc: Global, out: &mut String, file: &[u8], parts: &str) -> Resul
 /// Tells of a policy file, and runs the parts under it.
 fn tell_file(alloc: Global, out: &mut String, file: &[u8], parts: &str) -> Result<(), OutOfMemory> {
     match told_of_policy(alloc, file) {
-        Ok(line) => {
-            put_bytes(out, line.as_slice())?;
-            run_under(alloc, out, file, parts)
-        }
+        Ok(line) => run_under(alloc, out, line.as_slice(), file, parts),
         Err(fault) => put_fault(out, &fault),
     }
+}
+
+/// Tells of a policy file whose bytes are in hex, and runs the parts under it.
+fn tell_hex_file(
+    alloc: Global,
+    out: &mut String,
+    text: &str,
+    parts: &str,
+) -> Result<(), OutOfMemory> {
+    let file = bytes_of(alloc, text)?;
+    tell_file(alloc, out, file.as_slice(), parts)
 }
 
 /// The sample policy's file with a text replaced, as the lines `old:` and `new:` say.
@@ -149,60 +187,83 @@ fn changed_sample(alloc: Global, change: &str) -> Result<String, OutOfMemory> {
     Ok(SAMPLE.replacen(alloc, old, new.trim(), 1)?)
 }
 
+/// Tells of the sample policy's file as it was changed, and runs the parts under it.
+fn tell_changed_sample(
+    alloc: Global,
+    out: &mut String,
+    change: &str,
+    parts: &str,
+) -> Result<(), OutOfMemory> {
+    let file = changed_sample(alloc, change)?;
+    tell_file(alloc, out, file.as_bytes(), parts)
+}
+
 /// Runs a case: its first part may be a policy.
 fn answer(
-    alloc: Global,
+    rt: &HostRuntime,
     out: &mut String,
     sample: &Policy,
     parts: &str,
 ) -> Result<(), OutOfMemory> {
+    let alloc = rt.alloc();
     let (first, rest) = parts.split_once("\n-- ").unwrap_or((parts, ""));
     let (kind, text) = first.split_once('\n').unwrap_or((first, ""));
     match kind {
         "policy" => tell_file(alloc, out, text.as_bytes(), rest),
-        "policy-in-hex" => {
-            let file = bytes_of(alloc, text)?;
-            tell_file(alloc, out, file.as_slice(), rest)
-        }
+        "policy-in-hex" => tell_hex_file(alloc, out, text, rest),
         "migrate" => put_migrated(alloc, out, text.as_bytes()),
-        "sample" => {
-            let file = changed_sample(alloc, text)?;
-            tell_file(alloc, out, file.as_bytes(), rest)
-        }
+        "sample" => tell_changed_sample(alloc, out, text, rest),
+        "calls" => tell_calls(alloc, out, text),
+        "words" => tell_words(alloc, out, text),
+        "examples" => tell_examples(rt, out, text),
         _ => run(alloc, out, None, sample, parts),
     }
 }
 
+/// Puts the title of a case.
+fn put_title(out: &mut String, title: &str) -> Result<(), OutOfMemory> {
+    put(out, "== ")?;
+    put(out, title.strip_prefix("== ").unwrap_or(title))?;
+    put(out, "\n")
+}
+
+/// Runs a case, behind its title.
+fn answer_case(
+    rt: &HostRuntime,
+    out: &mut String,
+    sample: &Policy,
+    case: &str,
+) -> Result<(), OutOfMemory> {
+    let (title, parts) = case.split_once("\n-- ").unwrap_or((case, ""));
+    put_title(out, title)?;
+    answer(rt, out, sample, parts)
+}
+
 /// Runs the cases of a text.
 fn answer_all(
-    alloc: Global,
+    rt: &HostRuntime,
     out: &mut String,
     sample: &Policy,
     text: &str,
 ) -> Result<(), OutOfMemory> {
     for case in text.split("\n== ") {
-        let (title, parts) = case.split_once("\n-- ").unwrap_or((case, ""));
-        put(out, "== ")?;
-        put(out, title.strip_prefix("== ").unwrap_or(title))?;
-        put(out, "\n")?;
-        answer(alloc, out, sample, parts)?;
+        answer_case(rt, out, sample, case)?;
     }
     Ok(())
 }
 
-/// What is printed of the cases of a text.
-fn answered(alloc: Global, text: &str) -> Result<String, OutOfMemory> {
-    let sample = sample_policy(alloc)?;
-    let mut out = String::new(alloc);
-    answer_all(alloc, &mut out, &sample, text)?;
-    Ok(out)
+/// Runs the cases of a text, most of them under the sample policy.
+fn answer_text(rt: &HostRuntime, out: &mut String, text: &str) -> Result<(), OutOfMemory> {
+    let sample = sample_policy(rt.alloc())?;
+    answer_all(rt, out, &sample, text)
 }
 
 fn main(rt: HostRuntime) -> io::Result<()> {
     let mut text = String::new(rt.alloc());
     rt.reader().read_to_string(&mut text)?;
-    match answered(rt.alloc(), text.as_str()) {
-        Ok(said) => print!(rt; "{said}"),
+    let mut out = String::new(rt.alloc());
+    match answer_text(&rt, &mut out, text.as_str()) {
+        Ok(()) => print!(rt; "{out}"),
         Err(OutOfMemory) => Err(io::Error::from(io::ErrorKind::OutOfMemory)),
     }
 }

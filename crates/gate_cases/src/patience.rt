@@ -120,6 +120,43 @@ fn answered(
     Ok(written)
 }
 
+/// Puts the turn last that begins behind so many bytes of the input, and answers where it ends.
+fn put_turn(
+    alloc: Global,
+    policy: &Policy,
+    kind: Kind,
+    limits: Limits,
+    input: &[u8],
+    begin: usize,
+    turns: &mut Vec<Turn>,
+) -> Result<usize, OutOfMemory> {
+    let (_, rest) = input.split_at(begin.min(input.len()));
+    let asked = first_of(kind, rest);
+    let end = begin.saturating_add(asked).min(input.len());
+    let answered = answered(alloc, policy, kind, limits, &input[..end])?;
+    turns.push(Turn { asked, answered })?;
+    Ok(end)
+}
+
+/// Puts the turns of the input last.
+fn put_turns(
+    alloc: Global,
+    policy: &Policy,
+    kind: Kind,
+    limits: Limits,
+    input: &[u8],
+    turns: &mut Vec<Turn>,
+) -> Result<(), OutOfMemory> {
+    let mut end = 0usize;
+    for _ in 0..MOST {
+        if end >= input.len() {
+            break;
+        }
+        end = put_turn(alloc, policy, kind, limits, input, end, turns)?;
+    }
+    Ok(())
+}
+
 /// The turns of the input.
 fn turns_of(
     alloc: Global,
@@ -129,19 +166,7 @@ fn turns_of(
     input: &[u8],
 ) -> Result<Vec<Turn>, OutOfMemory> {
     let mut turns = Vec::new(alloc);
-    let mut rest = input;
-    let mut end = 0usize;
-    for _ in 0..MOST {
-        if rest.is_empty() {
-            break;
-        }
-        let (first, others) = rest.split_at(first_of(kind, rest));
-        rest = others;
-        end = end.saturating_add(first.len()).min(input.len());
-        let asked = first.len();
-        let answered = answered(alloc, policy, kind, limits, &input[..end])?;
-        turns.push(Turn { asked, answered })?;
-    }
+    put_turns(alloc, policy, kind, limits, input, &mut turns)?;
     Ok(turns)
 }
 
@@ -154,6 +179,7 @@ fn waited(
     input: &[u8],
     turns: &[Turn],
 ) -> Result<End, OutOfMemory> {
+    let mut gate = Gate::open(alloc, policy)?;
     let passed_on = Cell::new(0);
     let mut reader = Counted::new(Asks {
         rest: input,
@@ -168,10 +194,25 @@ fn waited(
         sip: limits.sip,
         passed_on: &passed_on,
     });
-    let mut gate = Gate::open(alloc, policy)?;
     let end = kind.run(alloc, &mut gate, &mut reader, &mut writer);
     gate.close();
     Ok(end)
+}
+
+/// Runs the turns on a gate of their own, and tells how that ended.
+fn tell_waited(
+    alloc: Global,
+    out: &mut String,
+    policy: &Policy,
+    kind: Kind,
+    limits: Limits,
+    input: &[u8],
+    turns: &[Turn],
+) -> Result<(), OutOfMemory> {
+    let end = waited(alloc, policy, kind, limits, input, turns)?;
+    let count = turns.len();
+    writeln!(out, "{end}; {count} turns")?;
+    Ok(())
 }
 
 /// Runs an input whose peer waits for each answer, on a gate of its own, and tells how it ended.
@@ -184,7 +225,5 @@ pub(crate) fn tell_patience(
     input: &[u8],
 ) -> Result<(), OutOfMemory> {
     let turns = turns_of(alloc, policy, kind, limits, input)?;
-    let end = waited(alloc, policy, kind, limits, input, turns.as_slice())?;
-    writeln!(out, "{end}; {} turns", turns.len())?;
-    Ok(())
+    tell_waited(alloc, out, policy, kind, limits, input, turns.as_slice())
 }

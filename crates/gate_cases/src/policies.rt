@@ -32,11 +32,28 @@ fn count_text(count: Count) -> &'static str {
     }
 }
 
+/// Puts a name behind a space.
+fn put_name(out: &mut String, name: &[u8]) -> Result<(), OutOfMemory> {
+    put(out, " ")?;
+    put(out, text_of(name))
+}
+
 fn put_stocks(out: &mut String, stocks: &[Symbol]) -> Result<(), OutOfMemory> {
     for stock in stocks {
-        let name = text_of(&stock.bytes);
-        write!(out, " {name}")?;
+        put_name(out, &stock.bytes)?;
     }
+    Ok(())
+}
+
+fn put_limit(out: &mut String, limit: u64) -> Result<(), OutOfMemory> {
+    write!(out, " {limit}")?;
+    Ok(())
+}
+
+/// Puts a limit, and what it counts.
+fn put_figure(out: &mut String, limit: u64, count: Count) -> Result<(), OutOfMemory> {
+    let count = count_text(count);
+    write!(out, " {limit} {count}")?;
     Ok(())
 }
 
@@ -52,16 +69,11 @@ fn put_settings(out: &mut String, kind: &RuleKind) -> Result<(), OutOfMemory> {
     match kind {
         RuleKind::Halt(stocks) | RuleKind::Restricted(stocks) => put_stocks(out, stocks.as_slice()),
         RuleKind::OrderShares(limit) | RuleKind::OrderValue(limit) | RuleKind::Collar(limit) => {
-            write!(out, " {limit}")?;
-            Ok(())
+            put_limit(out, *limit)
         }
         RuleKind::GrossShares(limit, count)
         | RuleKind::GrossValue(limit, count)
-        | RuleKind::NetShares(limit, count) => {
-            let count = count_text(*count);
-            write!(out, " {limit} {count}")?;
-            Ok(())
-        }
+        | RuleKind::NetShares(limit, count) => put_figure(out, *limit, *count),
         RuleKind::Rate(rate, count) => put_counted(out, rate.limit, rate.window, *count),
         RuleKind::Repeat(repeat, count) => put_counted(out, repeat.limit, repeat.span, *count),
         RuleKind::NoShort | RuleKind::NoIso | RuleKind::OddLot => Ok(()),
@@ -71,20 +83,30 @@ fn put_settings(out: &mut String, kind: &RuleKind) -> Result<(), OutOfMemory> {
 fn put_accounts(out: &mut String, accounts: &[AccountName]) -> Result<(), OutOfMemory> {
     put(out, " for")?;
     for account in accounts {
-        let name = text_of(&account.bytes);
-        write!(out, " {name}")?;
+        put_name(out, &account.bytes)?;
     }
     Ok(())
 }
 
-fn put_rule(out: &mut String, rule: &FileRule) -> Result<(), OutOfMemory> {
-    let name = text_of(&rule.name.bytes);
-    let kind = kind_text(&rule.kind);
-    write!(out, "{name}: {kind}")?;
-    put_settings(out, &rule.kind)?;
-    if let Scope::Only(accounts) = &rule.scope {
-        put_accounts(out, accounts.as_slice())?;
+/// Puts the accounts that a rule is for, where it is not for all.
+fn put_scope(out: &mut String, scope: &Scope) -> Result<(), OutOfMemory> {
+    match scope {
+        Scope::Only(accounts) => put_accounts(out, accounts.as_slice()),
+        Scope::All => Ok(()),
     }
+}
+
+/// Puts the name of a rule and its kind.
+fn put_kind(out: &mut String, rule: &FileRule) -> Result<(), OutOfMemory> {
+    put(out, text_of(&rule.name.bytes))?;
+    put(out, ": ")?;
+    put(out, kind_text(&rule.kind))
+}
+
+fn put_rule(out: &mut String, rule: &FileRule) -> Result<(), OutOfMemory> {
+    put_kind(out, rule)?;
+    put_settings(out, &rule.kind)?;
+    put_scope(out, &rule.scope)?;
     put(out, "\n")
 }
 

@@ -7,12 +7,13 @@ use crate::devices::{Drips, Limits, Sips};
 use crate::endless::tell_endless;
 use crate::patience::tell_patience;
 use crate::sessions::tell_session;
-use crate::texts::{bytes_of, put, put_bytes, text_of};
+use crate::texts::{bytes_of, put, put_bytes, put_line, text_of};
 use crate::trials::{Trial, Varied, tell_trials};
-use gx_audit::AuditVersion::{One, Two};
+use gx_audit_bytes::AuditVersion::{One, Two};
 use gx_core::Gate;
 use gx_devices::Counted;
 use gx_history::policy::Policy;
+use gx_history::record::Record;
 use gx_script::outcome_line;
 use gx_scripting::{Explained, run_script};
 use gx_server::Noted;
@@ -113,6 +114,21 @@ pub(crate) fn run_on(
     }
 }
 
+/// Puts the verdict of a record.
+fn put_verdict(alloc: Global, out: &mut String, entry: &Record) -> Result<(), OutOfMemory> {
+    let content = entry.content();
+    let line = outcome_line(alloc, content.number, &content.verdict)?;
+    put_bytes(out, line.as_slice())
+}
+
+/// Puts the verdicts of these records, a line each.
+fn put_records(alloc: Global, out: &mut String, records: &[Record]) -> Result<(), OutOfMemory> {
+    for entry in records {
+        put_verdict(alloc, out, entry)?;
+    }
+    Ok(())
+}
+
 /// Puts the verdicts of the records from this number on, a line each.
 pub(crate) fn put_verdicts(
     alloc: Global,
@@ -120,26 +136,33 @@ pub(crate) fn put_verdicts(
     gate: &Gate,
     from: u64,
 ) -> Result<(), OutOfMemory> {
-    for record in gate.records(from, u64::MAX)?.as_slice() {
-        let content = record.content();
-        let line = outcome_line(alloc, content.number, &content.verdict)?;
-        put_bytes(out, line.as_slice())?;
+    let records = gate.records(from, u64::MAX)?;
+    put_records(alloc, out, records.as_slice())
+}
+
+/// Puts how often the devices of a run failed, where they did.
+fn put_failed(out: &mut String, ended: &Ended) -> Result<(), OutOfMemory> {
+    let (reads, writes) = (ended.failed_reads, ended.failed_writes);
+    if reads > 0 || writes > 0 {
+        write!(out, "; {reads} reads and {writes} writes failed")?;
     }
     Ok(())
 }
 
-/// Puts how a run ended, and how often its devices failed and why they last did, where they did.
-pub(crate) fn put_end(out: &mut String, ended: &Ended) -> Result<(), OutOfMemory> {
-    let end = &ended.end;
-    let (reads, writes) = (ended.failed_reads, ended.failed_writes);
-    write!(out, "{end}")?;
-    if reads > 0 || writes > 0 {
-        write!(out, "; {reads} reads and {writes} writes failed")?;
-    }
-    if let Some(cause) = ended.cause {
+/// Puts why the devices of a run last failed, where they did, and ends the line.
+fn put_cause(out: &mut String, cause: Option<io::Error>) -> Result<(), OutOfMemory> {
+    if let Some(cause) = cause {
         write!(out, ": {cause}")?;
     }
     put(out, "\n")
+}
+
+/// Puts how a run ended, and how often its devices failed and why they last did, where they did.
+pub(crate) fn put_end(out: &mut String, ended: &Ended) -> Result<(), OutOfMemory> {
+    let end = ended.end;
+    write!(out, "{end}")?;
+    put_failed(out, ended)?;
+    put_cause(out, ended.cause)
 }
 
 /// Puts bytes in hex on a line of their own, where there are any.
@@ -148,8 +171,20 @@ pub(crate) fn put_hex(alloc: Global, out: &mut String, bytes: &[u8]) -> Result<(
         return Ok(());
     }
     let digits = hex::encode(alloc, bytes)?;
-    put(out, digits.as_str())?;
-    put(out, "\n")
+    put_line(out, digits.as_str())
+}
+
+/// Puts the verdicts of a connection's records from this number on, the bytes written, in hex, and how it ended.
+fn put_piped(
+    alloc: Global,
+    out: &mut String,
+    gate: &Gate,
+    from: u64,
+    ended: &Ended,
+) -> Result<(), OutOfMemory> {
+    put_verdicts(alloc, out, gate, from)?;
+    put_hex(alloc, out, ended.written.as_slice())?;
+    put_end(out, ended)
 }
 
 /// Runs a connection, and tells of it: the verdicts of its records, and the bytes written, in hex.
@@ -162,9 +197,28 @@ fn tell_pipe(
 ) -> Result<(), OutOfMemory> {
     let from = gate.length().saturating_add(1);
     let ended = run_on(Kind::Pipe, alloc, gate, limits, input);
-    put_verdicts(alloc, out, gate, from)?;
-    put_hex(alloc, out, ended.written.as_slice())?;
-    put_end(out, &ended)
+    put_piped(alloc, out, gate, from, &ended)
+}
+
+/// Runs a connection whose bytes are in hex, and tells of it.
+fn tell_pipe_in_hex(
+    alloc: Global,
+    out: &mut String,
+    gate: &mut Gate,
+    limits: Limits,
+    text: &str,
+) -> Result<(), OutOfMemory> {
+    let input = bytes_of(alloc, text)?;
+    tell_pipe(alloc, out, gate, limits, input.as_slice())
+}
+
+/// Puts what a script printed, its last line ended, and how it ended.
+fn put_printed(out: &mut String, ended: &Ended) -> Result<(), OutOfMemory> {
+    put_bytes(out, ended.written.as_slice())?;
+    if ended.written.last().is_some_and(|last| *last != b'\n') {
+        put(out, "\n")?;
+    }
+    put_end(out, ended)
 }
 
 /// Runs a script, and tells of it: what it printed.
@@ -176,11 +230,19 @@ fn tell_script(
     input: &[u8],
 ) -> Result<(), OutOfMemory> {
     let ended = run_on(Kind::Script, alloc, gate, limits, input);
-    put_bytes(out, ended.written.as_slice())?;
-    if ended.written.last().is_some_and(|last| *last != b'\n') {
-        put(out, "\n")?;
-    }
-    put_end(out, &ended)
+    put_printed(out, &ended)
+}
+
+/// Runs a script whose bytes are in hex, and tells of it.
+fn tell_script_in_hex(
+    alloc: Global,
+    out: &mut String,
+    gate: &mut Gate,
+    limits: Limits,
+    text: &str,
+) -> Result<(), OutOfMemory> {
+    let input = bytes_of(alloc, text)?;
+    tell_script(alloc, out, gate, limits, input.as_slice())
 }
 
 /// Makes the step of a script's line, and makes it again where it left no record: it was refused then.
@@ -233,8 +295,39 @@ fn limits_of(words: &str, usual: Limits) -> Option<Limits> {
     }
 }
 
-/// Runs a part that has gates of its own, or none: a connection tried in each way, or a session.
-fn tell_apart(
+/// Runs a connection or a script whose peer waits for each answer, on gates of its own.
+fn tell_in_turn(
+    alloc: Global,
+    out: &mut String,
+    policy: &Policy,
+    kind: &str,
+    limits: Limits,
+    text: &str,
+) -> Result<(), OutOfMemory> {
+    match kind {
+        "pipe-in-turn" => {
+            let input = bytes_of(alloc, text)?;
+            tell_patience(alloc, out, policy, Kind::Pipe, limits, input.as_slice())
+        }
+        _ => {
+            let lines = format!(in alloc; "{text}\n")?;
+            tell_patience(alloc, out, policy, Kind::Script, limits, lines.as_bytes())
+        }
+    }
+}
+
+/// What is varied from run to run, where a connection is tried in this way.
+fn varied_by(kind: &str) -> Option<Varied> {
+    match kind {
+        "pipe-reads" => Some(Varied::Reads),
+        "pipe-writes" => Some(Varied::Writes),
+        "pipe-lengths" => Some(Varied::Lengths),
+        _ => None,
+    }
+}
+
+/// Tries a connection again and again, each time on a gate of its own.
+fn tell_varied(
     alloc: Global,
     out: &mut String,
     policy: &Policy,
@@ -242,27 +335,57 @@ fn tell_apart(
     words: &str,
     text: &str,
 ) -> Result<(), OutOfMemory> {
-    let varied = match kind {
-        "session" => return tell_session(alloc, out, words, text),
-        "pipe-reads" => Varied::Reads,
-        "pipe-writes" => Varied::Writes,
-        "pipe-lengths" => Varied::Lengths,
-        _ => return put(out, "no such part\n"),
-    };
     let (piece, sip) = words.split_once(' ').unwrap_or((words, words));
-    let (Ok(piece), Ok(sip)) = (piece.parse(), sip.parse()) else {
+    let (Some(varied), Ok(piece), Ok(sip)) = (varied_by(kind), piece.parse(), sip.parse()) else {
         return put(out, "no such part\n");
     };
     let input = bytes_of(alloc, text)?;
-    let input = input.as_slice();
     let trial = Trial {
         policy,
         varied,
         piece,
         sip,
-        input,
+        input: input.as_slice(),
     };
     tell_trials(alloc, out, trial)
+}
+
+/// Runs a part on the case's gate, over devices of these limits.
+fn tell_run(
+    alloc: Global,
+    out: &mut String,
+    gate: &mut Gate,
+    kind: &str,
+    limits: Limits,
+    text: &str,
+) -> Result<(), OutOfMemory> {
+    match kind {
+        "pipe" => tell_pipe_in_hex(alloc, out, gate, limits, text),
+        "script" => tell_script(alloc, out, gate, limits, text.as_bytes()),
+        "script-in-hex" => tell_script_in_hex(alloc, out, gate, limits, text),
+        "again" => tell_again(alloc, out, gate, limits, text),
+        _ => tell_audit(alloc, out, gate, limits),
+    }
+}
+
+/// Tells of the audit of the case's gate, or of its records.
+fn tell_audited(
+    alloc: Global,
+    out: &mut String,
+    gate: &Gate,
+    policy: &Policy,
+    kind: &str,
+    words: &str,
+    text: &str,
+    usual: Limits,
+) -> Result<(), OutOfMemory> {
+    match kind {
+        "audit-1" => tell_audit_1(alloc, out, gate),
+        "check" => tell_checks(alloc, out, One, gate, policy, text),
+        "check-2" => tell_checks(alloc, out, Two, gate, policy, text),
+        "show" => tell_shown(alloc, out, One, gate, policy, usual, words),
+        _ => tell_shown(alloc, out, Two, gate, policy, usual, words),
+    }
 }
 
 /// Runs a part of a case: its first line says what it is, and names limits where it has its own.
@@ -277,44 +400,34 @@ fn tell_part(
     let (head, text) = part.split_once('\n').unwrap_or((part, ""));
     let (kind, words) = head.split_once(' ').unwrap_or((head, ""));
     match (kind, limits_of(words, usual)) {
-        ("pipe", Some(limits)) => {
-            let input = bytes_of(alloc, text)?;
-            tell_pipe(alloc, out, gate, limits, input.as_slice())
-        }
         ("pipe-endless", _) => tell_endless(alloc, out, gate, usual, words, text),
-        ("pipe-in-turn", Some(limits)) => {
-            let input = bytes_of(alloc, text)?;
-            tell_patience(alloc, out, policy, Kind::Pipe, limits, input.as_slice())
+        ("session", _) => tell_session(alloc, out, words, text),
+        ("audit-1" | "check" | "check-2" | "show" | "show-2", _) => {
+            tell_audited(alloc, out, gate, policy, kind, words, text, usual)
         }
-        ("script-in-turn", Some(limits)) => {
-            let mut lines = String::from_str(alloc, text)?;
-            put(&mut lines, "\n")?;
-            tell_patience(alloc, out, policy, Kind::Script, limits, lines.as_bytes())
+        ("pipe" | "script" | "script-in-hex" | "again" | "audit", Some(limits)) => {
+            tell_run(alloc, out, gate, kind, limits, text)
         }
-        ("again", Some(limits)) => tell_again(alloc, out, gate, limits, text),
-        ("audit", Some(limits)) => tell_audit(alloc, out, gate, limits),
-        ("audit-1", _) => tell_audit_1(alloc, out, gate),
-        ("check", _) => tell_checks(alloc, out, One, gate, policy, text),
-        ("check-2", _) => tell_checks(alloc, out, Two, gate, policy, text),
-        ("show", _) => tell_shown(alloc, out, One, gate, policy, usual, words),
-        ("show-2", _) => tell_shown(alloc, out, Two, gate, policy, usual, words),
-        ("script", Some(limits)) => tell_script(alloc, out, gate, limits, text.as_bytes()),
-        ("script-in-hex", Some(limits)) => {
-            let input = bytes_of(alloc, text)?;
-            tell_script(alloc, out, gate, limits, input.as_slice())
+        ("pipe-in-turn" | "script-in-turn", Some(limits)) => {
+            tell_in_turn(alloc, out, policy, kind, limits, text)
         }
-        _ => tell_apart(alloc, out, policy, kind, words, text),
+        _ => tell_varied(alloc, out, policy, kind, words, text),
     }
 }
 
-/// Puts who is logged in, on which line, and which accounts are killed.
-fn put_state(out: &mut String, gate: &Gate, policy: &Policy) -> Result<(), OutOfMemory> {
+/// Puts which users are logged in, and on which line.
+fn put_users(out: &mut String, gate: &Gate, policy: &Policy) -> Result<(), OutOfMemory> {
     for user in policy.users() {
         if let Some(line) = gate.on(user.name) {
             let name = text_of(&user.name.bytes);
             writeln!(out, "on: {name} {line}")?;
         }
     }
+    Ok(())
+}
+
+/// Puts which accounts are killed.
+fn put_accounts(out: &mut String, gate: &Gate, policy: &Policy) -> Result<(), OutOfMemory> {
     for account in policy.accounts() {
         if gate.is_killed(account.name) {
             let name = text_of(&account.name.bytes);
@@ -322,6 +435,12 @@ fn put_state(out: &mut String, gate: &Gate, policy: &Policy) -> Result<(), OutOf
         }
     }
     Ok(())
+}
+
+/// Puts who is logged in, on which line, and which accounts are killed.
+fn put_state(out: &mut String, gate: &Gate, policy: &Policy) -> Result<(), OutOfMemory> {
+    put_users(out, gate, policy)?;
+    put_accounts(out, gate, policy)
 }
 
 /// Runs the parts of a case on a gate, one after the other; there may be none.

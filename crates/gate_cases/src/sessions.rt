@@ -11,6 +11,12 @@ const BLANK: SessionName = SessionName {
     bytes: *b"          ",
 };
 
+/// What a packet carries whose bytes are in hex.
+fn payload_of(alloc: Global, hex: &str) -> Result<Payload, OutOfMemory> {
+    let bytes = bytes_of(alloc, hex)?;
+    Ok(Payload::new(alloc, bytes.as_slice())?)
+}
+
 /// The packet that a word names, where it names one: its bytes are in hex.
 fn packet_of(alloc: Global, word: &str, hex: &str) -> Result<Option<ClientPacket>, OutOfMemory> {
     match word {
@@ -22,10 +28,7 @@ fn packet_of(alloc: Global, word: &str, hex: &str) -> Result<Option<ClientPacket
             session: BLANK,
             wanted: 1,
         }))),
-        "data" => {
-            let bytes = bytes_of(alloc, hex)?;
-            Ok(Some(ClientPacket::Data(Payload::new(alloc, bytes.as_slice())?)))
-        }
+        "data" => Ok(Some(ClientPacket::Data(payload_of(alloc, hex)?))),
         "heartbeat" => Ok(Some(ClientPacket::Heartbeat)),
         "debug" => Ok(Some(ClientPacket::Debug)),
         "logout" => Ok(Some(ClientPacket::Logout)),
@@ -101,6 +104,22 @@ fn tell_event(
     }
 }
 
+/// Tells what follows the event of a line, which begins with its moment.
+fn tell_line(
+    alloc: Global,
+    out: &mut String,
+    session: &mut Session,
+    line: &str,
+) -> Result<(), OutOfMemory> {
+    put(out, line)?;
+    put(out, ": ")?;
+    let (moment, words) = line.split_once(' ').unwrap_or((line, ""));
+    match moment.parse() {
+        Ok(moment) => tell_event(alloc, out, session, moment, words),
+        Err(_) => put(out, "no moment\n"),
+    }
+}
+
 /// Tells what follows each event of a session that begins at this moment.
 pub(crate) fn tell_session(
     alloc: Global,
@@ -110,13 +129,7 @@ pub(crate) fn tell_session(
 ) -> Result<(), OutOfMemory> {
     let mut session = Session::new(begin.parse().unwrap_or(0));
     for line in lines.lines() {
-        put(out, line)?;
-        put(out, ": ")?;
-        let (moment, words) = line.split_once(' ').unwrap_or((line, ""));
-        match moment.parse() {
-            Ok(moment) => tell_event(alloc, out, &mut session, moment, words)?,
-            Err(_) => put(out, "no moment\n")?,
-        }
+        tell_line(alloc, out, &mut session, line)?;
     }
     Ok(())
 }

@@ -9,6 +9,12 @@ pub(crate) fn put(out: &mut String, text: &str) -> Result<(), OutOfMemory> {
     Ok(())
 }
 
+/// Puts a text at the end, on a line of its own.
+pub(crate) fn put_line(out: &mut String, text: &str) -> Result<(), OutOfMemory> {
+    put(out, text)?;
+    put(out, "\n")
+}
+
 /// Puts bytes at the end, which are a text.
 pub(crate) fn put_bytes(out: &mut String, bytes: &[u8]) -> Result<(), OutOfMemory> {
     put(out, str::from_utf8(bytes).unwrap_or("no UTF-8\n"))

@@ -66,11 +66,16 @@ impl Alike {
             Varied::Lengths => "lengths",
         };
         put(out, what)?;
+        self.put_ranges(out)?;
+        put(out, self.text.as_str())
+    }
+
+    /// Puts which runs these are, and how many bytes they wrote.
+    fn put_ranges(&self, out: &mut String) -> Result<(), OutOfMemory> {
         put_range(out, self.first, self.last)?;
         put(out, ":")?;
         put_range(out, self.least, self.most)?;
-        put(out, " bytes\n")?;
-        put(out, self.text.as_str())
+        put(out, " bytes\n")
     }
 }
 
@@ -143,8 +148,7 @@ fn run_alone(
     let ended = run_on(Kind::Pipe, alloc, &mut gate, limits, input);
     let put = put_left(alloc, text, &gate, &ended, whole);
     gate.close();
-    put?;
-    Ok((ended.written.len(), ended.is_done()))
+    put.and(Ok((ended.written.len(), ended.is_done())))
 }
 
 /// The run of this count.
@@ -192,6 +196,36 @@ fn take(
     Ok(())
 }
 
+/// Makes the run of this count, and takes it to those that end alike.
+fn take_next(
+    alloc: Global,
+    out: &mut String,
+    trial: Trial<'_>,
+    count: usize,
+    whole: &[u8],
+    alike: &mut Alike,
+) -> Result<(), OutOfMemory> {
+    let next = tried(alloc, trial, count, whole)?;
+    take(out, trial.varied, alike, next)
+}
+
+/// Makes the runs behind the first, and tells of them but for the last that end alike.
+fn go_on(
+    alloc: Global,
+    out: &mut String,
+    trial: Trial<'_>,
+    whole: &[u8],
+    alike: &mut Alike,
+) -> Result<(), OutOfMemory> {
+    for count in 1..MOST {
+        if is_last(trial, alike) {
+            break;
+        }
+        take_next(alloc, out, trial, count, whole, alike)?;
+    }
+    Ok(())
+}
+
 /// Makes the runs and tells of them.
 fn put_runs(
     alloc: Global,
@@ -200,13 +234,7 @@ fn put_runs(
     whole: &[u8],
 ) -> Result<(), OutOfMemory> {
     let mut alike = tried(alloc, trial, 0, whole)?;
-    for count in 1..MOST {
-        if is_last(trial, &alike) {
-            break;
-        }
-        let next = tried(alloc, trial, count, whole)?;
-        take(out, trial.varied, &mut alike, next)?;
-    }
+    go_on(alloc, out, trial, whole, &mut alike)?;
     alike.put(out, trial.varied)
 }
 
@@ -219,6 +247,17 @@ fn whole_answer(alloc: Global, trial: Trial<'_>) -> Result<Vec<u8>, OutOfMemory>
     Ok(written)
 }
 
+/// Tells the answer to the whole, and of the runs.
+fn tell_tried(
+    alloc: Global,
+    out: &mut String,
+    trial: Trial<'_>,
+    whole: &[u8],
+) -> Result<(), OutOfMemory> {
+    put_hex(alloc, out, whole)?;
+    put_runs(alloc, out, trial, whole)
+}
+
 /// Tries a connection, and tells of it: the answer to the whole, and the runs.
 pub(crate) fn tell_trials(
     alloc: Global,
@@ -226,6 +265,5 @@ pub(crate) fn tell_trials(
     trial: Trial<'_>,
 ) -> Result<(), OutOfMemory> {
     let whole = whole_answer(alloc, trial)?;
-    put_hex(alloc, out, whole.as_slice())?;
-    put_runs(alloc, out, trial, whole.as_slice())
+    tell_tried(alloc, out, trial, whole.as_slice())
 }

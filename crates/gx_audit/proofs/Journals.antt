@@ -2,12 +2,12 @@
 use Rattle.std.proofs.Common.{◌≡◌, ℕ, ◌+◌, ◌*◌, ◌≤◌, List, [], ◌∷◌, length, drop, refl, ap, ◌∙◌, sym, arith, length-append, length-drop}
 use Rattle.gx_history.specs.declared.policy.PolicyData.{PolicyData}
 use Rattle.gx_history.specs.declared.record.RecordData.{RecordData}
-use Rattle.gx_audit.specs.declared.version.AuditVersion.TheVariants as versions
+use Rattle.gx_audit_bytes.specs.declared.version.AuditVersion.TheVariants as versions
 use Rattle.gx_audit.specs.Auditing.{all_bytes, whole_audit, AreShown}
-use Rattle.gx_audit.specs.Headers.{header_bytes}
-use Rattle.gx_audit.specs.Records.{record_bytes}
+use Rattle.gx_audit_bytes.specs.Headers.{header_bytes}
+use Rattle.gx_audit_bytes.specs.Records.{record_bytes}
 use Rattle.gx_audit.specs.Replaying.{EndsAt, HoldsRecords, journal_size}
-use Rattle.gx_audit.proofs.Fronts.{header_size}
+use Rattle.gx_audit_bytes.proofs.HeaderParts.{header_size}
 use Rattle.gx_audit.proofs.Only.{shown_size}
 
 -- those that end at a place

@@ -1,9 +1,4 @@
-pub mod Fields
-pub mod Messages
-pub mod Requests
-pub mod Rules
-pub mod ReadBack
-pub mod Counts
+pub mod Rest
 pub mod Fronts
 pub mod Walking
 pub mod Only

@@ -12,13 +12,13 @@ use Rattle.gx_history_laws.proofs.Legality.{some_number}
 use Rattle.gx_history_laws.proofs.Order.{some_same}
 use Rattle.gx_audit.specs.declared.fault.AuditFault.{AuditFault}
 use Rattle.gx_audit.specs.declared.fault.AuditFault.TheVariants as faults
-use Rattle.gx_audit.specs.declared.version.AuditVersion.{AuditVersion}
-use Rattle.gx_audit.specs.Versions.{version_of}
-use Rattle.gx_audit.specs.Headers.{front_of}
-use Rattle.gx_audit.specs.Records.{record_bytes}
-use Rattle.gx_audit.specs.Reading.{record_of, IsShown}
+use Rattle.gx_audit_bytes.specs.declared.version.AuditVersion.{AuditVersion}
+use Rattle.gx_audit_bytes.specs.Versions.{version_of}
+use Rattle.gx_audit_bytes.specs.Headers.{front_of}
+use Rattle.gx_audit_bytes.specs.Records.{record_bytes}
+use Rattle.gx_audit_bytes.specs.Reading.{record_of, IsShown}
 use Rattle.gx_audit.specs.Auditing.{all_bytes, whole_audit, AreShown, HasCutHeader, HasOtherHeader, IsAnswer, IsFaultAt, IsFirstFault, IsJudgement, IsOnlyAnswer}
-use Rattle.gx_audit.proofs.ReadBack.{both_true, fields_lie}
+use Rattle.gx_audit_bytes.proofs.ReadBack.{both_true, fields_lie}
 use Rattle.gx_audit.proofs.Fronts.{version_known, begins_so, long_enough, same_header}
 
 -- each record of a legal day follows those before it

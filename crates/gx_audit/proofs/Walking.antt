@@ -8,11 +8,11 @@ use Rattle.gx_history.specs.Verdicts.{IsLegal}
 use Rattle.gx_history_laws.proofs.Pushing.{all_next}
 use Rattle.gx_audit.specs.declared.fault.AuditFault.{AuditFault}
 use Rattle.gx_audit.specs.declared.fault.AuditFault.TheVariants as faults
-use Rattle.gx_audit.specs.declared.version.AuditVersion.{AuditVersion}
-use Rattle.gx_audit.specs.Versions.{version_of}
-use Rattle.gx_audit.specs.Headers.{front_of}
-use Rattle.gx_audit.specs.Records.{record_bytes}
-use Rattle.gx_audit.specs.Reading.{IsShown}
+use Rattle.gx_audit_bytes.specs.declared.version.AuditVersion.{AuditVersion}
+use Rattle.gx_audit_bytes.specs.Versions.{version_of}
+use Rattle.gx_audit_bytes.specs.Headers.{front_of}
+use Rattle.gx_audit_bytes.specs.Records.{record_bytes}
+use Rattle.gx_audit_bytes.specs.Reading.{IsShown}
 use Rattle.gx_audit.specs.Replaying.{EndsAt, IsRecordsFault}
 use Rattle.gx_audit.specs.Auditing.{all_bytes, whole_audit, AreShown, IsAnswer, IsFaultAt, IsRecordFault, IsFirstFault, IsOneMore}
 

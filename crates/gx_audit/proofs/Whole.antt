@@ -6,10 +6,10 @@ use Rattle.gx_history.specs.declared.policy.PolicyData.{PolicyData}
 use Rattle.gx_history.specs.Lists.{slice}
 use Rattle.gx_history.specs.Verdicts.{IsLegal}
 use Rattle.gx_history_laws.proofs.Pushing.{all_next}
-use Rattle.gx_audit.specs.declared.version.AuditVersion.{AuditVersion}
-use Rattle.gx_audit.specs.Headers.{front_of}
-use Rattle.gx_audit.specs.Records.{record_bytes}
-use Rattle.gx_audit.specs.Reading.{IsShown}
+use Rattle.gx_audit_bytes.specs.declared.version.AuditVersion.{AuditVersion}
+use Rattle.gx_audit_bytes.specs.Headers.{front_of}
+use Rattle.gx_audit_bytes.specs.Records.{record_bytes}
+use Rattle.gx_audit_bytes.specs.Reading.{IsShown}
 use Rattle.gx_audit.specs.Auditing.{all_bytes, whole_audit, AreShown, IsLegalAudit}
 use Rattle.gx_audit.proofs.Walking.{no_bytes, more_bytes}
 

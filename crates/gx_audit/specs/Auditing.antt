@@ -7,12 +7,12 @@ use Rattle.gx_history.specs.declared.record.Step.{Step}
 use Rattle.gx_history.specs.Verdicts.{IsLegal, Follows}
 use Rattle.gx_audit.specs.declared.fault.AuditFault.{AuditFault}
 use Rattle.gx_audit.specs.declared.fault.AuditFault.TheVariants as faults
-use Rattle.gx_audit.specs.declared.version.AuditVersion.{AuditVersion}
-use Rattle.gx_audit.specs.declared.version.AuditVersion.TheVariants as versions
-use Rattle.gx_audit.specs.Versions.{version_of}
-use Rattle.gx_audit.specs.Headers.{front_of, header_bytes}
-use Rattle.gx_audit.specs.Records.{record_bytes}
-use Rattle.gx_audit.specs.Reading.{record_of, IsShown}
+use Rattle.gx_audit_bytes.specs.declared.version.AuditVersion.{AuditVersion}
+use Rattle.gx_audit_bytes.specs.declared.version.AuditVersion.TheVariants as versions
+use Rattle.gx_audit_bytes.specs.Versions.{version_of}
+use Rattle.gx_audit_bytes.specs.Headers.{front_of, header_bytes}
+use Rattle.gx_audit_bytes.specs.Records.{record_bytes}
+use Rattle.gx_audit_bytes.specs.Reading.{record_of, IsShown}
 
 -- how many bytes a record has, and a header
 abbrev pub record_size : ℕ

@@ -1,8 +1,2 @@
-pub mod Contents
-pub mod Bodies
-pub mod Versions
-pub mod Records
-pub mod Headers
-pub mod Reading
 pub mod Auditing
 pub mod Replaying

@@ -4,10 +4,10 @@ use Rattle.gx_history.specs.declared.policy.PolicyData.{PolicyData}
 use Rattle.gx_history.specs.declared.record.RecordData.{RecordData}
 use Rattle.gx_audit.specs.declared.fault.AuditFault.{AuditFault}
 use Rattle.gx_audit.specs.declared.fault.AuditFault.TheVariants as faults
-use Rattle.gx_audit.specs.declared.version.AuditVersion.{AuditVersion}
-use Rattle.gx_audit.specs.declared.version.AuditVersion.TheVariants as versions
+use Rattle.gx_audit_bytes.specs.declared.version.AuditVersion.{AuditVersion}
+use Rattle.gx_audit_bytes.specs.declared.version.AuditVersion.TheVariants as versions
 use Rattle.gx_audit.specs.Auditing.{record_size, whole_audit, AreShown, IsFirstFault}
-use Rattle.gx_audit.specs.Headers.{header_bytes}
+use Rattle.gx_audit_bytes.specs.Headers.{header_bytes}
 
 -- the bytes are the audit of these records up to this place, behind which too few are left for another record
 pub record EndsAt (version : AuditVersion) (policy : PolicyData) (bytes : List ℕ) (records : List RecordData) (end : ℕ) : Type 0 where

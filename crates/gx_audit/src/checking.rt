@@ -4,18 +4,16 @@ ghost use Rattle.std.specs.Prelude.{◌≡◌, ◌≢◌, ◌+◌, ◌-◌, ◌<
 ghost use Rattle.gx_history.specs.Verdicts.{next, IsLegal};
 ghost use Rattle.gx_core.specs.declared.outcome.StepFault.TheVariants as stepping;
 ghost use Rattle.gx_audit.specs.Auditing.{with_left, IsAnswer, IsOneMore, IsOnlyAnswer, IsRecordFault, NoneFollows};
-ghost use Rattle.gx_audit.specs.Reading.{record_of, IsAskableStep, IsShown};
+ghost use Rattle.gx_audit_bytes.specs.Reading.{record_of, IsAskableStep, IsShown};
 ghost use Rattle.gx_audit.specs.Replaying.{EndsAt, IsHeaderFault, IsRecordsFault};
-ghost use Rattle.gx_audit.specs.Headers.{front_of, header_bytes};
-ghost use Rattle.gx_audit.specs.Records.{record_bytes};
-ghost use Rattle.gx_audit.specs.Versions.{version_of};
+ghost use Rattle.gx_audit_bytes.specs.Headers.{front_of, header_bytes};
+ghost use Rattle.gx_audit_bytes.specs.Records.{record_bytes};
+ghost use Rattle.gx_audit_bytes.specs.Versions.{version_of};
 
-use crate::draft::{RECORD_SIZE, same_bytes, whole};
 use crate::fault::AuditFault;
-use crate::header::write_header;
-use crate::reading::{is_showable, read_record_in};
-use crate::version::AuditVersion;
-use crate::writing::write_content;
+use gx_audit_bytes::{
+    AuditVersion, RECORD_SIZE, has_bytes, read_record_in, same_bytes, whole, write_header,
+};
 use gx_core::{Gate, Outcome, StepFault};
 use gx_history::policy::Policy;
 use gx_history::record::{RecordData, Step};
@@ -142,7 +140,7 @@ pub(crate) fn follow_records(
 }
 
 /// The bytes from this place on.
-#[tactic(auto, using(crate::proofs::Fields::take_the_rest, crate::proofs::Fields::rest_size))]
+#[tactic(auto, using(crate::proofs::Rest::take_the_rest, crate::proofs::Rest::rest_size))]
 fn behind(bytes: &[u8], at: usize) -> &[u8]
     requires { at ≤ length bytes.now }
     ensures rest { result.now ≡ drop at bytes.now }
@@ -257,17 +255,4 @@ fn left_by(step: Step, outcome: Outcome) -> RecordData
         step,
         verdict: outcome.verdict,
     }
-}
-
-/// Whether the record can be shown, and these are its bytes in this version.
-#[tactic(auto, using(crate::proofs::ReadBack::shown_is_showable, crate::proofs::ReadBack::shown_has_bytes))]
-fn has_bytes(version: AuditVersion, left: &RecordData, bytes: &[u8; RECORD_SIZE]) -> bool
-    ensures shown { IsTrue result → IsShown version left.now }
-    ensures same { IsTrue result → record_bytes version left.now ≡ bytes.now }
-    ensures other { IsFalse result → record_of version bytes.now ≢ Some left.now }
-{
-    if !is_showable(left) {
-        return false;
-    }
-    same_bytes(&write_content(version, left), bytes)
 }

@@ -2,14 +2,11 @@
 
 ghost use Rattle.std.specs.Prelude.{◌≡◌, ◌++◌, IfOk, OnOk, length};
 ghost use Rattle.gx_audit.specs.Auditing.{all_bytes, whole_audit, AreShown, IsLegalAudit};
-ghost use Rattle.gx_audit.specs.Headers.{front_of, header_bytes};
-ghost use Rattle.gx_audit.specs.Reading.{IsShown};
-ghost use Rattle.gx_audit.specs.Records.{record_bytes};
+ghost use Rattle.gx_audit_bytes.specs.Headers.{front_of, header_bytes};
+ghost use Rattle.gx_audit_bytes.specs.Reading.{IsShown};
+ghost use Rattle.gx_audit_bytes.specs.Records.{record_bytes};
 
-use crate::draft::RECORD_SIZE;
-use crate::header::write_header;
-use crate::version::AuditVersion;
-use crate::writing::write_record_in;
+use gx_audit_bytes::{AuditVersion, RECORD_SIZE, write_header, write_record_in};
 use gx_core::Gate;
 use gx_history::record::Record;
 use gx_units::OutOfMemory;

@@ -6,7 +6,7 @@ ghost use Rattle.gx_audit.specs.Replaying.{journal_size, HoldsRecords, IsReplayF
 
 use crate::checking::{follow_records, header_end};
 use crate::fault::AuditFault;
-use crate::version::AuditVersion;
+use gx_audit_bytes::AuditVersion;
 use gx_core::Gate;
 use gx_history::policy::Policy;
 use std::alloc::Global;

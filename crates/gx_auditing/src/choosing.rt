@@ -1,7 +1,7 @@
 //! Which records of an audit are shown.
 
 use crate::places::bytes_at;
-use gx_audit::{AuditVersion, read_record_in};
+use gx_audit_bytes::{AuditVersion, read_record_in};
 use gx_desk::{Action, Command};
 use gx_history::policy::{Policy, Role};
 use gx_history::record::{Asked, Fill, RecordData, Request, Step, Verdict};

@@ -1,7 +1,8 @@
 //! What is wrong with a record that the check refuses.
 
 use crate::places::bytes_at;
-use gx_audit::{AuditFault, AuditVersion, RECORD_SIZE, check_record, read_record_in, wrong_field};
+use gx_audit::{AuditFault, check_record};
+use gx_audit_bytes::{AuditVersion, RECORD_SIZE, read_record_in, wrong_field};
 use gx_core::Gate;
 use gx_history::policy::Policy;
 use gx_history::record::RecordData;

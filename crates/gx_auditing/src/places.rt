@@ -1,6 +1,7 @@
 //! The records of an audit by their numbers.
 
-use gx_audit::{AuditVersion, RECORD_SIZE, record_at};
+use gx_audit::record_at;
+use gx_audit_bytes::{AuditVersion, RECORD_SIZE};
 
 /// Where the first record begins: behind the header, where there is one.
 fn first_place(audit: &[u8]) -> usize {

@@ -5,7 +5,7 @@ ghost use Rattle.std.specs.Prelude.{◌^◌, ◌-◌, ◌<◌};
 use crate::choosing::{Choice, is_chosen};
 use crate::fault::AuditingFault;
 use crate::places::bytes_at;
-use gx_audit::{AuditVersion, RECORD_SIZE, message_shown, read_record_in};
+use gx_audit_bytes::{AuditVersion, RECORD_SIZE, message_shown, read_record_in};
 use gx_devices::{Counted, write_whole};
 use gx_history::policy::Policy;
 use gx_history::record::{Asked, Login, RecordData, Request, Step, Unreadable};

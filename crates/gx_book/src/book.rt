@@ -170,4 +170,7 @@ impl Book {
             true
         });
     }
+
+    /// Lets it go. Its drop is proved here once, and not in each crate that owns one.
+    pub fn let_go(self) {}
 }

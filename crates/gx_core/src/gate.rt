@@ -75,9 +75,15 @@ impl Gate {
         ensures records { IfOk result (λ gate. gate.records ≡ []) }
     {
         let policy = policy.copied(alloc)?;
-        let history = first_history(alloc, &policy)?;
-        // The keepers come last, so that no exit drops them.
-        let keepers = Keepers::new(alloc, &policy)?;
+        let Ok(history) = first_history(alloc, &policy) else {
+            policy.let_go();
+            return Err(OutOfMemory);
+        };
+        let Ok(keepers) = Keepers::new(alloc, &policy) else {
+            policy.let_go();
+            history.let_go();
+            return Err(OutOfMemory);
+        };
         Ok(Gate {
             alloc,
             policy,
@@ -86,14 +92,17 @@ impl Gate {
         })
     }
 
-    /// Lets the gate go. The drop of all that it keeps is proved here once, and not in each crate that owns a gate.
+    /// Lets the gate go. The drop of all that it keeps is proved once, in the crate of each, and not where a gate is owned.
     pub fn close(self) {
         let Gate {
             alloc: _,
-            policy: _,
-            keepers: _,
-            history: _,
+            policy,
+            keepers,
+            history,
         } = self;
+        policy.let_go();
+        keepers.let_go();
+        history.let_go();
     }
 
     /// Judges the request on all earlier records, and puts its record last.

@@ -20,8 +20,8 @@ use gx_desk::Action;
 use gx_history::facts::{Facts, NamedOrder};
 use gx_history::record::{Asked, Request, Verdict};
 use gx_keepers::listed::{account_named, fits_firm, lists_its_stock};
-use gx_keepers::request::{named_token, new_token};
 use gx_orders::live_order::LiveOrder;
+use gx_orders::request_tokens::{named_token, new_token};
 use gx_people::power::Power;
 use gx_units::{AccountName, Moment, UserName};
 

@@ -9,7 +9,7 @@ use crate::outcome::StepFault;
 use gx_history::history::History;
 use gx_history::policy::Policy;
 use gx_history::record::{Asked, Verdict};
-use gx_keepers::request::has_kept_places;
+use gx_places::requests::has_kept_places;
 use gx_units::OutOfMemory;
 use std::alloc::Global;
 

@@ -244,4 +244,7 @@ impl Day {
     {
         self.moment = moment;
     }
+
+    /// Lets it go. Its drop is proved here once, and not in each crate that owns one.
+    pub fn let_go(self) {}
 }

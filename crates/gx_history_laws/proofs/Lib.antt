@@ -22,3 +22,4 @@ pub mod Listed
 pub mod Names
 pub mod Tables
 pub mod Masks
+pub mod Logouts

@@ -6,12 +6,12 @@ use Rattle.std.proofs.lemmas.Slice.Eq.{starts_is}
 use Rattle.std.proofs.lemmas.Bool.Decides.{Decides-eqb}
 use Rattle.gx_history.specs.declared.policy.PolicyData.{PolicyData}
 use Rattle.gx_history.specs.declared.record.RecordData.{RecordData}
-use Rattle.gx_audit.specs.declared.version.AuditVersion.TheVariants as versions
+use Rattle.gx_audit_bytes.specs.declared.version.AuditVersion.TheVariants as versions
 use Rattle.gx_audit.specs.Auditing.{all_bytes, whole_audit, AreShown}
-use Rattle.gx_audit.specs.Headers.{header_bytes}
-use Rattle.gx_audit.specs.Records.{record_bytes}
+use Rattle.gx_audit_bytes.specs.Headers.{header_bytes}
+use Rattle.gx_audit_bytes.specs.Records.{record_bytes}
 use Rattle.gx_audit.specs.Replaying.{journal_size, HoldsRecords}
-use Rattle.gx_audit.proofs.Fronts.{header_size}
+use Rattle.gx_audit_bytes.proofs.HeaderParts.{header_size}
 use Rattle.gx_audit.proofs.Only.{shown_size}
 use Rattle.gx_journal.specs.Resuming.{IsDay, IsNew, Stands}
 

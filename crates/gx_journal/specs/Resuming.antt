@@ -2,9 +2,9 @@
 use Rattle.std.specs.Prelude.{◌≡◌, ℕ, ◌+◌, ◌<◌, List, [], ◌++◌, take, length, ◌⊎◌}
 use Rattle.gx_history.specs.declared.policy.PolicyData.{PolicyData}
 use Rattle.gx_history.specs.declared.record.RecordData.{RecordData}
-use Rattle.gx_audit.specs.declared.version.AuditVersion.TheVariants as versions
+use Rattle.gx_audit_bytes.specs.declared.version.AuditVersion.TheVariants as versions
 use Rattle.gx_audit.specs.Auditing.{record_size, whole_audit}
-use Rattle.gx_audit.specs.Headers.{header_bytes}
+use Rattle.gx_audit_bytes.specs.Headers.{header_bytes}
 use mathlib.Core.List.{IsPrefix}
 use Rattle.gx_shared.specs.Acts.{gate_at}
 use Rattle.gx_shared.specs.Logouts.{AddsLogouts, NobodyIsOn}

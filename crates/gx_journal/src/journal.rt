@@ -68,6 +68,7 @@ impl<D: Door, W: Write, J: JournalName> Journal<D, W, J> {
     pub fn keep<R: Wait>(&mut self, rt: &R, door: &D) -> bool
         ensures kept { IsTrue result → known self.old.met ≤ self.new.tape.done }
         ensures sound { IsTrue result → self.new.tape.fault ≡ None }
+        ensures broken { IsFalse result → IsTrue (is_broken self.new.tape) }
         ensures met { IsPrefix self.old.met.front self.new.met.front }
         ensures refused { IsTrue (is_broken self.old.tape) → IsFalse result }
         ensures over { IsTrue (is_broken self.old.tape) → self.new.tape ≡ self.old.tape }

@@ -6,7 +6,8 @@ ghost use Rattle.gx_history.specs.Verdicts.{IsLegal};
 ghost use Rattle.gx_audit.specs.Replaying.{journal_size, IsReplayFault};
 ghost use Rattle.gx_journal.specs.Resuming.{IsNew, Stands};
 
-use gx_audit::{AuditFault, RECORD_SIZE, replay, write_header};
+use gx_audit::{AuditFault, replay};
+use gx_audit_bytes::{RECORD_SIZE, write_header};
 use gx_core::Gate;
 use gx_history::policy::Policy;
 use std::alloc::Global;

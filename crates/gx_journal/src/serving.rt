@@ -13,8 +13,9 @@ use crate::journaled::Journaled;
 use crate::name::JournalName;
 use crate::rest::put_rest;
 use gx_core::Gate;
+use gx_lobby::Lobby;
 use gx_pass::{Blank, GateName, Pass, PassFault};
-use gx_serve::{Lobby, ServeFault, serve_door};
+use gx_serve::{ServeFault, serve_door};
 use gx_shared::{SharedGate, log_out_all};
 use gx_units::Moment;
 use std::alloc::Global;
@@ -95,8 +96,8 @@ fn serve_kept<
         alloc, &shared, pass, count, device,
     );
     let ended = match serve_door(rt, alloc, &door, lobby, listener, connections) {
-        Some((_pass, ended)) => ended,
-        None => Err(ServeFault::OutOfMemory),
+        Ok((_pass, ended)) => ended,
+        Err(fault) => Err(fault),
     };
     let journal = door.into_journal();
     close_kept(shared, journal, ended)

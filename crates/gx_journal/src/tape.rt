@@ -7,7 +7,8 @@ ghost use Rattle.gx_journal.specs.declared.fault.JournalFault.TheVariants as fau
 ghost use Rattle.gx_journal.specs.Journals.{is_broken, journal_bytes, IsBlamed};
 
 use crate::fault::JournalFault;
-use gx_audit::{AuditVersion, audit_bytes};
+use gx_audit::audit_bytes;
+use gx_audit_bytes::AuditVersion;
 use gx_devices::{Counted, write_whole};
 use gx_history::record::Record;
 use std::alloc::Global;

@@ -125,14 +125,6 @@ pub record KeepPlaces (policy : PolicyData) (history : List RecordData) (streams
 pub record HaveAllPlaces (policy : PolicyData) (history : List RecordData) (r : RecordData) (streams : AllStreams) : Type 0 where
   pub all : (user : UserName) → HasPlaces user (length (reports_of policy user (history, r)) + report_places policy (history ++ r ∷ []) user) streams
 
--- the token that the denial uses, if it uses one, was not used before
-abbrev pub IsUnused : List UserToken → Asked → RuleName → Type 0
-IsUnused used a rule = IfSome (denied_token rule a.request) (λ token. IsFalse (is_used used a.user token))
-
--- the token that the denial uses, if it uses one, is used
-abbrev pub marked_by : Asked → RuleName → OrdersData → OrdersData
-marked_by a rule orders = marking a.user (denied_token rule a.request) orders
-
 -- a report put last in the user's stream, in a place that was kept, if there is one
 abbrev pub with_told : UserName → ℕ → Option Message → AllStreams → AllStreams
 with_told user moment None streams = streams

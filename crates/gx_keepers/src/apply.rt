@@ -7,9 +7,9 @@ ghost use Rattle.std.specs.Prelude.{◌≡◌, IsOk, OnOk, OnErr};
 ghost use Rattle.gx_history.specs.declared.record.Request.TheVariants as requests;
 ghost use Rattle.gx_history.specs.declared.record.Verdict.TheVariants as verdicts;
 ghost use Rattle.gx_market.specs.Changes.{cut_from};
-ghost use Rattle.gx_orders.specs.Changes.{replacement_order, waiting_order};
-ghost use Rattle.gx_keepers.specs.Keepers.{marked_by, AreAfter, AreAfterBut, AreBefore, IsNext};
-ghost use Rattle.gx_keepers.specs.Keepers.{IsPlaced, IsSure, IsUnused, KeepPlacesAfter};
+ghost use Rattle.gx_orders.specs.Changes.{waiting_order};
+ghost use Rattle.gx_keepers.specs.Keepers.{AreAfter, AreAfterBut, AreBefore, IsNext};
+ghost use Rattle.gx_keepers.specs.Keepers.{IsPlaced, IsSure, KeepPlacesAfter};
 ghost use Rattle.gx_keepers.specs.Keepers.{KeepPlacesBefore, KeepRoom};
 
 use crate::commands::apply_command;
@@ -19,26 +19,11 @@ use crate::listed::firm_of;
 use crate::next_record::NextRecord;
 use crate::places::keep_places;
 use crate::reports::{accepted, canceled, replaced, reports_of_denial, tell};
-use crate::request::denied_token;
 use gx_history::policy::Policy;
 use gx_history::record::{Asked, RecordData, Request, RuleName, Verdict};
 use gx_orders::live_order::LiveOrder;
-use gx_orders::orders::Orders;
 use gx_ouch::{CancelOrder, CancelReason, EnterOrder, OrderTerms, ReplaceOrder};
 use gx_units::{AccountName, Moment, OutOfMemory, UserName};
-
-/// Uses the token of a request that this rule denies, if the rule is one whose denials are
-/// answered.
-fn mark_denied(orders: &mut Orders, a: &Asked, rule: RuleName) -> Result<(), OutOfMemory>
-    requires new { IsUnused orders.old.used a.now rule }
-    ensures ok { OnOk result (orders.new ≡ marked_by a.now rule orders.old) }
-    ensures err { OnErr result (orders.new ≡ orders.old) }
-{
-    match denied_token(rule, &a.request) {
-        Some(token) => orders.mark_used(a.user, token),
-        None => Ok(()),
-    }
-}
 
 /// A denial: it uses the token and is told to who asked, where its rule is one whose denials are
 /// answered.
@@ -54,7 +39,7 @@ fn apply_denial(
     ensures err { OnErr result (AreBefore next.entry keepers.new) }
     ensures room { KeepRoom keepers.old.streams keepers.new.streams }
 {
-    mark_denied(&mut keepers.orders, next.asked, rule)?;
+    keepers.orders.deny(next.asked, rule)?;
     let message = reports_of_denial(next.policy, next.left, rule, &next.asked.request);
     tell(
         &mut keepers.streams,
@@ -162,29 +147,6 @@ fn apply_cancel(keepers: &mut Keepers, next: NextRecord<'_>, m: &CancelOrder)
     tell(&mut keepers.streams, user, next.left.moment, Some(message));
 }
 
-/// The order of a Replace that the record grants: its chain's, with the terms that are asked for
-/// now.
-fn replacement_of(left: &RecordData, m: &ReplaceOrder, old: &LiveOrder) -> LiveOrder
-    ensures { result ≡ replacement_order left.now m.now old.now }
-{
-    LiveOrder {
-        number: left.number,
-        token: m.replacement_token,
-        terms: OrderTerms {
-            shares: m.shares,
-            price: m.price,
-            time_in_force: m.time_in_force,
-            display: m.display,
-            intermarket_sweep: m.intermarket_sweep,
-            minimum_quantity: m.minimum_quantity,
-            ..old.terms
-        },
-        total: m.shares,
-        waits: true,
-        ..*old
-    }
-}
-
 /// A granted Replace: its order is the last of those that wait, the one before it has ended, the
 /// ledger counts the one in place of the other, and its user is told.
 fn apply_replace(
@@ -204,7 +166,7 @@ fn apply_replace(
     let Some(old) = keepers.orders.under(user, m.existing_token) else {
         unreachable!();
     };
-    let new = replacement_of(next.left, m, &old);
+    let new = old.replaced_by(next.left, m);
     keepers.orders.enter(new)?;
     keepers.orders.end(old.number);
     keepers.book.remove(old.number);

@@ -23,8 +23,7 @@ use std::alloc::Global;
 
 /// People, rules, lines and kills, live orders, the order book, the figures that the file's rules
 /// ask for and what each user was told, as they are after the gate's records: so that no step walks
-/// these.
-#[derive(Drop)]
+/// these. They end by [`Keepers::let_go`], and are never dropped.
 pub struct Keepers {
     pub people: People,
     pub rules: RuleBook,
@@ -56,21 +55,18 @@ fn send_to_readers(
 }
 
 /// What the day begins with that is told, and to whom.
-#[derive(Drop)]
 struct Telling {
     people: People,
     streams: Streams,
 }
 
 /// What the day begins with that commands change.
-#[derive(Drop)]
 struct Settings {
     rules: RuleBook,
     day: Day,
 }
 
 /// What the day begins with that orders change.
-#[derive(Drop)]
 struct Trading {
     book: Book,
     ledger: Ledger,
@@ -102,9 +98,18 @@ fn first_telling(alloc: Global, policy: &Policy) -> Result<Telling, OutOfMemory>
         (λ t. HaveEnough [] t.people policy.now t.streams policy.now.users) }
 {
     let people = People::new(alloc, policy)?;
-    let mut streams = Streams::new(alloc, policy)?;
-    make_ready(alloc, &mut streams, policy, &people)?;
-    Ok(Telling { people, streams })
+    let Ok(mut streams) = Streams::new(alloc, policy) else {
+        people.let_go();
+        return Err(OutOfMemory);
+    };
+    match make_ready(alloc, &mut streams, policy, &people) {
+        Ok(()) => Ok(Telling { people, streams }),
+        Err(refused) => {
+            people.let_go();
+            streams.let_go();
+            Err(refused)
+        }
+    }
 }
 
 fn first_settings(alloc: Global, policy: &Policy) -> Result<Settings, OutOfMemory>
@@ -112,8 +117,13 @@ fn first_settings(alloc: Global, policy: &Policy) -> Result<Settings, OutOfMemor
     ensures day { IfOk result (λ s. s.day ≡ fresh_day policy.now) }
 {
     let rules = RuleBook::new(alloc, policy)?;
-    let day = Day::new(alloc, policy)?;
-    Ok(Settings { rules, day })
+    match Day::new(alloc, policy) {
+        Ok(day) => Ok(Settings { rules, day }),
+        Err(refused) => {
+            rules.let_go();
+            Err(refused)
+        }
+    }
 }
 
 fn first_trading(alloc: Global, policy: &Policy) -> Result<Trading, OutOfMemory>
@@ -121,8 +131,13 @@ fn first_trading(alloc: Global, policy: &Policy) -> Result<Trading, OutOfMemory>
     ensures ledger { IfOk result (λ t. StandsFor policy.now t.ledger nothing) }
 {
     let book = Book::new(alloc, policy)?;
-    let ledger = Ledger::new(alloc, policy)?;
-    Ok(Trading { book, ledger })
+    match Ledger::new(alloc, policy) {
+        Ok(ledger) => Ok(Trading { book, ledger }),
+        Err(refused) => {
+            book.let_go();
+            Err(refused)
+        }
+    }
 }
 
 impl Keepers {
@@ -132,16 +147,62 @@ impl Keepers {
         ensures kept { IfOk result (λ keepers. KeepPlaces policy.now [] keepers.streams) }
     {
         let telling = first_telling(alloc, policy)?;
-        let settings = first_settings(alloc, policy)?;
-        let trading = first_trading(alloc, policy)?;
+        let Ok(settings) = first_settings(alloc, policy) else {
+            telling.let_go();
+            return Err(OutOfMemory);
+        };
+        let Ok(trading) = first_trading(alloc, policy) else {
+            telling.let_go();
+            settings.let_go();
+            return Err(OutOfMemory);
+        };
+        let Telling { people, streams } = telling;
+        let Settings { rules, day } = settings;
+        let Trading { book, ledger } = trading;
         Ok(Keepers {
-            people: telling.people,
-            rules: settings.rules,
-            day: settings.day,
+            people,
+            rules,
+            day,
             orders: Orders::new(alloc),
-            book: trading.book,
-            ledger: trading.ledger,
-            streams: telling.streams,
+            book,
+            ledger,
+            streams,
         })
+    }
+
+    /// Lets them go. The drop of all that they keep is proved once, in the crate of each.
+    pub fn let_go(self) {
+        let Keepers {
+            people,
+            rules,
+            day,
+            orders,
+            book,
+            ledger,
+            streams,
+        } = self;
+        people.let_go();
+        rules.let_go();
+        day.let_go();
+        orders.let_go();
+        book.let_go();
+        ledger.let_go();
+        streams.let_go();
+    }
+}
+
+impl Telling {
+    fn let_go(self) {
+        let Telling { people, streams } = self;
+        people.let_go();
+        streams.let_go();
+    }
+}
+
+impl Settings {
+    fn let_go(self) {
+        let Settings { rules, day } = self;
+        rules.let_go();
+        day.let_go();
     }
 }

@@ -17,5 +17,4 @@ pub mod matching;
 pub mod next_record;
 mod places;
 mod reports;
-pub mod request;
 mod settings;

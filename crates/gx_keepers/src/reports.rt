@@ -11,12 +11,12 @@ ghost use Rattle.gx_keepers.specs.Keepers.{with_told};
 ghost use Rattle.gx_keepers.specs.Messages.{accepted_message, answer_message, canceled_message};
 ghost use Rattle.gx_keepers.specs.Messages.{day_end_message, replaced_message};
 
-use crate::request::new_token;
 use gx_desk::{Answer, AnswerCode, Command};
 use gx_history::policy::{FileRule, Policy, RuleKind};
 use gx_history::record::{RecordData, Request, RuleName};
 use gx_history::report::{Message, Report};
 use gx_orders::live_order::LiveOrder;
+use gx_orders::request_tokens::new_token;
 use gx_ouch::{
     Accepted, CancelReason, Canceled, EventCode, OrderTerms, Outbound, RejectReason, Rejected,
     Replaced,

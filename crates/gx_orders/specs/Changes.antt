@@ -1,5 +1,5 @@
 -- What one more record does to the orders that are kept.
-use Rattle.std.specs.Prelude.{◌-◌, Bool, true, false, List, [], ◌∷◌, ◌++◌, Option, None, option_map, option_to_list, if◌then◌else◌}
+use Rattle.std.specs.Prelude.{◌-◌, IfSome, IsFalse, Bool, true, false, List, [], ◌∷◌, ◌++◌, Option, None, option_map, option_to_list, if◌then◌else◌}
 use Rattle.gx_units.specs.declared.names.AccountName.{AccountName}
 use Rattle.gx_units.specs.declared.names.Token.{Token}
 use Rattle.gx_units.specs.declared.names.UserName.{UserName}
@@ -11,6 +11,7 @@ use Rattle.gx_ouch.specs.declared.outbound.OrderTerms.{OrderTerms}
 use Rattle.gx_desk.specs.declared.Action.{Action}
 use Rattle.gx_desk.specs.declared.Action.TheVariants as actions
 use Rattle.gx_history.specs.declared.policy.PolicyData.{PolicyData}
+use Rattle.gx_history.specs.declared.record.Asked.{Asked}
 use Rattle.gx_history.specs.declared.record.RecordData.{RecordData}
 use Rattle.gx_history.specs.declared.record.Request.{Request}
 use Rattle.gx_history.specs.declared.record.Request.TheVariants as requests
@@ -21,7 +22,8 @@ use Rattle.gx_history.specs.Orders.{entered}
 use Rattle.gx_history.specs.Requests.{new_token}
 use Rattle.gx_history.specs.RuleNames.{is_answered_rule}
 use Rattle.gx_orders.specs.declared.live_order.LiveOrder.{LiveOrder}
-use Rattle.gx_orders.specs.LiveOrders.{OrdersData, key, token_of}
+use Rattle.gx_orders.specs.declared.live_order.UserToken.{UserToken}
+use Rattle.gx_orders.specs.LiveOrders.{OrdersData, is_used, key, token_of}
 
 -- the orders with another list of live ones
 abbrev pub with_live : List LiveOrder → OrdersData → OrdersData
@@ -38,6 +40,14 @@ marking user found d = record { live = d.live; used = d.used ++ option_to_list (
 -- the token that a denial by this rule uses
 abbrev pub denied_token : RuleName → Request → Option Token
 denied_token rule q = if is_answered_rule rule then new_token q else None
+
+-- the token that the denial uses, if it uses one, was not used before
+abbrev pub IsUnused : List UserToken → Asked → RuleName → Type 0
+IsUnused used a rule = IfSome (denied_token rule a.request) (λ token. IsFalse (is_used used a.user token))
+
+-- the token that the denial uses, if it uses one, is used
+abbrev pub marked_by : Asked → RuleName → OrdersData → OrdersData
+marked_by a rule orders = marking a.user (denied_token rule a.request) orders
 
 -- a command that ends no order
 abbrev pub is_lasting : Action → Bool

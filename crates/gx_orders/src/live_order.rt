@@ -1,10 +1,12 @@
 //! What is kept of one live order.
 
 ghost use Rattle.std.specs.Prelude.{◌≡◌, ◌-◌};
+ghost use Rattle.gx_orders.specs.Changes.{replacement_order};
 ghost use Rattle.gx_orders.specs.LiveOrders.{is_under, token_of};
 ghost use Rattle.gx_units.specs.Names.{same_account};
 
-use gx_ouch::OrderTerms;
+use gx_history::record::RecordData;
+use gx_ouch::{OrderTerms, ReplaceOrder};
 use gx_units::{AccountName, Token, UserName};
 
 /// A user, and one of his tokens.
@@ -61,6 +63,28 @@ impl LiveOrder {
         UserToken {
             user: self.user,
             token: self.token,
+        }
+    }
+    /// The order that comes in its place by a granted Replace, whose record this is: its chain's, with the terms that are
+    /// asked for now. It waits, behind all others.
+    pub fn replaced_by(&self, left: &RecordData, m: &ReplaceOrder) -> LiveOrder
+        ensures { result ≡ replacement_order left.now m.now self.now }
+    {
+        LiveOrder {
+            number: left.number,
+            token: m.replacement_token,
+            terms: OrderTerms {
+                shares: m.shares,
+                price: m.price,
+                time_in_force: m.time_in_force,
+                display: m.display,
+                intermarket_sweep: m.intermarket_sweep,
+                minimum_quantity: m.minimum_quantity,
+                ..self.terms
+            },
+            total: m.shares,
+            waits: true,
+            ..*self
         }
     }
 }

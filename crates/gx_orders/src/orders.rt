@@ -2,11 +2,14 @@
 
 ghost use Rattle.std.specs.Prelude.{◌≡◌, ◌<◌, length, [], ◌∷◌, ◌++◌, Some, OnOk, OnErr, IfSome, IsTrue, IsFalse};
 ghost use Rattle.std.specs.List.{filter};
+ghost use Rattle.gx_orders.specs.Changes.{IsUnused, marked_by};
 ghost use Rattle.gx_orders.specs.Tables.{written};
 ghost use Rattle.gx_orders.specs.LiveOrders.{AreBelow, AreSound, HasOpen, at_rest, changed, cut_at, filled_at, first_waiting, is_of_user, is_used, key, of_others, order_numbered, order_under, resized_at, token_of, without};
 
 use crate::counts::{count_in, count_no_more, count_one_less, count_one_more};
 use crate::live_order::{LiveOrder, UserToken};
+use crate::request_tokens::denied_token;
+use gx_history::record::{Asked, RuleName};
 use gx_units::{AccountName, OutOfMemory, Token, UserName};
 use indexmap::IndexMap;
 use std::alloc::Global;
@@ -15,7 +18,7 @@ use std::collections::{BTreeMap, BTreeSet};
 use std::marker::Model;
 
 /// The live orders by number, and the tokens that are used. Contracts see the list of the orders and the list of the
-/// tokens. Only `enter` and `mark_used` take memory.
+/// tokens. Only `enter` and `deny` take memory.
 #[derive(Drop)]
 pub struct Orders {
     by_number: BTreeMap<u64, LiveOrder>,
@@ -147,12 +150,7 @@ impl Orders {
         Ok(())
     }
 
-    /// Marks the token as used by the user, with no order under it. It takes memory for one more.
-    ///
-    /// # Errors
-    ///
-    /// `OutOfMemory` where there is no memory for one more; then nothing has changed.
-    pub fn mark_used(&mut self, user: UserName, token: Token) -> Result<(), OutOfMemory>
+    fn mark_used(&mut self, user: UserName, token: Token) -> Result<(), OutOfMemory>
         requires new { IsFalse (is_used self.old.used user token) }
         ensures live { OnOk result (self.new.live ≡ self.old.live) }
         ensures used { OnOk result (self.new.used ≡ self.old.used ++ key user token ∷ []) }
@@ -160,6 +158,23 @@ impl Orders {
     {
         self.tokens.insert(UserToken { user, token }, None)?;
         Ok(())
+    }
+
+    /// The request was denied by this rule: where its denials are answered, the token that the request asks for an order
+    /// under is used now, with no order under it. It takes memory for one more.
+    ///
+    /// # Errors
+    ///
+    /// `OutOfMemory` where there is no memory for one more; then nothing has changed.
+    pub fn deny(&mut self, a: &Asked, rule: RuleName) -> Result<(), OutOfMemory>
+        requires new { IsUnused self.old.used a.now rule }
+        ensures ok { OnOk result (self.new ≡ marked_by a.now rule self.old) }
+        ensures unchanged { OnErr result (self.new ≡ self.old) }
+    {
+        match denied_token(rule, &a.request) {
+            Some(token) => self.mark_used(a.user, token),
+            None => Ok(()),
+        }
     }
 
     /// The order of this number has come to rest: it waits no more. Nothing changes where none has the number.
@@ -252,4 +267,7 @@ impl Orders {
         self.waiting.clear();
         self.counts.clear();
     }
+
+    /// Lets it go. Its drop is proved here once, and not in each crate that owns one.
+    pub fn let_go(self) {}
 }

@@ -259,4 +259,7 @@ impl People {
         };
         person.standing.revoke(account);
     }
+
+    /// Lets it go. Its drop is proved here once, and not in each crate that owns one.
+    pub fn let_go(self) {}
 }

@@ -5,6 +5,7 @@ use Rattle.std.specs.Str.{is_utf8}
 use Rattle.toml.specs.Data.{Members}
 use Rattle.toml.specs.Parse.{parse_document}
 use Rattle.gx_units.specs.Names.{same_account, same_stock, same_user, same_rule}
+use Rattle.gx_history.specs.declared.policy.Lifters.{Lifters}
 use Rattle.gx_history.specs.declared.policy.PolicyData.{PolicyData}
 use Rattle.gx_history.specs.declared.policy.Account.{Account}
 use Rattle.gx_history.specs.declared.policy.Stock.{Stock}
@@ -60,22 +61,32 @@ users known entries = place_of 256 (λ (a b : User). same_user a.name b.name) (u
 unfoldable pub rules : FileVersion → List Account → List Stock → List Members → Result (List FileRule) FaultKind
 rules version known listed entries = place_of 128 (λ (a b : FileRule). same_rule a.name b.name) (rule version known listed) entries
 
--- what the whole file says: the keys at the top, then the accounts, the stocks, the users and the rules
+-- what the entries of the four places say, behind the keys at the top: the accounts, the stocks, the users and the rules
+abbrev pub of_entries : FileVersion → List ℕ → Lifters → List Members → List Members → List Members → List Members → Result PolicyData FaultKind
+of_entries version session lifting account_tables stock_tables user_tables rule_tables = do
+  found_accounts ← accounts account_tables
+  found_stocks ← stocks stock_tables
+  found_users ← users found_accounts user_tables
+  found_rules ← rules version found_accounts found_stocks rule_tables
+  Ok (record { session = record { bytes = session }; lifters = lifting; accounts = found_accounts; stocks = found_stocks; users = found_users; rules = found_rules })
+
+-- what the four places say, behind the keys at the top
+abbrev pub of_places : FileVersion → List ℕ → Lifters → Members → Result PolicyData FaultKind
+of_places version session lifting top = do
+  account_tables ← tables_at (codes "account") top
+  stock_tables ← tables_at (codes "stock") top
+  user_tables ← tables_at (codes "user") top
+  rule_tables ← tables_at (codes "rule") top
+  of_entries version session lifting account_tables stock_tables user_tables rule_tables
+
+-- what the whole file says: the keys at the top, and then its places
 unfoldable pub policy : Members → Result PolicyData FaultKind
 policy top = do
   known ← only_keys (top_keys (version top)) top
   numbered ← number top
   session ← field_at (codes "session") Visible 10 top
   lifting ← lifters (version top) top
-  account_tables ← tables_at (codes "account") top
-  stock_tables ← tables_at (codes "stock") top
-  user_tables ← tables_at (codes "user") top
-  rule_tables ← tables_at (codes "rule") top
-  found_accounts ← accounts account_tables
-  found_stocks ← stocks stock_tables
-  found_users ← users found_accounts user_tables
-  found_rules ← rules (version top) found_accounts found_stocks rule_tables
-  Ok (record { session = record { bytes = session }; lifters = lifting; accounts = found_accounts; stocks = found_stocks; users = found_users; rules = found_rules })
+  of_places (version top) session lifting top
 
 -- the tree that the bytes are
 unfoldable pub tree : List ℕ → Result Members FaultKind

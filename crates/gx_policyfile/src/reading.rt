@@ -1,11 +1,11 @@
 //! The whole file.
 
-ghost use Rattle.std.specs.Prelude.{◌≡◌, ◌≢◌, false, Ok, Err, OnOk, IfOk, IfErr, IsOk, IsTrue};
+ghost use Rattle.std.specs.Prelude.{◌≡◌, ◌≢◌, false, Ok, Err, OnOk, IfOk, IfErr, IsOk, IsTrue, map};
 ghost use Rattle.toml.specs.View.{table_view};
 ghost use Rattle.gx_history.specs.Soundness.{is_sound};
 ghost use Rattle.gx_policyfile.specs.declared.fault.FaultKind.TheVariants.{NotToml, OutOfMemory};
 ghost use Rattle.gx_policyfile.specs.Field.{Gives, is_memory};
-ghost use Rattle.gx_policyfile.specs.Policies.{policy, tree, means, version_of};
+ghost use Rattle.gx_policyfile.specs.Policies.{of_entries, of_places, policy, tree, means, version_of};
 
 use crate::account::accounts;
 use crate::fault::{Cause, FaultKind, Letters, PolicyFault};
@@ -14,11 +14,62 @@ use crate::place::tables_at;
 use crate::rule::rules;
 use crate::stock::stocks;
 use crate::user::users;
-use crate::version::{lifters, number, top_keys, version};
-use gx_history::policy::{Accounts, FileRules, Policy, PolicyData, Stocks, Users};
+use crate::version::{FileVersion, lifters, number, top_keys, version};
+use gx_history::policy::{Accounts, FileRules, Lifters, Policy, PolicyData, Stocks, Users};
 use gx_units::SessionName;
 use std::alloc::Global;
 use toml::Table;
+
+/// What the keys at the top of the file say.
+#[derive(Clone, Copy)]
+struct Heading {
+    version: FileVersion,
+    session: SessionName,
+    lifters: Lifters,
+}
+
+/// What the entries of the four places say, behind the heading.
+fn of_entries(
+    alloc: Global,
+    heading: Heading,
+    account_tables: &[&Table],
+    stock_tables: &[&Table],
+    user_tables: &[&Table],
+    rule_tables: &[&Table],
+) -> Result<PolicyData, PolicyFault>
+    ensures { Gives (λ p. p) result
+        (of_entries heading.version heading.session.bytes heading.lifters
+        (map (λ t. table_view t.now) account_tables.now)
+        (map (λ t. table_view t.now) stock_tables.now)
+        (map (λ t. table_view t.now) user_tables.now)
+        (map (λ t. table_view t.now) rule_tables.now)) }
+{
+    let version = heading.version;
+    let accounts = accounts(alloc, version, account_tables)?;
+    let stocks = stocks(alloc, version, stock_tables)?;
+    let users = users(alloc, version, &accounts, user_tables)?;
+    let rules = rules(alloc, version, &accounts, &stocks, rule_tables)?;
+    Ok(PolicyData {
+        session: heading.session,
+        lifters: heading.lifters,
+        accounts: Accounts::new(accounts),
+        stocks: Stocks::new(stocks),
+        users: Users::new(users),
+        rules: FileRules::new(rules),
+    })
+}
+
+/// What the four places say, behind the heading.
+fn of_places(alloc: Global, heading: Heading, top: &Table) -> Result<PolicyData, PolicyFault>
+    ensures { Gives (λ p. p) result
+        (of_places heading.version heading.session.bytes heading.lifters (table_view top.now)) }
+{
+    let accounts = tables_at(alloc, top, "account")?;
+    let stocks = tables_at(alloc, top, "stock")?;
+    let users = tables_at(alloc, top, "user")?;
+    let rules = tables_at(alloc, top, "rule")?;
+    of_entries(alloc, heading, &accounts, &stocks, &users, &rules)
+}
 
 #[tactic(auto, unfolding(crate::specs::Policies::policy))]
 fn policy(alloc: Global, top: &Table) -> Result<PolicyData, PolicyFault>
@@ -28,23 +79,12 @@ fn policy(alloc: Global, top: &Table) -> Result<PolicyData, PolicyFault>
     field::only_keys(top, top_keys(version))?;
     let _number = number(top)?;
     let session = field::field_at(top, "session", Letters::Visible)?;
-    let lifters = lifters(version, top)?;
-    let account_tables = tables_at(alloc, top, "account")?;
-    let stock_tables = tables_at(alloc, top, "stock")?;
-    let user_tables = tables_at(alloc, top, "user")?;
-    let rule_tables = tables_at(alloc, top, "rule")?;
-    let accounts = accounts(alloc, version, &account_tables)?;
-    let stocks = stocks(alloc, version, &stock_tables)?;
-    let users = users(alloc, version, &accounts, &user_tables)?;
-    let rules = rules(alloc, version, &accounts, &stocks, &rule_tables)?;
-    Ok(PolicyData {
+    let heading = Heading {
+        version,
         session: SessionName { bytes: session },
-        lifters,
-        accounts: Accounts::new(accounts),
-        stocks: Stocks::new(stocks),
-        users: Users::new(users),
-        rules: FileRules::new(rules),
-    })
+        lifters: lifters(version, top)?,
+    };
+    of_places(alloc, heading, top)
 }
 
 /// The fault of a text that is no TOML.

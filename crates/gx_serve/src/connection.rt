@@ -1,11 +1,10 @@
 //! A connection: its two threads.
 
-use crate::bell::Bell;
 use crate::link::Link;
 use crate::reading::read_on;
-use crate::stop::Stop;
 use crate::writing::write_on;
 use gx_devices::Counted;
+use gx_lobby::{Bell, Stop};
 use gx_session::Event;
 use gx_shared::Door;
 use gx_soup::SoupFault;

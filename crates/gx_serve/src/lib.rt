@@ -6,29 +6,19 @@
 //! that they ask, the reader and the writer.
 #![tactic(auto)]
 
-mod bell;
-mod clock;
 mod connection;
 mod fault;
 mod link;
-mod lobby;
 mod matching;
-mod peer;
-mod places;
 mod reading;
 mod seat;
 mod serving;
-mod stop;
-mod watch;
 mod writing;
 
-pub use bell::Bell;
 pub use connection::{HangUp, converse};
 pub use fault::ServeFault;
 pub use link::Link;
-pub use lobby::Lobby;
 pub use matching::match_on;
 pub use reading::read_on;
 pub use serving::{Served, serve, serve_door};
-pub use stop::Stop;
 pub use writing::write_on;

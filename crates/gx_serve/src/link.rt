@@ -2,11 +2,9 @@
 
 ghost use Rattle.gx_serve.specs.Speech.{IsDue};
 
-use crate::clock::now;
 use crate::seat::{Due, Greeting, Seat};
-use crate::stop::Stop;
-use crate::watch::Watch;
 use gx_core::LoginAnswer;
+use gx_lobby::{Stop, Watch, now};
 use gx_session::Event;
 use gx_shared::Door;
 use gx_soup::ClientPacket;

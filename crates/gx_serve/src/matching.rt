@@ -1,7 +1,6 @@
 //! The matcher.
 
-use crate::bell::Bell;
-use crate::clock::now;
+use gx_lobby::{Bell, now};
 use gx_shared::Door;
 use std::sync::Wait;
 use std::time::Clock;

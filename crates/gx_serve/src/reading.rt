@@ -1,9 +1,9 @@
 //! The reader of a connection.
 
-use crate::bell::Bell;
 use crate::link::Link;
 use gx_core::StepFault;
 use gx_devices::Counted;
+use gx_lobby::Bell;
 use gx_session::Event;
 use gx_shared::Door;
 use gx_soup::{Feeder, SoupFault};

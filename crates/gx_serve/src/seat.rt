@@ -11,9 +11,9 @@ ghost use Rattle.gx_serve.specs.declared.seat.Greeting.TheVariants as greetings;
 ghost use Rattle.gx_serve.specs.Seats.{answer_after, sign_after, WasAnswered, WasTaken, WasTold};
 ghost use Rattle.gx_serve.specs.Speech.{IsDue};
 
-use crate::watch::Watch;
 use gx_core::{LoginAnswer, Pulled, StepFault};
 use gx_history::record::Request;
+use gx_lobby::Watch;
 use gx_session::{Control, Event, Next, Phase, Session};
 use gx_shared::{Door, PullFault};
 use gx_soup::{ClientPacket, LoginRequest};

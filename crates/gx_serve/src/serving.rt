@@ -3,16 +3,13 @@
 ghost use Rattle.std.specs.Prelude.{◌≡◌, IfOk};
 ghost use Rattle.gx_history.specs.Verdicts.{IsLegal};
 
-use crate::clock::now;
 use crate::connection::converse;
 use crate::fault::ServeFault;
 use crate::link::Link;
-use crate::lobby::Lobby;
 use crate::matching::match_on;
-use crate::peer::Peer;
-use crate::stop::Stop;
 use gx_core::Gate;
 use gx_history::policy::Policy;
+use gx_lobby::{Lobby, Peer, Stop, now};
 use gx_pass::{Blank, GateName};
 use gx_shared::{Door, SharedGate};
 use gx_soup::SoupFault;
@@ -154,7 +151,7 @@ fn take_connections<
 }
 
 /// Runs the matcher beside the connections. Gives the matcher's pass, and why no more connections were
-/// taken; `None` where no thread could be made for the matcher.
+/// taken; `OutOfMemory` where no thread could be made for the matcher.
 fn run<'x, T: Drop + Send, D: Door<Ticket = T> + Sync, R: Threads + Wait + Clock + Eprint + Sync>(
     rt: &'x R,
     alloc: Global,
@@ -163,22 +160,26 @@ fn run<'x, T: Drop + Send, D: Door<Ticket = T> + Sync, R: Threads + Wait + Clock
     pass: T,
     listener: TcpListener,
     connections: u64,
-) -> Option<(T, Result<(), ServeFault>)> {
+) -> Result<(T, Result<(), ServeFault>), ServeFault> {
     thread::scope(thread::scope_env(), rt, |scope| {
         let Ok(matcher) = (&*scope).spawn(move || match_on(rt, door, &lobby.bell, pass)) else {
-            return None;
+            return Err(ServeFault::OutOfMemory);
         };
         let taken = take_connections(rt, alloc, door, lobby, listener, connections);
         lobby.bell.close(rt);
-        Some((matcher.join(rt), taken))
+        Ok((matcher.join(rt), taken))
     })
 }
 
 /// Serves at any door: takes connections, each in threads of its own, and makes matching steps, until so many were
 /// served, or the lobby was asked to end. All threads have ended then.
 ///
-/// Gives back a pass, and why the server gave up, if it did; `None` where memory or a thread was refused before any
-/// connection was taken.
+/// Gives back a pass, and why the server gave up, if it did.
+///
+/// # Errors
+///
+/// `NoLines` where no line was left, and `OutOfMemory` where memory or a thread was refused, before any connection was
+/// taken.
 pub fn serve_door<
     T: Drop + Send,
     D: Door<Ticket = T> + Sync,
@@ -190,12 +191,10 @@ pub fn serve_door<
     lobby: &Lobby,
     listener: TcpListener,
     connections: u64,
-) -> Option<(T, Result<(), ServeFault>)> {
-    let Ok(pass) = door.issue(rt) else {
-        return None;
-    };
+) -> Result<(T, Result<(), ServeFault>), ServeFault> {
+    let pass = door.issue(rt)?;
     if let Err(error) = listener.set_nonblocking(true) {
-        return Some((pass, Err(ServeFault::ListenFailed(error))));
+        return Ok((pass, Err(ServeFault::ListenFailed(error))));
     }
     lobby.bell.open(rt);
     run(rt, alloc, door, lobby, pass, listener, connections)
@@ -217,13 +216,13 @@ fn serve_named<N: GateName + Send + Sync, R: Threads + Wait + Clock + Eprint + S
 {
     let door: SharedGate<N> = SharedGate::new(alloc, policy, blank)?;
     match serve_door(rt, alloc, &door, lobby, listener, connections) {
-        Some((pass, ended)) => Ok(Served {
+        Ok((pass, ended)) => Ok(Served {
             gate: door.close(pass),
             ended,
         }),
-        None => {
+        Err(fault) => {
             door.let_go();
-            Err(ServeFault::OutOfMemory)
+            Err(fault)
         }
     }
 }

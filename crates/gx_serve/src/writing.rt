@@ -10,10 +10,9 @@ ghost use Rattle.gx_serve.specs.Speech.{greeted_by, IfOn, IsGreeted, WasCut, Was
 
 use crate::link::Link;
 use crate::seat::{Due, Sign};
-use crate::stop::Stop;
-use crate::watch::Watch;
 use gx_core::{LoginAnswer, StepFault};
 use gx_devices::Counted;
+use gx_lobby::{Stop, Watch};
 use gx_session::{Control, Event, SendFault, send_control, send_pulled};
 use gx_shared::Door;
 use gx_units::UserName;

@@ -35,7 +35,7 @@ use Rattle.gx_history.specs.Requests.{asked, is_granted}
 use Rattle.gx_history.specs.RuleNames.{rules_before, rules_behind}
 use Rattle.gx_history.specs.Rules.{Rule, BuiltIn, OfFile, applies, written_order}
 use Rattle.gx_history.specs.Verdicts.{facts_now, rules_now, verdict}
-use Rattle.gx_history_laws.proofs.Granting.{granted_where_none}
+use Rattle.gx_history_laws.proofs.Logouts.{logouts_are_granted}
 use Rattle.gx_history_laws.proofs.NextInForce.{line_of_next}
 use Rattle.gx_effects.proofs.Lines.{login_takes_effect}
 use Rattle.gx_effects.proofs.Settling.{settled_adds}
@@ -57,41 +57,9 @@ use Rattle.gx_session.specs.Transcript.{Run, silent, and_then, on_event, first_t
 use Rattle.gx_session.proofs.Serving.{left_of, left_is, rejects, never}
 
 -- No rule forbids the Logout of a user who is on this line.
-
-passes : (b : Bool) {c : Bool} → c ≡ false → ((b && false) || c) ≡ false
-passes true h = h
-passes false h = h
-
-module _ (given : Facts) (on : given.is_on_this_line ≡ true) (fits : given.role_fits ≡ true) where
-  none_before : list_any (applies given requests.Logout) (map BuiltIn rules_before) ≡ false
-  unfolding rules_before
-  none_before = ap (λ b. not b || (not given.role_fits || false)) on ∙ ap (λ b. not b || false) fits
-
-  none_behind : list_any (applies given requests.Logout) (map BuiltIn rules_behind) ≡ false
-  unfolding rules_behind
-  none_behind = refl
-
-  none_of_file : (rules : List (FileRule × RuleFigures)) → list_any (applies given requests.Logout) (map OfFile rules) ≡ false
-  none_of_file [] = refl
-  none_of_file (r ∷ rules) = passes (option_map_or (covers r.0.scope) given.account false) (none_of_file rules)
-
-  none_forbids : (rules : List (FileRule × RuleFigures)) → list_any (applies given requests.Logout) (written_order rules) ≡ false
-  unfolding written_order
-  none_forbids rules =
-      let p : Rule → Bool = applies given requests.Logout in
-      list_any-append p (map BuiltIn rules_before ++ map OfFile rules) (map BuiltIn rules_behind)
-      ∙ ap (λ b. b || list_any p (map BuiltIn rules_behind)) (list_any-append p (map BuiltIn rules_before) (map OfFile rules))
-      ∙ ap (λ b. (b || list_any p (map OfFile rules)) || list_any p (map BuiltIn rules_behind)) none_before
-      ∙ ap (λ b. b || list_any p (map BuiltIn rules_behind)) (none_of_file rules)
-      ∙ none_behind
-
 pub logout_is_granted : (policy : PolicyData) (history : List RecordData) (user : UserName) (moment : ℕ) → line_of history (folded_user user) ≡ Some 1
     → verdict policy history (asked_by user requests.Logout moment) ≡ verdicts.Granted
-unfolding facts
-logout_is_granted policy history user moment on =
-    let a : Asked = asked_by user requests.Logout moment in
-    (granted_where_none policy history a).1
-    (none_forbids (facts_now policy history a) (ap (λ (l : Option ℕ). is_on_line l 1) on) refl (rules_now policy history a))
+logout_is_granted policy history user moment on = logouts_are_granted policy history 1 (folded_user user) moment on
 
 -- What changes no line.
 

@@ -23,7 +23,7 @@ use Rattle.gx_history.specs.People.{covers}
 use Rattle.gx_history.specs.RuleNames.{rules_before, rules_behind}
 use Rattle.gx_history.specs.Rules.{Rule, BuiltIn, OfFile, applies, written_order}
 use Rattle.gx_history.specs.Verdicts.{facts_now, rules_now, verdict}
-use Rattle.gx_history_laws.proofs.Granting.{granted_where_none}
+use Rattle.gx_history_laws.proofs.Logouts.{logouts_are_granted}
 use Rattle.gx_history_laws.proofs.Pushing.{all_next}
 use Rattle.gx_effects.proofs.Lines.{logout_takes_effect}
 use Rattle.gx_places.specs.Places.{has_kept_places}
@@ -35,41 +35,9 @@ use Rattle.gx_shared.specs.Acts.{asked_on}
 use Rattle.gx_shared.specs.Logouts.{AddsLogouts, IsGrantedLogout, IsOff}
 
 -- No rule forbids the Logout of a user who is on his line.
-
-passes : (b : Bool) {c : Bool} → c ≡ false → ((b && false) || c) ≡ false
-passes true h = h
-passes false h = h
-
-module _ (given : Facts) (on : given.is_on_this_line ≡ true) (fits : given.role_fits ≡ true) where
-  none_before : list_any (applies given requests.Logout) (map BuiltIn rules_before) ≡ false
-  unfolding rules_before
-  none_before = ap (λ b. not b || (not given.role_fits || false)) on ∙ ap (λ b. not b || false) fits
-
-  none_behind : list_any (applies given requests.Logout) (map BuiltIn rules_behind) ≡ false
-  unfolding rules_behind
-  none_behind = refl
-
-  none_of_file : (rules : List (FileRule × RuleFigures)) → list_any (applies given requests.Logout) (map OfFile rules) ≡ false
-  none_of_file [] = refl
-  none_of_file (r ∷ rules) = passes (option_map_or (covers r.0.scope) given.account false) (none_of_file rules)
-
-  none_forbids : (rules : List (FileRule × RuleFigures)) → list_any (applies given requests.Logout) (written_order rules) ≡ false
-  unfolding written_order
-  none_forbids rules =
-      let p : Rule → Bool = applies given requests.Logout in
-      list_any-append p (map BuiltIn rules_before ++ map OfFile rules) (map BuiltIn rules_behind)
-      ∙ ap (λ b. b || list_any p (map BuiltIn rules_behind)) (list_any-append p (map BuiltIn rules_before) (map OfFile rules))
-      ∙ ap (λ b. (b || list_any p (map OfFile rules)) || list_any p (map BuiltIn rules_behind)) none_before
-      ∙ ap (λ b. b || list_any p (map BuiltIn rules_behind)) (none_of_file rules)
-      ∙ none_behind
-
 logout_is_granted : (policy : PolicyData) (history : List RecordData) (line : ℕ) (user : UserName) (moment : ℕ) → line_of history (folded_user user) ≡ Some line
     → verdict policy history (asked_on line user requests.Logout moment) ≡ verdicts.Granted
-unfolding facts
-logout_is_granted policy history line user moment on =
-    let a : Asked = asked_on line user requests.Logout moment in
-    (granted_where_none policy history a).1
-    (none_forbids (facts_now policy history a) (ap (λ (l : Option ℕ). is_on_line l line) on ∙ eq-eqb line line refl) refl (rules_now policy history a))
+logout_is_granted policy history line user moment on = logouts_are_granted policy history line (folded_user user) moment on
 
 -- its step
 record LogsOut (old new : GateData) (user : UserName) : Type 0 where

@@ -265,4 +265,7 @@ impl Streams {
             None => self.told.spare(user),
         }
     }
+
+    /// Lets it go. Its drop is proved here once, and not in each crate that owns one.
+    pub fn let_go(self) {}
 }

@@ -55,7 +55,7 @@ const ALFA: AccountName = AccountName {
 };
 
 /// Why a run was given up.
-#[derive(Clone, Copy, Debug)]
+#[derive(Clone, Copy)]
 pub(crate) enum Ended {
     OutOfMemory,
     Pass(PassFault),

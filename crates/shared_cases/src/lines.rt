@@ -4,7 +4,8 @@ ghost use Rattle.std.specs.Prelude.{◌≡◌, IsTrue};
 ghost use Rattle.gx_history.specs.Showing.{has_its_first};
 
 use crate::asking::{ALICE, ANY_SESSION, BOB, Ended, OLGA, Person, enter, kill_or_lift, put};
-use gx_audit::{AuditVersion, audit_of, check_audit};
+use gx_audit::{audit_of, check_audit};
+use gx_audit_bytes::AuditVersion;
 use gx_core::Gate;
 use gx_history::policy::Policy;
 use gx_history::record::{Asked, Login, Record, Request, Step};

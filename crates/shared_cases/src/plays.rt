@@ -5,7 +5,7 @@ use crate::counting::{Count, Line, Until};
 use crate::devices::Piece;
 use crate::holding::Calls;
 use crate::packets::{ALICE_LOGIN, BOB_LOGIN, BUY, BUY_AND_LEAVE, SELL_MANY, orders};
-use gx_serve::{Bell, Stop};
+use gx_lobby::{Bell, Stop};
 use std::alloc::Global;
 
 /// So many turns a wait of many orders takes at most.

@@ -1,6 +1,6 @@
 use Rattle.std.proofs.Common.{◌≡◌, ◌≤◌, ◌-◌, take}
 use Rattle.std.specs.Io.KnownBytes.{Appends}
-use Rattle.gx_audit.specs.declared.version.AuditVersion.TheVariants as versions
+use Rattle.gx_audit_bytes.specs.declared.version.AuditVersion.TheVariants as versions
 use Rattle.gx_audit.specs.Auditing.{all_bytes}
 use Rattle.gx_auditing.proofs.keeping.write_records.Given as goal
 

@@ -3,8 +3,8 @@ use Rattle.gx_keepers.proofs.Carrying.{denial_goes_on, denied_place, denied_unus
 use Rattle.gx_keepers.proofs.Rooms.{telling_keeps_room}
 use Rattle.gx_keepers.proofs.apply.apply_denial.Goals as goal
 
-pub mark_denied-requires : goal.mark_denied-requires
-mark_denied-requires c = record { new = denied_unused c.args.next.policy.now c.args.next.history.now.records c.args.next.asked.now c.args.next.left.now c.args.rule c.args.keepers.now c.requires.takes c.requires.denied }
+pub deny-requires : goal.deny-requires
+deny-requires c = record { new = denied_unused c.args.next.policy.now c.args.next.history.now.records c.args.next.asked.now c.args.next.left.now c.args.rule c.args.keepers.now c.requires.takes c.requires.denied }
 
 pub tell-requires : goal.tell-requires
 tell-requires c =
@@ -14,7 +14,7 @@ tell-requires c =
 pub returns-clause-ok : goal.returns-clause-ok
 returns-clause-ok c =
     denial_goes_on c.args.next.policy.now c.args.next.history.now.records c.args.next.asked.now c.args.next.left.now c.args.rule c.args.keepers.now _ c.reports_of_denial-message.result
-    c.requires.takes c.requires.denied c.reports_of_denial-message.ensures refl refl refl c.in_ok-mark_denied.ensures.ok refl refl c.tell.ensures
+    c.requires.takes c.requires.denied c.reports_of_denial-message.ensures refl refl refl c.in_ok-deny.ensures.ok refl refl c.tell.ensures
 
 pub returns-clause-room : goal.returns-clause-room
 returns-clause-room c =

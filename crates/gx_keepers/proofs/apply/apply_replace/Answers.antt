@@ -18,18 +18,18 @@ unreachable-requires c =
 
 pub enter-requires-clause-has_shares : goal.enter-requires-clause-has_shares
 enter-requires-clause-has_shares c =
-    subst (λ (o : LiveOrder). o.done < o.total) (sym c.replacement_of-new.ensures)
+    subst (λ (o : LiveOrder). o.done < o.total) (sym c.replaced_by-new.ensures)
     (old_has_less c.args.next.policy.now c.args.next.history.now.records c.args.next.asked.now c.args.next.left.now c.args.m.now c.args.keepers.now c.in-Some.old
     c.requires.takes c.requires.granted c.requires.replaces (sym c.under.ensures ∙ c.in-Some.is))
 
 pub enter-requires-clause-last : goal.enter-requires-clause-last
 enter-requires-clause-last c =
-    subst (λ (o : LiveOrder). AreBelow o.number c.args.keepers.now.orders.live) (sym c.replacement_of-new.ensures)
+    subst (λ (o : LiveOrder). AreBelow o.number c.args.keepers.now.orders.live) (sym c.replaced_by-new.ensures)
     (replaces_last c.args.next.policy.now c.args.next.history.now.records c.args.next.asked.now c.args.next.left.now c.args.m.now c.args.keepers.now c.requires.takes c.requires.granted c.requires.replaces)
 
 pub enter-requires-clause-new : goal.enter-requires-clause-new
 enter-requires-clause-new c =
-    ap (λ (o : LiveOrder). is_used c.args.keepers.now.orders.used o.user o.token) c.replacement_of-new.ensures
+    ap (λ (o : LiveOrder). is_used c.args.keepers.now.orders.used o.user o.token) c.replaced_by-new.ensures
     ∙ replaces_unused c.args.next.policy.now c.args.next.history.now.records c.args.next.asked.now c.args.next.left.now c.args.m.now c.args.keepers.now c.in-Some.old
     c.requires.takes c.requires.granted c.requires.replaces (sym c.under.ensures ∙ c.in-Some.is)
 
@@ -40,8 +40,8 @@ tell-requires c =
 
 pub returns-clause-ok : goal.returns-clause-ok
 returns-clause-ok c =
-    replace_goes_on c.args.next.policy.now c.args.next.history.now.records c.args.next.asked.now c.args.next.left.now c.args.m.now c.args.keepers.now _ c.in-Some.old c.replacement_of-new.result c.open_order-gone.result c.placed-handed.result c.replaced-message.result
-    c.requires.takes c.requires.granted c.requires.replaces (sym c.under.ensures ∙ c.in-Some.is) c.replacement_of-new.ensures c.open_order-gone.ensures c.placed-handed.ensures c.replaced-message.ensures refl refl refl
+    replace_goes_on c.args.next.policy.now c.args.next.history.now.records c.args.next.asked.now c.args.next.left.now c.args.m.now c.args.keepers.now _ c.in-Some.old c.replaced_by-new.result c.open_order-gone.result c.placed-handed.result c.replaced-message.result
+    c.requires.takes c.requires.granted c.requires.replaces (sym c.under.ensures ∙ c.in-Some.is) c.replaced_by-new.ensures c.open_order-gone.ensures c.placed-handed.ensures c.replaced-message.ensures refl refl refl
     (λ i. record { live = (c.end.ensures.live ∙ ap (without c.in-Some.old.number) c.in_ok-enter.ensures.live) i; used = (c.end.ensures.used ∙ c.in_ok-enter.ensures.used) i }) c.remove.ensures.removed
     (ended_then_accepted c.open_order-gone.result c.placed-handed.result c.args.keepers.now.ledger c.close.new.self c.accept.new.self c.close.ensures.closed c.accept.ensures.accepted) c.tell.ensures
 

@@ -3,5 +3,5 @@ use Rattle.gx_core.proofs.gate.Gate.open.Goals as goal
 
 pub invariant_of-result : goal.invariant_of-result
 invariant_of-result c =
-    keep_none c.in_ok-policy.policy c.in_ok-history.history.records c.in_ok-history.history.spare c.in_ok-keepers.keepers c.in_ok-history.ensures.records
-    c.in_ok-history.ensures.enough (record { in_force = c.in_ok-keepers.ensures.in_force; told = c.in_ok-keepers.ensures.kept })
+    keep_none c.in_ok-policy.policy c.in-Ok.history.records c.in-Ok.history.spare c.in-Ok-new.keepers c.in-Ok.ensures.records
+    c.in-Ok.ensures.enough (record { in_force = c.in-Ok-new.ensures.in_force; told = c.in-Ok-new.ensures.kept })

@@ -8,8 +8,8 @@ use Rattle.gx_keepers.proofs.keepers.Keepers.new.Goals as goal
 
 pub returns-clause-in_force : goal.returns-clause-in_force
 returns-clause-in_force c =
-    begin c.args.policy.now c.in_ok-telling.telling.people c.in_ok-settings.settings.rules c.in_ok-settings.settings.day c.new.result c.in_ok-trading.trading.book c.in_ok-trading.trading.ledger c.in_ok-telling.telling.streams
-    c.in_ok-telling.ensures.people c.in_ok-settings.ensures.rules c.in_ok-settings.ensures.day c.new.ensures.live c.new.ensures.used c.in_ok-trading.ensures.book c.in_ok-trading.ensures.ledger c.in_ok-telling.ensures.shown c.in_ok-telling.ensures.sent
+    begin c.args.policy.now c.in_ok-telling.telling.people c.in-Ok.settings.rules c.in-Ok.settings.day c.new.result c.in-Ok-first_trading.trading.book c.in-Ok-first_trading.trading.ledger c.in_ok-telling.telling.streams
+    c.in_ok-telling.ensures.people c.in-Ok.ensures.rules c.in-Ok.ensures.day c.new.ensures.live c.new.ensures.used c.in-Ok-first_trading.ensures.book c.in-Ok-first_trading.ensures.ledger c.in_ok-telling.ensures.shown c.in_ok-telling.ensures.sent
 
 pub returns-clause-kept : goal.returns-clause-kept
 returns-clause-kept c =

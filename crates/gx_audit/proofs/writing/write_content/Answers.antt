@@ -1,7 +1,0 @@
-use Rattle.std.proofs.Common.{◌∙◌}
-use Rattle.gx_audit.proofs.ReadBack.{fields_lie}
-use Rattle.gx_audit.proofs.writing.write_content.Goals as goal
-
-pub returns-clause-fields : goal.returns-clause-fields
-returns-clause-fields c =
-    fields_lie c.args.version c.args.content.now c.whole.result (c.whole.ensures ∙ c.as_slice.ensures ∙ c.record_draft.ensures.bytes) c.record_draft.ensures.places

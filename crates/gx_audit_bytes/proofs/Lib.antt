@@ -1,0 +1,7 @@
+pub mod Fields
+pub mod Messages
+pub mod Requests
+pub mod Rules
+pub mod ReadBack
+pub mod Counts
+pub mod HeaderParts

@@ -1,0 +1,112 @@
+-- A rule is read from its name as itself, and a verdict from its parts.
+use Rattle.std.proofs.Common.{◌≡◌, ℕ, Bool, true, false, ◌||◌, ◌&&◌, not, List, [], ◌∷◌, ◌++◌, refl, ap, ◌∙◌}
+use Rattle.std.specs.Prelude.{Option, Some, None, IsTrue, codes, cond, bytes_eq, unwrap_or}
+use Rattle.std.specs.List.{find, list_any}
+use Rattle.gx_units.specs.declared.names.RuleId.{RuleId}
+use Rattle.gx_history.specs.RuleNames.{rule_id, rules_before, rules_behind, is_built_in}
+use Rattle.gx_history.specs.Showing.{is_showable, is_verdict_of, is_rule_shown, answers}
+use Rattle.gx_history.specs.declared.record.RecordData.{RecordData}
+use Rattle.gx_history.specs.declared.record.Request.{Request}
+use Rattle.gx_history.specs.declared.record.Step.{Step}
+use Rattle.gx_history.specs.declared.record.Step.TheVariants as steps
+use Rattle.gx_history.specs.declared.record.RuleName.{RuleName}
+use Rattle.gx_history.specs.declared.record.RuleName.TheVariants.{L1, L2, L3, G1, G2, G3, I1, I2, I3, P1, P2, P3, P4, P5, P6, P7, P8, P9, P10, P11, P12, Q1, Q2, Q3, Q4, File}
+use Rattle.gx_history.specs.declared.record.Verdict.{Verdict}
+use Rattle.gx_history.specs.declared.record.Verdict.TheVariants as verdicts
+use Rattle.gx_history.specs.declared.record.Fill.{Fill}
+use Rattle.gx_audit_bytes.specs.Reading.{rule_in, verdict_in, VerdictIsRead, NameFits, shows_rule}
+use Rattle.gx_audit_bytes.proofs.Fields.{take_whole}
+
+none_of : {X : Type 0} (passes : Bool) (x : X) (rest : Option X) (any : Bool) → (passes || any) ≡ false → (any ≡ false → rest ≡ None) → cond passes (Some x) rest ≡ None
+none_of true x rest any h below = cc
+none_of false x rest any h below = below h
+
+find_none : {X : Type 0} (test : X → Bool) (xs : List X) → list_any test xs ≡ false → find test xs ≡ None
+find_none test [] h = refl
+find_none test (x ∷ xs) h = none_of (test x) x (find test xs) (list_any test xs) h (find_none test xs)
+
+not_built_in : (built_in blank : Bool) → IsTrue (not built_in && not blank) → built_in ≡ false
+not_built_in true blank h = cc
+not_built_in false blank h = refl
+
+-- a rule of the file
+file_read : (name : RuleId) → is_built_in name ≡ false → rule_in name.bytes ≡ File name
+unfolding rule_in
+file_read name other =
+    ap (λ (found : Option RuleName). unwrap_or found (File (record { bytes = name.bytes })))
+    (find_none (λ (rule : RuleName). bytes_eq (rule_id rule).bytes name.bytes) (rules_before ++ rules_behind) other)
+
+-- a rule is read from its name
+rule_read : (rule : RuleName) → NameFits rule → IsTrue (is_rule_shown rule) → rule_in (rule_id rule).bytes ≡ rule
+unfolding rule_in rules_before rules_behind
+rule_read L1 fits shown = refl
+rule_read L2 fits shown = refl
+rule_read L3 fits shown = refl
+rule_read G1 fits shown = refl
+rule_read G2 fits shown = refl
+rule_read G3 fits shown = refl
+rule_read I1 fits shown = refl
+rule_read I2 fits shown = refl
+rule_read I3 fits shown = refl
+rule_read P1 fits shown = refl
+rule_read P2 fits shown = refl
+rule_read P3 fits shown = refl
+rule_read P4 fits shown = refl
+rule_read P5 fits shown = refl
+rule_read P6 fits shown = refl
+rule_read P7 fits shown = refl
+rule_read P8 fits shown = refl
+rule_read P9 fits shown = refl
+rule_read P10 fits shown = refl
+rule_read P11 fits shown = refl
+rule_read P12 fits shown = refl
+rule_read Q1 fits shown = refl
+rule_read Q2 fits shown = refl
+rule_read Q3 fits shown = refl
+rule_read Q4 fits shown = refl
+rule_read (File name) fits shown =
+    ap rule_in (take_whole name.bytes (codes "        ") fits) ∙ file_read name (not_built_in (is_built_in name) _ shown)
+
+-- a denial, by its rule
+pub denial_read : (rule : RuleName) → NameFits rule → IsTrue (is_rule_shown rule) → VerdictIsRead (verdicts.Denied rule)
+unfolding verdict_in
+denial_read rule fits shown = ap (λ (r : RuleName). Some (verdicts.Denied r)) (rule_read rule fits shown)
+
+pub grant_read : VerdictIsRead verdicts.Granted
+unfolding verdict_in
+grant_read = refl
+
+pub fill_read : (fill : Fill) → VerdictIsRead (verdicts.Filled fill)
+unfolding verdict_in
+fill_read fill = refl
+
+pub rest_read : (order : ℕ) → VerdictIsRead (verdicts.Rested order)
+unfolding verdict_in
+rest_read order = refl
+
+pub expiry_read : (order : ℕ) → VerdictIsRead (verdicts.Expired order)
+unfolding verdict_in
+expiry_read order = refl
+
+-- what can be shown names a rule that can be
+second : (a b : Bool) → IsTrue (a && b) → IsTrue b
+second true b h = h
+second false b h = cc
+
+denied_by : (q : Request) (v : Verdict) → IsTrue (answers q v) → IsTrue (shows_rule v)
+denied_by q verdicts.Granted h = refl
+denied_by q (verdicts.Denied rule) h = h
+denied_by q (verdicts.Filled fill) h = refl
+denied_by q (verdicts.Rested order) h = refl
+denied_by q (verdicts.Expired order) h = refl
+
+named_by : (s : Step) (v : Verdict) → IsTrue (is_verdict_of s v) → IsTrue (shows_rule v)
+named_by (steps.Asked a) v h = denied_by a.request v (second _ (answers a.request v) h)
+named_by (steps.Matching handed) verdicts.Granted h = refl
+named_by (steps.Matching handed) (verdicts.Denied rule) h = cc
+named_by (steps.Matching handed) (verdicts.Filled fill) h = refl
+named_by (steps.Matching handed) (verdicts.Rested order) h = refl
+named_by (steps.Matching handed) (verdicts.Expired order) h = refl
+
+pub shown_names_rule : (r : RecordData) → IsTrue (is_showable r) → IsTrue (shows_rule r.verdict)
+shown_names_rule r h = named_by r.step r.verdict (second _ (is_verdict_of r.step r.verdict) h)

@@ -1,0 +1,6 @@
+pub mod Contents
+pub mod Bodies
+pub mod Versions
+pub mod Records
+pub mod Headers
+pub mod Reading

@@ -1,0 +1,158 @@
+-- The 128 bytes of a record.
+use Rattle.std.specs.Prelude.{ℕ, List, [], ◌∷◌, codes}
+use Rattle.std.specs.Int.{w16, w32, w64, to_be_bytes}
+use Rattle.gx_ouch.specs.Layout.{Field, HasSizes, Layout, field, laid_out}
+use Rattle.gx_ouch.specs.Writing.{letter}
+use Rattle.gx_history.specs.declared.record.Step.{Step}
+use Rattle.gx_history.specs.declared.record.Step.TheVariants as steps
+use Rattle.gx_history.specs.declared.record.Verdict.{Verdict}
+use Rattle.gx_history.specs.declared.record.Verdict.TheVariants as verdicts
+use Rattle.gx_history.specs.declared.record.RecordData.{RecordData}
+use Rattle.gx_history.specs.Requests.{handed_moment}
+use Rattle.gx_history.specs.RuleNames.{rule_id}
+use Rattle.gx_audit_bytes.specs.declared.version.AuditVersion.{AuditVersion}
+use Rattle.gx_audit_bytes.specs.Versions.{mark_of}
+use Rattle.gx_audit_bytes.specs.Bodies.{request_kind, request_body, zero_padded}
+
+-- where each part of a record stands behind the first letter of its mark, and how many bytes it has
+abbrev pub mark_place : Field
+mark_place = field 1 3
+
+abbrev pub number_place : Field
+number_place = field 4 8
+
+abbrev pub handed_place : Field
+handed_place = field 12 8
+
+abbrev pub moment_place : Field
+moment_place = field 20 8
+
+abbrev pub line_place : Field
+line_place = field 28 2
+
+abbrev pub user_place : Field
+user_place = field 30 6
+
+abbrev pub kind_place : Field
+kind_place = field 36 1
+
+abbrev pub body_place : Field
+body_place = field 37 58
+
+abbrev pub verdict_place : Field
+verdict_place = field 95 1
+
+abbrev pub rule_place : Field
+rule_place = field 96 8
+
+abbrev pub order_place : Field
+order_place = field 104 8
+
+abbrev pub maker_place : Field
+maker_place = field 112 8
+
+abbrev pub shares_place : Field
+shares_place = field 120 4
+
+abbrev pub price_place : Field
+price_place = field 124 4
+
+-- an audit record: the mark, and the parts in their order
+abbrev pub audit_record : Layout
+audit_record = record {
+  kind = 71;
+  size = 128;
+  fields =
+      mark_place ∷
+      number_place ∷
+      handed_place ∷
+      moment_place ∷
+      line_place ∷
+      user_place ∷
+      kind_place ∷
+      body_place ∷
+      verdict_place ∷
+      rule_place ∷
+      order_place ∷
+      maker_place ∷
+      shares_place ∷
+      price_place ∷
+      [];
+}
+
+-- a matching step has no line and no user
+abbrev pub line_shown : Step → ℕ
+line_shown (steps.Asked a) = a.line
+line_shown (steps.Matching handed) = 0
+
+abbrev pub user_shown : Step → List ℕ
+user_shown (steps.Asked a) = a.user.bytes
+user_shown (steps.Matching handed) = codes "      "
+
+-- the kind of a matching step is `4`
+abbrev pub kind_shown : Step → ℕ
+kind_shown (steps.Asked a) = request_kind a.request
+kind_shown (steps.Matching handed) = 52
+
+abbrev pub body_shown : Step → List ℕ
+body_shown (steps.Asked a) = request_body a.request
+body_shown (steps.Matching handed) = []
+
+-- `G`, `D`, `F`, `R`, `E`
+abbrev pub verdict_letter : Verdict → ℕ
+verdict_letter verdicts.Granted = 71
+verdict_letter (verdicts.Denied rule) = 68
+verdict_letter (verdicts.Filled fill) = 70
+verdict_letter (verdicts.Rested order) = 82
+verdict_letter (verdicts.Expired order) = 69
+
+-- the rule that denies
+abbrev pub rule_shown : Verdict → List ℕ
+rule_shown (verdicts.Denied rule) = (rule_id rule).bytes
+rule_shown other = codes "        "
+
+-- the taker, or the order that rests or expires
+abbrev pub order_shown : Verdict → ℕ
+order_shown (verdicts.Filled fill) = fill.taker
+order_shown (verdicts.Rested order) = order
+order_shown (verdicts.Expired order) = order
+order_shown other = 0
+
+abbrev pub maker_shown : Verdict → ℕ
+maker_shown (verdicts.Filled fill) = fill.maker
+maker_shown other = 0
+
+abbrev pub shares_shown : Verdict → ℕ
+shares_shown (verdicts.Filled fill) = fill.shares
+shares_shown other = 0
+
+abbrev pub price_shown : Verdict → ℕ
+price_shown (verdicts.Filled fill) = fill.price
+price_shown other = 0
+
+-- what stands at each place
+abbrev pub record_contents : AuditVersion → RecordData → List (List ℕ)
+record_contents version r =
+    mark_of version ∷
+    to_be_bytes w64 r.number ∷
+    to_be_bytes w64 (handed_moment r.step) ∷
+    to_be_bytes w64 r.moment ∷
+    to_be_bytes w16 (line_shown r.step) ∷
+    user_shown r.step ∷
+    letter (kind_shown r.step) ∷
+    zero_padded 58 (body_shown r.step) ∷
+    letter (verdict_letter r.verdict) ∷
+    rule_shown r.verdict ∷
+    to_be_bytes w64 (order_shown r.verdict) ∷
+    to_be_bytes w64 (maker_shown r.verdict) ∷
+    to_be_bytes w32 (shares_shown r.verdict) ∷
+    to_be_bytes w32 (price_shown r.verdict) ∷
+    []
+
+-- the bytes of a record, in an audit of this version
+unfoldable pub record_bytes : AuditVersion → RecordData → List ℕ
+record_bytes version r = laid_out audit_record (record_contents version r)
+
+-- each part has as many bytes as its place
+abbrev pub HasPlaces : AuditVersion → RecordData → Type 0
+HasPlaces version r = HasSizes audit_record (record_contents version r)

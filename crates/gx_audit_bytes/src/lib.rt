@@ -1,0 +1,17 @@
+//! The bytes of an audit: how its header and its records are written in either version, and which record bytes show.
+#![tactic(auto)]
+
+mod bodies;
+mod draft;
+mod header;
+mod reading;
+mod version;
+mod writing;
+mod wrong;
+
+pub use draft::{RECORD_SIZE, same_bytes, whole};
+pub use header::write_header;
+pub use reading::{has_bytes, read_record, read_record_2, read_record_in};
+pub use version::AuditVersion;
+pub use writing::{write_record, write_record_2, write_record_in};
+pub use wrong::{message_shown, wrong_field};

@@ -1,0 +1,252 @@
+//! A record, written as bytes.
+
+ghost use Rattle.std.specs.Prelude.{◌≡◌, ◌++◌, ◌∷◌, Some, length, take, codes, IsTrue};
+ghost use Rattle.gx_ouch.specs.Layout.{LiesIn};
+ghost use Rattle.gx_history.specs.RuleNames.{rule_id};
+ghost use Rattle.gx_history.specs.Requests.{handed_moment};
+ghost use Rattle.gx_history.specs.Showing.{is_showable};
+ghost use Rattle.gx_audit_bytes.specs.declared.version.AuditVersion.TheVariants as versions;
+ghost use Rattle.gx_audit_bytes.specs.Bodies.{zero_padded};
+ghost use Rattle.gx_audit_bytes.specs.Reading.{record_of, shows_rule, IsShown, NameFits, NumbersFit, StepIsRead, VerdictIsRead};
+ghost use Rattle.gx_audit_bytes.specs.Records.{audit_record, record_contents, record_bytes, line_shown, user_shown, kind_shown, body_shown, verdict_letter, rule_shown, order_shown, maker_shown, shares_shown, price_shown, HasPlaces};
+ghost use Rattle.gx_audit_bytes.specs.Versions.{mark_of};
+
+use crate::bodies::{request_body, request_kind};
+use crate::draft::{Draft, RECORD_SIZE, whole, zero_padded};
+use crate::version::AuditVersion;
+use gx_history::record::{Record, RecordData, RuleName, Step, Verdict};
+use gx_units::RuleId;
+
+const NO_USER: [u8; 6] = *b"      ";
+
+const NO_RULE: [u8; 8] = *b"        ";
+
+/// The record as an audit of version 1 shows it: each part at its place. Takes no memory.
+pub fn write_record(given: &Record) -> [u8; RECORD_SIZE]
+    ensures bytes { result ≡ record_bytes versions.One given.now }
+    ensures fields { LiesIn audit_record (record_contents versions.One given.now) result }
+    ensures read_back { record_of versions.One result ≡ Some given.now }
+    ensures shown { IsShown versions.One given.now }
+{
+    write_record_in(AuditVersion::One, given)
+}
+
+/// The record as an audit of version 2 shows it: each part at its place. Takes no memory.
+pub fn write_record_2(given: &Record) -> [u8; RECORD_SIZE]
+    ensures bytes { result ≡ record_bytes versions.Two given.now }
+    ensures fields { LiesIn audit_record (record_contents versions.Two given.now) result }
+    ensures read_back { record_of versions.Two result ≡ Some given.now }
+    ensures shown { IsShown versions.Two given.now }
+{
+    write_record_in(AuditVersion::Two, given)
+}
+
+/// The record as an audit of this version shows it. Takes no memory.
+pub fn write_record_in(version: AuditVersion, given: &Record) -> [u8; RECORD_SIZE]
+    ensures bytes { result ≡ record_bytes version given.now }
+    ensures fields { LiesIn audit_record (record_contents version given.now) result }
+    ensures read_back { record_of version result ≡ Some given.now }
+    ensures shown { IsShown version given.now }
+{
+    write_content(version, &given.content())
+}
+
+/// What stands in a record, as the audit shows it.
+#[tactic(auto, using(crate::proofs::ReadBack::read_back, crate::proofs::ReadBack::fields_lie, crate::proofs::ReadBack::is_shown))]
+pub(crate) fn write_content(version: AuditVersion, content: &RecordData) -> [u8; RECORD_SIZE]
+    ensures bytes { result ≡ record_bytes version content.now }
+    ensures fields { LiesIn audit_record (record_contents version content.now) result }
+    ensures read_back { IsTrue (is_showable content.now)
+        → record_of version result ≡ Some content.now }
+    ensures shown { IsTrue (is_showable content.now) → IsShown version content.now }
+{
+    whole(record_draft(version, content).as_slice())
+}
+
+#[tactic(auto, unfolding(crate::specs::Records::record_bytes))]
+fn record_draft(version: AuditVersion, content: &RecordData) -> Draft
+    ensures bytes { result ≡ record_bytes version content.now }
+    ensures len { length result ≡ 128 }
+    ensures places { HasPlaces version content.now }
+    ensures fit { NumbersFit content.now }
+    ensures step { StepIsRead content.now.step }
+    ensures verdict { IsTrue (shows_rule content.now.verdict)
+        → VerdictIsRead content.now.verdict }
+{
+    let mut draft = Draft::new();
+    draft.put(&mark(version));
+    draft.put(&content.number.to_be_bytes());
+    draft.put(&handed(&content.step).to_be_bytes());
+    draft.put(&content.moment.to_be_bytes());
+    draft.put(&line(&content.step).to_be_bytes());
+    draft.put(&user(&content.step));
+    draft.put(&[kind(&content.step)]);
+    draft.put(&body(&content.step));
+    draft.put(&[letter(&content.verdict)]);
+    draft.put(&rule(&content.verdict));
+    draft.put(&order(&content.verdict).to_be_bytes());
+    draft.put(&maker(&content.verdict).to_be_bytes());
+    draft.put(&shares(&content.verdict).to_be_bytes());
+    draft.put(&price(&content.verdict).to_be_bytes());
+    draft
+}
+
+fn mark(version: AuditVersion) -> [u8; 4]
+    ensures bytes { result ≡ 71 ∷ mark_of version }
+    ensures len { length (mark_of version) ≡ 3 }
+{
+    match version {
+        AuditVersion::One => *b"GXA1",
+        AuditVersion::Two => *b"GXA2",
+    }
+}
+
+fn handed(step: &Step) -> u64
+    ensures { result ≡ handed_moment step.now }
+{
+    match step {
+        Step::Asked(asked) => asked.handed,
+        Step::Matching(handed) => *handed,
+    }
+}
+
+fn line(step: &Step) -> u16
+    ensures { result ≡ line_shown step.now }
+{
+    match step {
+        Step::Asked(asked) => asked.line,
+        Step::Matching(_) => 0,
+    }
+}
+
+fn user(step: &Step) -> [u8; 6]
+    ensures { result ≡ user_shown step.now }
+{
+    match step {
+        Step::Asked(asked) => asked.user.bytes,
+        Step::Matching(_) => NO_USER,
+    }
+}
+
+fn kind(step: &Step) -> u8
+    ensures { result ≡ kind_shown step.now }
+{
+    match step {
+        Step::Asked(asked) => request_kind(&asked.request),
+        Step::Matching(_) => b'4',
+    }
+}
+
+#[tactic(auto, using(crate::proofs::Requests::asked_read, crate::proofs::Requests::matching_read))]
+fn body(step: &Step) -> [u8; 58]
+    ensures bytes { result ≡ zero_padded 58 (body_shown step.now) }
+    ensures read { StepIsRead step.now }
+{
+    match step {
+        Step::Asked(asked) => zero_padded(request_body(&asked.request).as_slice()),
+        Step::Matching(_) => [0; 58],
+    }
+}
+
+fn letter(verdict: &Verdict) -> u8
+    ensures { result ≡ verdict_letter verdict.now }
+{
+    match verdict {
+        Verdict::Granted => b'G',
+        Verdict::Denied(_) => b'D',
+        Verdict::Filled(_) => b'F',
+        Verdict::Rested(_) => b'R',
+        Verdict::Expired(_) => b'E',
+    }
+}
+
+#[tactic(auto, using(crate::proofs::Rules::grant_read, crate::proofs::Rules::denial_read, crate::proofs::Rules::fill_read, crate::proofs::Rules::rest_read, crate::proofs::Rules::expiry_read))]
+fn rule(verdict: &Verdict) -> [u8; 8]
+    ensures bytes { result ≡ rule_shown verdict.now }
+    ensures read { IsTrue (shows_rule verdict.now) → VerdictIsRead verdict.now }
+{
+    match verdict {
+        Verdict::Denied(rule) => rule_bytes(*rule),
+        _ => NO_RULE,
+    }
+}
+
+/// The name of a rule, padded with spaces.
+pub(crate) fn rule_bytes(rule: RuleName) -> [u8; 8]
+    ensures bytes { result ≡ (rule_id rule).bytes }
+    ensures fits { NameFits rule }
+{
+    match rule {
+        RuleName::L1 => *b"L1      ",
+        RuleName::L2 => *b"L2      ",
+        RuleName::L3 => *b"L3      ",
+        RuleName::G1 => *b"G1      ",
+        RuleName::G2 => *b"G2      ",
+        RuleName::G3 => *b"G3      ",
+        RuleName::I1 => *b"I1      ",
+        RuleName::I2 => *b"I2      ",
+        RuleName::I3 => *b"I3      ",
+        RuleName::P1 => *b"P1      ",
+        RuleName::P2 => *b"P2      ",
+        RuleName::P3 => *b"P3      ",
+        RuleName::P4 => *b"P4      ",
+        RuleName::P5 => *b"P5      ",
+        RuleName::P6 => *b"P6      ",
+        RuleName::P7 => *b"P7      ",
+        RuleName::P8 => *b"P8      ",
+        RuleName::P9 => *b"P9      ",
+        RuleName::P10 => *b"P10     ",
+        RuleName::P11 => *b"P11     ",
+        RuleName::P12 => *b"P12     ",
+        RuleName::Q1 => *b"Q1      ",
+        RuleName::Q2 => *b"Q2      ",
+        RuleName::Q3 => *b"Q3      ",
+        RuleName::Q4 => *b"Q4      ",
+        RuleName::File(name) => file_rule_bytes(name),
+    }
+}
+
+#[tactic(auto, using(crate::proofs::Fields::take_whole))]
+fn file_rule_bytes(name: RuleId) -> [u8; 8]
+    ensures bytes { result ≡ take 8 (name.bytes ++ codes "        ") }
+    ensures fits { length name.bytes ≡ 8 }
+{
+    name.bytes
+}
+
+fn order(verdict: &Verdict) -> u64
+    ensures { result ≡ order_shown verdict.now }
+{
+    match verdict {
+        Verdict::Filled(fill) => fill.taker,
+        Verdict::Rested(order) | Verdict::Expired(order) => *order,
+        _ => 0,
+    }
+}
+
+fn maker(verdict: &Verdict) -> u64
+    ensures { result ≡ maker_shown verdict.now }
+{
+    match verdict {
+        Verdict::Filled(fill) => fill.maker,
+        _ => 0,
+    }
+}
+
+fn shares(verdict: &Verdict) -> u32
+    ensures { result ≡ shares_shown verdict.now }
+{
+    match verdict {
+        Verdict::Filled(fill) => fill.shares,
+        _ => 0,
+    }
+}
+
+fn price(verdict: &Verdict) -> u32
+    ensures { result ≡ price_shown verdict.now }
+{
+    match verdict {
+        Verdict::Filled(fill) => fill.price,
+        _ => 0,
+    }
+}

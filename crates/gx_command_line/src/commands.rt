@@ -1,0 +1,296 @@
+//! The commands of `gate` and their arguments, as data, with the help of each.
+
+use clap::builder::ValueParser;
+use clap::{Arg, ArgAction, Command};
+use std::alloc::{AllocError, Global};
+
+/// What `gate --help` says of the policy.
+const SAMPLE_POLICY: &str =
+    "Without --policy the sample policy holds: accounts ALFA and BETA, stock TEST, users ALICE, BOB, OLGA, OTTO and RITA,
+no order of more than 500000 shares, and no account with more than $1,000 open and executed. The file is
+examples/policies/sample.toml of the repository, where its passwords stand: run nothing real under it.";
+
+/// What `gate script --help` says of the lines of a script.
+const SCRIPT_LINES: &str = "Lines:
+  M USER login PASSWORD NUMBER                        log in; NUMBER is the first report wanted, 0 for the last
+  M USER logout                                       log out
+  M USER enter TOKEN SIDE SHARES STOCK PRICE TIF      enter an order
+  M USER replace OLD NEW SHARES PRICE TIF             an order in the place of another
+  M USER cancel TOKEN SHARES                          cut an order to a new size; 0 ends it
+  M USER kill TAG ACCOUNT                             kill an account (officers)
+  M USER lift TAG ACCOUNT                             lift a kill (officers)
+  M USER limit TAG RULE VALUE                         set the limit of a rule (officers)
+  M USER restrict TAG RULE STOCK                      put a stock on the list of a rule (officers)
+  M USER unrestrict TAG RULE STOCK                    take a stock off the list of a rule (officers)
+  M USER grant TAG READER ACCOUNT                     let a reader see an account (officers)
+  M USER revoke TAG READER ACCOUNT                    let a reader see an account no longer (officers)
+  M USER close TAG                                    end all orders, and take none any more (officers)
+  M USER raw HEX                                      what the bytes of a message ask for
+  M match                                             make one matching step
+  M settle                                            make matching steps until no order waits
+  stream USER                                         print the reports that the user is owed
+
+M is the moment in nanoseconds past midnight, PRICE in ten-thousandths of a dollar, TIF 0, 99998 or 99999.
+Words are separated by one space. Empty lines and lines that begin with # are skipped.
+Each step prints `N granted`, `N denied RULE` or `refused DayFull`, N being the number of its record;
+a matching step `N filled TAKER MAKER SHARES PRICE`, `N rested ORDER`, `N expired ORDER` or `idle`;
+`stream` prints `USER K HEX` for each report. A bad line ends the script with status 4.";
+
+/// What `gate show --help` says of the lines.
+const SHOWN_LINES: &str =
+    "Each line is a line of a script, and behind the last ` # ` what became of it: the line and the moment,
+and then the number of the record and its verdict, as a script prints them. An audit holds no password:
+RIGHT and WRONG stand in its place. What no line of a script asks for is a comment. To run a day again:
+  gate show AUDIT | sed 's/\\(.*\\) # .*/\\1/' | sed 's/ login RIGHT / login PASSWORD /' | gate script";
+
+/// What an argument is, and what stands behind it.
+#[derive(Clone, Copy)]
+enum Kind {
+    /// A word that is known by its place, and has to be there.
+    Word,
+    /// An option with a text.
+    Text,
+    /// An option with a number from 1 to 65,535, which has to be there.
+    Port,
+    /// An option with a number from 1 to 65,534, and the one that holds without it, if any does.
+    Count(&'static [&'static str]),
+    /// An option with nothing, which stands beside the option of this name.
+    Flag(&'static str),
+}
+
+/// An argument of a command.
+#[derive(Clone, Copy)]
+struct Argument {
+    /// The name that it is read by, which is an option's word behind `--` too.
+    name: &'static str,
+    /// What help calls the value; a flag has none.
+    value: &'static str,
+    kind: Kind,
+    help: &'static str,
+}
+
+/// A command.
+#[derive(Clone, Copy)]
+struct Subcommand {
+    name: &'static str,
+    about: &'static str,
+    arguments: &'static [Argument],
+    /// What its help says at the end, if it says more.
+    lines: Option<&'static str>,
+}
+
+/// The option `--policy FILE` of a run.
+const RUN_POLICY: Argument = Argument {
+    name: "policy",
+    value: "FILE",
+    kind: Kind::Text,
+    help: "The policy file to run under; without it the sample policy holds (see `gate --help`)",
+};
+
+/// The option `--policy FILE` of an audit.
+const DAY_POLICY: Argument = Argument {
+    name: "policy",
+    value: "FILE",
+    kind: Kind::Text,
+    help: "The policy file of the audit's day; without it the sample policy holds (see `gate --help`)",
+};
+
+/// The option `--audit FILE` of a run.
+const RUN_AUDIT: Argument = Argument {
+    name: "audit",
+    value: "FILE",
+    kind: Kind::Text,
+    help: "Where to write the audit of the run: all its records, when it ends",
+};
+
+/// The argument FILE.
+const POLICY_FILE: Argument = Argument {
+    name: "file",
+    value: "FILE",
+    kind: Kind::Word,
+    help: "The policy file to read",
+};
+
+const PIPE: Subcommand = Subcommand {
+    name: "pipe",
+    about: "Serves one SoupBinTCP connection: client packets on standard input, server packets on standard output",
+    arguments: &[RUN_POLICY, RUN_AUDIT],
+    lines: None,
+};
+
+const SERVE: Subcommand = Subcommand {
+    name: "serve",
+    about: "Serves SoupBinTCP connections over TCP, all of them on one gate, each in threads of its own",
+    arguments: &[
+        Argument {
+            name: "port",
+            value: "P",
+            kind: Kind::Port,
+            help: "The port of this machine's own address 127.0.0.1 to listen on",
+        },
+        Argument {
+            name: "connections",
+            value: "N",
+            kind: Kind::Count(&[]),
+            help: "End once N connections were taken and have ended; without it the server ends with its standard input",
+        },
+        Argument {
+            name: "connections-at-once",
+            value: "N",
+            kind: Kind::Count(&["1024"]),
+            help: "How many connections to serve at once; further ones wait",
+        },
+        Argument {
+            name: "journal",
+            value: "FILE",
+            kind: Kind::Text,
+            help: "Where to keep the day: each record is written before anything that comes of it is sent; \
+                   a day that is there goes on",
+        },
+        Argument {
+            name: "journal-sync",
+            value: "",
+            kind: Kind::Flag("journal"),
+            help: "Force the journal to the disk too, before anything is sent",
+        },
+        RUN_POLICY,
+        RUN_AUDIT,
+    ],
+    lines: None,
+};
+
+const SCRIPT: Subcommand = Subcommand {
+    name: "script",
+    about: "Runs a script of steps from standard input, and prints what becomes of each",
+    arguments: &[RUN_POLICY, RUN_AUDIT],
+    lines: Some(SCRIPT_LINES),
+};
+
+const POLICY: Subcommand = Subcommand {
+    name: "policy",
+    about: "Reads a policy file, and tells how much it holds or what is wrong with it",
+    arguments: &[POLICY_FILE],
+    lines: None,
+};
+
+const MIGRATE: Subcommand = Subcommand {
+    name: "migrate",
+    about: "Reads a policy file, and prints it in version 2, with the same meaning",
+    arguments: &[POLICY_FILE],
+    lines: None,
+};
+
+const CHECK: Subcommand = Subcommand {
+    name: "check",
+    about: "Checks that an audit is that of a legal day under the policy",
+    arguments: &[
+        Argument {
+            name: "audit",
+            value: "AUDIT",
+            kind: Kind::Word,
+            help: "The audit to check",
+        },
+        DAY_POLICY,
+    ],
+    lines: None,
+};
+
+const SHOW: Subcommand = Subcommand {
+    name: "show",
+    about: "Shows the records of an audit, each as a line of a script and what became of it",
+    arguments: &[
+        Argument {
+            name: "audit",
+            value: "AUDIT",
+            kind: Kind::Word,
+            help: "The audit to show",
+        },
+        Argument {
+            name: "account",
+            value: "ACCOUNT",
+            kind: Kind::Text,
+            help: "Only what concerns the account: of its users, of commands that name it, of its orders",
+        },
+        Argument {
+            name: "user",
+            value: "USER",
+            kind: Kind::Text,
+            help: "Only what the user asked for, and what became of his orders",
+        },
+        DAY_POLICY,
+    ],
+    lines: Some(SHOWN_LINES),
+};
+
+/// The argument, with its help.
+fn build_argument<'a>(alloc: Global, asked: &Argument) -> Result<Arg<'a>, AllocError> {
+    let made = Arg::new(alloc, asked.name).help(asked.help);
+    match asked.kind {
+        Kind::Word => Ok(made.value_name(asked.value).required(true)),
+        Kind::Text => Ok(made.long(asked.name).value_name(asked.value)),
+        Kind::Port => Ok(number(made.required(true), asked, 65_535)),
+        Kind::Count(default) => Ok(number(made.default_values(default), asked, 65_534)),
+        Kind::Flag(beside) => made
+            .long(asked.name)
+            .action(ArgAction::SetTrue)
+            .requires_arg(beside),
+    }
+}
+
+/// The argument as an option with a number from 1 on.
+fn number<'a>(made: Arg<'a>, asked: &Argument, most: i64) -> Arg<'a> {
+    made.long(asked.name)
+        .value_name(asked.value)
+        .value_parser(ValueParser::signed(1, most))
+}
+
+/// The command, with one more argument.
+fn with_argument<'a>(
+    alloc: Global,
+    command: Command<'a>,
+    asked: &Argument,
+) -> Result<Command<'a>, AllocError> {
+    command.arg(build_argument(alloc, asked)?)
+}
+
+/// The command, with its help and its arguments.
+fn build_subcommand<'a>(alloc: Global, asked: &Subcommand) -> Result<Command<'a>, AllocError> {
+    let mut command = Command::new(alloc, asked.name).about(asked.about);
+    if let Some(lines) = asked.lines {
+        command = command.after_help(lines);
+    }
+    for argument in asked.arguments {
+        command = with_argument(alloc, command, argument)?;
+    }
+    Ok(command)
+}
+
+/// The program, with its help.
+fn program<'a>(alloc: Global) -> Command<'a> {
+    Command::new(alloc, "gate")
+        .version("0.1.0")
+        .about(
+            "A sponsored-access gateway: OUCH 4.2 orders in SoupBinTCP 3.00 packets, judged by a written policy",
+        )
+        .after_help(SAMPLE_POLICY)
+        .subcommand_required(true)
+        .arg_required_else_help(true)
+}
+
+/// The program, with one more command.
+fn with_subcommand<'a>(
+    alloc: Global,
+    gate: Command<'a>,
+    asked: &Subcommand,
+) -> Result<Command<'a>, AllocError> {
+    gate.subcommand(build_subcommand(alloc, asked)?)
+}
+
+/// The command line: what may be asked, with its help.
+pub(crate) fn command_line<'a>(alloc: Global) -> Result<Command<'a>, AllocError> {
+    let mut gate = program(alloc);
+    for asked in &[PIPE, SERVE, SCRIPT, POLICY, MIGRATE, CHECK, SHOW] {
+        gate = with_subcommand(alloc, gate, asked)?;
+    }
+    Ok(gate)
+}

@@ -1,0 +1,19 @@
+//! What the threads of a server share beside its gate: the matcher's bell, the places for connections, and whether the
+//! server is to end. And what its threads look at: the clock, what a writer has seen of the records, who is connected.
+#![tactic(auto)]
+
+mod bell;
+mod clock;
+mod lobby;
+mod peer;
+mod places;
+mod stop;
+mod watch;
+
+pub use bell::Bell;
+pub use clock::now;
+pub use lobby::Lobby;
+pub use peer::Peer;
+pub use places::Places;
+pub use stop::Stop;
+pub use watch::Watch;

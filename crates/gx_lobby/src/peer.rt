@@ -1,0 +1,38 @@
+//! Who is connected, and what is told of him.
+
+use gx_soup::SoupFault;
+use std::alloc::Global;
+use std::net::{SocketAddr, TcpStream};
+
+/// A connection that was taken.
+#[derive(Drop)]
+pub struct Peer {
+    /// Which one of the run, the first being 1.
+    pub number: u64,
+    pub address: SocketAddr,
+    pub stream: TcpStream,
+}
+
+/// What is told of bytes that are no packets.
+fn words_of(fault: SoupFault) -> &'static str {
+    match fault {
+        SoupFault::ZeroLength => "a packet of length 0",
+        SoupFault::UnknownType => "a packet of a type that no client sends",
+        SoupFault::BadLogin => "a Login Request of another length, or that asks for no number",
+    }
+}
+
+impl Peer {
+    /// Tells that the connection ended since its bytes are no packets: a line, in one call, so that those of several
+    /// connections stay apart; nothing where there is no memory for it.
+    pub fn tell<R: Eprint>(&self, rt: &R, alloc: Global, fault: SoupFault) {
+        let number = self.number;
+        let address = self.address;
+        let words = words_of(fault);
+        if let Ok(line) = format!(in alloc;
+            "connection {number} from {address}: no packets: {words}\n"
+        ) {
+            let _ = eprint!(rt; "{line}");
+        }
+    }
+}
