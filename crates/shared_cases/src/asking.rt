@@ -55,7 +55,7 @@ const ALFA: AccountName = AccountName {
 };
 
 /// Why a run was given up.
-#[derive(Clone, Copy)]
+#[derive(Clone, Copy, Debug)]
 pub(crate) enum Ended {
     OutOfMemory,
     Pass(PassFault),

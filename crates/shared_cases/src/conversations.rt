@@ -181,8 +181,8 @@ fn put_played<N: GateName>(
     }
 }
 
-/// Plays at a gate, and tells of what both were sent.
-fn tell_play<N: GateName + Send + Sync, R: Threads + Wait + Clock + Sync>(
+/// Plays at a new gate, and tells of what both were sent.
+fn play_at<N: GateName + Send + Sync, R: Threads + Wait + Clock + Sync>(
     rt: &R,
     alloc: Global,
     policy: &Policy,
@@ -202,23 +202,6 @@ fn tell_play<N: GateName + Send + Sync, R: Threads + Wait + Clock + Sync>(
     }
 }
 
-/// Plays at a new gate, and tells of what both were sent, and of their waits.
-fn play_at<N: GateName + Send + Sync, R: Threads + Wait + Clock + Sync>(
-    rt: &R,
-    alloc: Global,
-    policy: &Policy,
-    blank: Blank,
-    stage: &Stage,
-    out: &mut String,
-) -> Result<(), Ended>
-    requires policy { policy.now ≡ N.policy }
-    requires blank { blank ≡ N.table }
-{
-    let gate: SharedGate<N> = SharedGate::new(alloc, policy, blank)?;
-    tell_play(rt, alloc, policy, gate, stage, out)?;
-    put_waits(out, stage)
-}
-
 /// Runs a play on a gate of its own, and tells of it.
 pub(crate) fn run_play<N: GateName + Send + Sync, R: Threads + Wait + Clock + Sync>(
     rt: &R,
@@ -233,5 +216,7 @@ pub(crate) fn run_play<N: GateName + Send + Sync, R: Threads + Wait + Clock + Sy
 {
     put(out, play.title())?;
     let stage = Stage::new(alloc, play)?;
-    play_at::<N, R>(rt, alloc, policy, blank, &stage, out)
+    let gate: SharedGate<N> = SharedGate::new(alloc, policy, blank)?;
+    play_at(rt, alloc, policy, gate, &stage, out)?;
+    put_waits(out, &stage)
 }

@@ -23,36 +23,29 @@ use std::sync::Wait;
 use std::thread::Threads;
 use std::time::Clock;
 
-/// How far a device goes.
-#[derive(Clone, Copy)]
-pub(crate) struct PaperLimits {
-    /// The most bytes that it takes at a call.
-    pub(crate) most: usize,
-    /// How many bytes it takes before it fails.
-    pub(crate) room: usize,
-}
-
 /// A device that takes so many bytes at a call, and fails once it has so many.
 #[derive(Drop)]
 pub(crate) struct Paper {
     pub(crate) taken: Vec<u8>,
-    limits: PaperLimits,
+    most: usize,
+    room: usize,
 }
 
 impl Paper {
     /// A device that has taken nothing.
-    pub(crate) fn new(alloc: Global, limits: PaperLimits) -> Paper {
+    pub(crate) fn new(alloc: Global, most: usize, room: usize) -> Paper {
         Paper {
             taken: Vec::new(alloc),
-            limits,
+            most,
+            room,
         }
     }
 }
 
 impl Write for Paper {
     fn write(&mut self, buf: &[u8]) -> io::Result<usize> {
-        let left = self.limits.room.saturating_sub(self.taken.len());
-        let count = buf.len().min(self.limits.most).min(left);
+        let left = self.room.saturating_sub(self.taken.len());
+        let count = buf.len().min(self.most).min(left);
         if count == 0 || self.taken.extend_from_slice(&buf[..count]).is_err() {
             return Err(io::Error::from(ErrorKind::StorageFull));
         }
@@ -127,31 +120,6 @@ fn put_told(
     }
 }
 
-/// Puts at the end what was told, where the journal has failed.
-fn put_failed(
-    alloc: Global,
-    policy: &Policy,
-    file: &[u8],
-    texts: &Texts,
-    out: &mut String,
-) -> Result<(), Ended> {
-    put(out, "the journal failed\n")?;
-    put_told(alloc, policy, file, texts, out)
-}
-
-/// Puts at the end what was told, and whether the journal has all of it.
-fn put_all(
-    alloc: Global,
-    policy: &Policy,
-    gate: &Gate,
-    file: &[u8],
-    texts: &Texts,
-    out: &mut String,
-) -> Result<(), Ended> {
-    put_texts(alloc, policy, gate, texts, out)?;
-    put_whole(alloc, gate, file, out)
-}
-
 /// Puts at the end what was kept of a play, and what was told.
 fn put_kept(
     alloc: Global,
@@ -164,56 +132,14 @@ fn put_kept(
 ) -> Result<(), Ended> {
     let file = file_of(alloc, policy, paper.taken.as_slice())?;
     if has_failed {
-        put_failed(alloc, policy, file.as_slice(), texts, out)
-    } else {
-        put_all(alloc, policy, gate, file.as_slice(), texts, out)
+        put(out, "the journal failed\n")?;
+        return put_told(alloc, policy, file.as_slice(), texts, out);
     }
+    put_texts(alloc, policy, gate, texts, out)?;
+    put_whole(alloc, gate, file.as_slice(), out)
 }
 
-/// Plays at a gate whose records are kept on a device of these limits: what was kept, and what both were sent.
-fn play_kept<N: GateName + Send + Sync, R: Threads + Wait + Clock + Sync>(
-    rt: &R,
-    alloc: Global,
-    shared: SharedGate<N>,
-    pass: Pass<N>,
-    passes: (Pass<N>, Pass<N>, Pass<N>),
-    stage: &Stage,
-    limits: PaperLimits,
-) -> (Kept<Paper>, Option<(Pass<N>, Texts)>)
-    requires { pass.front ≡ [] }
-{
-    let paper = Paper::new(alloc, limits);
-    let door: Journaled<'_, SharedGate<N>, Paper, Brand> = Journaled::new(
-        alloc, &shared, pass, 0, paper,
-    );
-    let played = attend_both(rt, alloc, &door, stage, passes);
-    let journal = door.into_journal();
-    (close_kept(shared, journal, Ok(())), played)
-}
-
-/// Closes what was kept of a play, and puts at the end what it was and what was told.
-fn put_closed<N: GateName>(
-    alloc: Global,
-    policy: &Policy,
-    kept: Kept<Paper>,
-    played: Option<(Pass<N>, Texts)>,
-    out: &mut String,
-) -> Result<(), Ended> {
-    let Kept {
-        gate,
-        ended: _,
-        fault,
-        device,
-    } = kept;
-    let told = match &played {
-        Some((_, texts)) => { put_kept(alloc, policy, &gate, &device, fault.is_some(), texts, out) }
-        None => Err(Ended::OutOfMemory),
-    };
-    gate.close();
-    told
-}
-
-/// Plays at a gate whose records are kept on a device of these limits, and tells of it.
+/// Plays at a new gate whose records are kept on this device, and tells of it.
 fn play_at<N: GateName + Send + Sync, R: Threads + Wait + Clock + Sync>(
     rt: &R,
     alloc: Global,
@@ -221,56 +147,56 @@ fn play_at<N: GateName + Send + Sync, R: Threads + Wait + Clock + Sync>(
     shared: SharedGate<N>,
     pass: Pass<N>,
     stage: &Stage,
-    limits: PaperLimits,
+    paper: Paper,
     out: &mut String,
 ) -> Result<(), Ended>
     requires { pass.front ≡ [] }
 {
-    match three_passes(rt, &shared) {
-        Ok(passes) => {
-            let (kept, played) = play_kept(rt, alloc, shared, pass, passes, stage, limits);
-            put_closed(alloc, policy, kept, played, out)
-        }
+    let passes = match three_passes(rt, &shared) {
+        Ok(passes) => passes,
         Err(fault) => {
             shared.let_go();
-            Err(Ended::Pass(fault))
+            return Err(Ended::Pass(fault));
         }
-    }
+    };
+    let door: Journaled<'_, SharedGate<N>, Paper, Brand> = Journaled::new(
+        alloc, &shared, pass, 0, paper,
+    );
+    let played = attend_both(rt, alloc, &door, stage, passes);
+    let journal = door.into_journal();
+    let Kept {
+        gate,
+        ended: _,
+        fault,
+        device,
+    } = close_kept(shared, journal, Ok(()));
+    let told = match played {
+        Some((_pass, texts)) => {
+            put_kept(alloc, policy, &gate, &device, fault.is_some(), &texts, out)
+        }
+        None => Err(Ended::OutOfMemory),
+    };
+    gate.close();
+    told
 }
 
-/// Plays at a new gate whose records are kept on a device of these limits, and tells of it.
-fn play_over<N: GateName + Send + Sync, R: Threads + Wait + Clock + Sync>(
-    rt: &R,
-    alloc: Global,
-    policy: &Policy,
-    blank: Blank,
-    stage: &Stage,
-    limits: PaperLimits,
-    out: &mut String,
-) -> Result<(), Ended>
-    requires policy { policy.now ≡ N.policy }
-    requires blank { blank ≡ N.table }
-{
-    let gate = Gate::open(alloc, policy)?;
-    match SharedGate::<N>::over(gate, blank) {
-        Ok((shared, pass)) => play_at(rt, alloc, policy, shared, pass, stage, limits, out),
-        Err(fault) => Err(Ended::Pass(fault)),
-    }
-}
-
-/// Runs a play on a gate of its own whose records are kept on a device of these limits, and tells of it.
+/// Runs a play on a gate of its own whose records are kept on this device, and tells of it.
 pub(crate) fn run_kept<N: GateName + Send + Sync, R: Threads + Wait + Clock + Sync>(
     rt: &R,
     alloc: Global,
     policy: &Policy,
     blank: Blank,
     play: Play,
-    limits: PaperLimits,
+    paper: Paper,
     out: &mut String,
 ) -> Result<(), Ended>
     requires policy { policy.now ≡ N.policy }
     requires blank { blank ≡ N.table }
 {
     let stage = Stage::new(alloc, play)?;
-    play_over::<N, R>(rt, alloc, policy, blank, &stage, limits, out)
+    let gate = Gate::open(alloc, policy)?;
+    match SharedGate::<N>::over(gate, blank) {
+        Ok((shared, pass)) => play_at(rt, alloc, policy, shared, pass, &stage, paper, out),
+        Err(fault) => Err(Ended::Pass(fault)),
+    }
 }

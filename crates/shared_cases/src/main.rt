@@ -24,7 +24,7 @@ use gx_history::policy::Policy;
 use gx_pass::Blank;
 use gx_policyfile::sample;
 use gx_units::OutOfMemory;
-use keeping::{PaperLimits, run_kept};
+use keeping::{Paper, run_kept};
 use plays::Play;
 use std::alloc::Global;
 use std::io;
@@ -74,63 +74,16 @@ fn run_plays<R: Threads + Wait + Clock + Sync>(
     Ok(())
 }
 
-/// A play on a gate of its own whose records are kept on a device of these limits.
+/// A play on a gate of its own whose records are kept on a device.
 fn play_kept<R: Threads + Wait + Clock + Sync>(
     rt: &R,
     alloc: Global,
     policy: &Policy,
     play: Play,
-    limits: PaperLimits,
+    paper: Paper,
     out: &mut String,
 ) -> Result<(), Ended> {
-    run_kept::<Brand, R>(rt, alloc, policy, Blank::new(alloc)?, play, limits, out)
-}
-
-/// A play whose records are kept: what is printed before it, and how far its device goes.
-#[derive(Clone, Copy)]
-struct KeptPlay {
-    title: &'static str,
-    play: Play,
-    limits: PaperLimits,
-}
-
-const KEPT_PLAYS: [KeptPlay; 3] = [
-    KeptPlay {
-        title: "Three hundred orders, kept on a device that takes 100 bytes at a call:\n",
-        play: Play::Exchange,
-        limits: PaperLimits {
-            most: 100,
-            room: usize::MAX,
-        },
-    },
-    KeptPlay {
-        title: "The same, on a device that fails in the middle of record 201:\n",
-        play: Play::Exchange,
-        limits: PaperLimits {
-            most: usize::MAX,
-            room: 200 * RECORD_SIZE + 50,
-        },
-    },
-    KeptPlay {
-        title: "Two orders, on a device that takes nothing:\n",
-        play: Play::Farewell,
-        limits: PaperLimits {
-            most: usize::MAX,
-            room: 0,
-        },
-    },
-];
-
-/// A play whose records are kept, behind its title.
-fn tell_kept<R: Threads + Wait + Clock + Sync>(
-    rt: &R,
-    alloc: Global,
-    policy: &Policy,
-    kept: KeptPlay,
-    out: &mut String,
-) -> Result<(), Ended> {
-    put(out, kept.title)?;
-    play_kept(rt, alloc, policy, kept.play, kept.limits, out)
+    run_kept::<Brand, R>(rt, alloc, policy, Blank::new(alloc)?, play, paper, out)
 }
 
 /// The plays whose records are kept, on a date that stands still.
@@ -141,22 +94,21 @@ fn run_kept_plays<R: Threads + Wait + Clock + Sync>(
     out: &mut String,
 ) -> Result<(), Ended> {
     let still = Still::new(rt);
-    for kept in KEPT_PLAYS {
-        tell_kept(&still, alloc, policy, kept, out)?;
-    }
-    Ok(())
-}
-
-/// The runs that ask a gate with no server, each on a gate of its own.
-fn run_doors<R: Threads + Wait + Sync>(
-    rt: &R,
-    alloc: Global,
-    policy: &Policy,
-    out: &mut String,
-) -> Result<(), Ended> {
-    lengths::run_lengths::<Brand, R>(rt, alloc, policy, Blank::new(alloc)?, out)?;
-    lines::run_lines::<Brand, R>(rt, alloc, policy, Blank::new(alloc)?, out)?;
-    races::run_races::<Brand, R>(rt, alloc, policy, Blank::new(alloc)?, out)
+    put(
+        out,
+        "Three hundred orders, kept on a device that takes 100 bytes at a call:\n",
+    )?;
+    let paper = Paper::new(alloc, 100, usize::MAX);
+    play_kept(&still, alloc, policy, Play::Exchange, paper, out)?;
+    put(
+        out,
+        "The same, on a device that fails in the middle of record 201:\n",
+    )?;
+    let paper = Paper::new(alloc, usize::MAX, 200 * RECORD_SIZE + 50);
+    play_kept(&still, alloc, policy, Play::Exchange, paper, out)?;
+    put(out, "Two orders, on a device that takes nothing:\n")?;
+    let paper = Paper::new(alloc, usize::MAX, 0);
+    play_kept(&still, alloc, policy, Play::Farewell, paper, out)
 }
 
 /// All runs, each on a gate of its own.
@@ -164,7 +116,9 @@ fn run_all<R>(rt: &R, alloc: Global, policy: &Policy, out: &mut String) -> Resul
 where
     R: Net<Listener = TcpListener, Stream = TcpStream> + Threads + Wait + Clock + Eprint + Sync,
 {
-    run_doors(rt, alloc, policy, out)?;
+    lengths::run_lengths::<Brand, R>(rt, alloc, policy, Blank::new(alloc)?, out)?;
+    lines::run_lines::<Brand, R>(rt, alloc, policy, Blank::new(alloc)?, out)?;
+    races::run_races::<Brand, R>(rt, alloc, policy, Blank::new(alloc)?, out)?;
     run_plays(rt, alloc, policy, out)?;
     loopback::run_loopback(rt, alloc, policy, out)?;
     run_kept_plays(rt, alloc, policy, out)?;

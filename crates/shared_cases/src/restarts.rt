@@ -1,7 +1,7 @@
 //! A server that is started again on the journal of its day, which was cut in its last record.
 
 use crate::asking::{Ended, put};
-use crate::keeping::{Paper, PaperLimits, file_of, put_whole};
+use crate::keeping::{Paper, file_of, put_whole};
 use crate::loopback::{connect, hear, listen};
 use crate::packets::{ALICE_LOGIN, BUY_MANY};
 use gx_audit::{AuditFault, check_audit};
@@ -73,13 +73,7 @@ fn serve_file<R: Threads + Wait + Clock + Eprint + Sync>(
         Err(fault) => return Err(ended_by(fault)),
     };
     let count = gate.length();
-    let paper = Paper::new(
-        alloc,
-        PaperLimits {
-            most: MOST,
-            room: usize::MAX,
-        },
-    );
+    let paper = Paper::new(alloc, MOST, usize::MAX);
     match serve_journaled(rt, alloc, gate, count, paper, lobby, listener, 1) {
         Ok(served) => Ok((served, kept)),
         Err(fault) => Err(Ended::Pass(fault)),

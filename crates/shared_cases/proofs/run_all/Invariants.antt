@@ -1,4 +1,4 @@
-use Rattle.shared_cases.proofs.run_doors.Given as goal
+use Rattle.shared_cases.proofs.run_all.Given as goal
 
 -- each run is of the policy and of the table that it is given
 abbrev pub ghosts-run_lengths : goal.ghosts-run_lengths
