@@ -1,5 +1,5 @@
 -- What a line of a script does.
-use Rattle.std.proofs.Common.{◌≡◌, ℕ, ◌+◌, ◌<◌, ◌≤◌, ◌⊎◌, inl, inr, Bool, true, false, not, leb, le-leb, cond, List, [], ◌∷◌, ◌++◌, length, take, Option, Some, None, Result, Ok, Err, IfOk, refl, sym, ap, ◌∙◌, subst, append-nil}
+use Rattle.std.proofs.Common.{◌≡◌, ℕ, ◌+◌, ◌<◌, ◌≤◌, ◌⊎◌, inl, inr, Bool, true, false, not, leb, le-leb, cond, List, [], ◌∷◌, ◌++◌, length, take, Option, Some, None, Result, Ok, Err, IfOk, refl, sym, ap, ◌∙◌, subst}
 use Rattle.std.proofs.lemmas.Bool.{lt-leb, cases_lt}
 use Rattle.std.specs.Prelude.{is_ok, ◌&&◌}
 use Rattle.gx_history.specs.declared.record.Asked.{Asked}
@@ -14,6 +14,7 @@ use Rattle.gx_core.specs.declared.outcome.Outcome.{Outcome}
 use Rattle.gx_core.specs.declared.outcome.StepFault.{StepFault}
 use Rattle.gx_core.specs.Asking.{stepped}
 use Rattle.gx_script.specs.Printing.{outcome_line, refused_line}
+use Rattle.gx_devices.proofs.Stopping.{first_same}
 use Rattle.gx_scripting.specs.Leaving.{IsHalf}
 use Rattle.gx_scripting.specs.Scripting.{Printed, step_of}
 use Rattle.gx_core.proofs.Stepped.{stepped_is, all_taken}
@@ -77,10 +78,8 @@ step_half gate after a text r made policy_is records_are = inr (record {
   printed = step_of gate a;
   is_its = refl;
   policy_kept = policy_is;
-  made = r ∷ [];
-  goes_on = records_are;
-  behind = [];
-  leads_on = ap (λ (p : Printed). p.gate.records) made ∙ sym (append-nil after.records);
+  made = record { others = r ∷ []; whole = records_are };
+  left = first_same after.records (step_of gate a).gate.records (ap (λ (p : Printed). p.gate.records) (sym made));
 })
 
 -- all reports came

@@ -1,4 +1,5 @@
 pub mod Doing
+pub mod Growing
 pub mod ScriptCuts
 pub mod Texts
 pub mod ScriptRuns

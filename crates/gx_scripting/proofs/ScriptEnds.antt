@@ -5,15 +5,11 @@ use Rattle.std.proofs.KnownBytes.{Appends-nil, Appends-trans, Consumes-nil, Cons
 use Rattle.gx_core.specs.Gates.{GateData}
 use Rattle.gx_scripting.specs.declared.script_fault.ScriptFault.{ScriptFault}
 use Rattle.gx_scripting.specs.declared.script_fault.ScriptFault.TheVariants as faults
-use Rattle.gx_scripting.specs.Scripting.{Printed, line_effect, ScriptRun, with_line, cut_of, after_lines, script_of, is_settled}
-use Rattle.gx_scripting.specs.ScriptPiping.{so_far, EndsLine, IsBadLine, StopsAtLine, IsBegun, IsHalfway, IsOfNext, Stops, HalvesLine, IsSoFar, TakesPiece, FindsBad, BreaksOff, StopsInPiece, IsScript, IsCutShort, IfBadLine, UnlessBadLine, IsAll}
+use Rattle.gx_scripting.specs.Scripting.{Printed, line_effect, ScriptRun, with_line, cut_of, script_of, is_settled}
+use Rattle.gx_scripting.specs.ScriptPiping.{so_far, EndsLine, cause_of, StopsIn, IsLast, IsBadLine, StopsAtLine, IsSoFar, TakesPiece, FindsBad, BreaksOff, StopsInPiece, IsScript, IsCutShort, IfBadLine, UnlessBadLine, IsAll}
+use Rattle.gx_devices.specs.Stopping.{MayEnd}
 use Rattle.gx_scripting.proofs.ScriptCuts.{script_is, nothing_follows}
-use Rattle.gx_scripting.proofs.Texts.{piece_ahead, rest_ahead}
-use Rattle.gx_scripting.proofs.ScriptRuns.{good, next_line, gate_is, stops_here, stops_too}
-
-next_or_last : (others : List (List ℕ)) (last : Type 0) (is_so : List ℕ → Type 0) → IsOfNext others ⊥ is_so → IsOfNext others last is_so
-next_or_last [] last is_so h = absurd h
-next_or_last (line ∷ others) last is_so h = h
+use Rattle.gx_scripting.proofs.ScriptRuns.{good, next_line, gate_is, is_good, stops_before}
 
 -- before an iteration of `run_script`
 pub record StandsAt (input left output written : Option (List ℕ)) (before gate : GateData) (rest : List ℕ) (lines : ℕ) : Type 0 where
@@ -43,6 +39,12 @@ module _ (input left output written : Option (List ℕ)) (before gate : GateData
     few = few;
     text = rw t.more (Appends-trans output written written' _ _ s.text t.written);
   }
+
+  here_is : gate ≡ (so_far before s.bytes).gate
+  here_is = gate_is before s.bytes gate rest lines s.follows
+
+  good_is : (so_far before s.bytes).bad ≡ None
+  good_is = is_good before s.bytes gate rest lines s.follows
 
   whole_script : (effect : Option Printed) → line_effect gate rest ≡ effect → script_of before s.bytes ≡ with_line (good gate (so_far before s.bytes).text lines) effect
   whole_script effect e = script_is before s.bytes ∙ next_line before s.bytes gate rest lines s.follows effect e
@@ -79,53 +81,49 @@ module _ (input left output written : Option (List ℕ)) (before gate : GateData
             whole = inl end;
           }
 
-      half_done : IsAtEnd left' → (fault : ScriptFault) → HalvesLine gate rest now written written' fault → IsCutShort input left' output written' before now fault
-      unfolding so_far
-      half_done end fault d =
-          let there = stops_here before s.bytes gate rest lines s.follows fault now d.text d.stop in
-          record {
-            bytes = s.bytes;
-            consumed = still;
-            lines = (cut_of s.bytes).whole;
-            others = [];
-            split = sym (append-nil (cut_of s.bytes).whole);
-            good = ap (λ (r : ScriptRun). r.bad) s.follows.run;
-            ahead = rest_ahead s.bytes rest s.follows.held s.few;
-            text = d.text;
-            told = Appends-trans output written written' _ _ s.text d.written;
-            stop = stops_too fault _ _ _ _ _ _ (so_far before s.bytes).gate now d.text (λ h. refl) (λ h. (end, h)) (λ h. (end, h)) there;
-          }
+      half_done : (fault : ScriptFault) → IsLast (cause_of fault) (IsAtEnd left') → StopsIn (so_far before s.bytes) (rest ∷ []) fault now written written'
+          → IsCutShort input left' output written' before now fault
+      half_done fault end cut = record {
+        bytes = s.bytes;
+        piece = [];
+        consumed = subst (Consumes input left') (sym (append-nil s.bytes)) still;
+        held = omega (arith, s.few, ap length s.follows.held);
+        small = omega arith;
+        behind = written;
+        earlier = s.text;
+        lines = rest ∷ [];
+        are_next = inr (refl, ap (λ l. l ∷ []) s.follows.held, end);
+        cut = cut;
+      }
 
       pub ends_with_bad : IsAtEnd left' → (fault : ScriptFault) → StopsAtLine gate rest lines now written written' fault
           → IfBadLine fault (λ k. IsScript input left' output written' before now (Some k))
       ends_with_bad end (faults.BadLine k) d = ends_bad end k d
       ends_with_bad end faults.WriteFailed d = tt
       ends_with_bad end faults.OutOfMemory d = tt
-      ends_with_bad end faults.ReadFailed d = tt
-      ends_with_bad end faults.Endless d = tt
+      ends_with_bad end faults.ReadFailed d = absurd d
+      ends_with_bad end faults.Endless d = absurd d
 
       pub ends_halfway : IsAtEnd left' → (fault : ScriptFault) → StopsAtLine gate rest lines now written written' fault → UnlessBadLine fault (IsCutShort input left' output written' before now fault)
       ends_halfway end (faults.BadLine k) d = tt
-      ends_halfway end faults.WriteFailed d = half_done end faults.WriteFailed d
-      ends_halfway end faults.OutOfMemory d = half_done end faults.OutOfMemory d
-      ends_halfway end faults.ReadFailed d = half_done end faults.ReadFailed d
-      ends_halfway end faults.Endless d = half_done end faults.Endless d
+      ends_halfway end faults.WriteFailed d = half_done faults.WriteFailed end (d (so_far before s.bytes) [] (sym here_is) good_is)
+      ends_halfway end faults.OutOfMemory d = half_done faults.OutOfMemory end (d (so_far before s.bytes) [] (sym here_is) good_is)
+      ends_halfway end faults.ReadFailed d = absurd d
+      ends_halfway end faults.Endless d = absurd d
 
   -- a read that failed, or one too many
-  pub stops_reading : (fault : ScriptFault) → ((all_done begun halfway : Type 0) (at : GateData) → all_done → gate ≡ at → Stops fault all_done begun halfway at gate []) → (left' : Option (List ℕ)) → Keeps left left'
-      → IsCutShort input left' output written before gate fault
-  unfolding so_far
-  stops_reading fault stop left' kept = record {
+  pub stops_reading : (fault : ScriptFault) → MayEnd (cause_of fault) → (left' : Option (List ℕ)) → Keeps left left' → IsCutShort input left' output written before gate fault
+  stops_reading fault may left' kept = record {
     bytes = s.bytes;
-    consumed = Consumes-kept input left left' s.bytes s.consumed kept;
-    lines = (cut_of s.bytes).whole;
-    others = [];
-    split = sym (append-nil (cut_of s.bytes).whole);
-    good = ap (λ (r : ScriptRun). r.bad) s.follows.run;
-    ahead = rest_ahead s.bytes rest s.follows.held s.few;
-    text = [];
-    told = rw (append-nil (so_far before s.bytes).text) s.text;
-    stop = stop _ _ _ _ refl (gate_is before s.bytes gate rest lines s.follows);
+    piece = [];
+    consumed = subst (Consumes input left') (sym (append-nil s.bytes)) (Consumes-kept input left left' s.bytes s.consumed kept);
+    held = omega (arith, s.few, ap length s.follows.held);
+    small = omega arith;
+    behind = written;
+    earlier = s.text;
+    lines = [];
+    are_next = inl (ap (λ x. (cut_of x).whole) (append-nil s.bytes) ∙ sym (append-nil (cut_of s.bytes).whole));
+    cut = stops_before (so_far before s.bytes) good_is [] fault gate written written here_is (may, refl) (Appends-nil written);
   }
 
   -- a piece that was given up
@@ -141,34 +139,32 @@ module _ (input left output written : Option (List ℕ)) (before gate : GateData
     }
 
     breaks : (fault : ScriptFault) → length piece ≤ 4096 → BreaksOff before s.bytes piece now written written' fault → IsCutShort input left' output written' before now fault
-    breaks fault short b =
-        let gate = (after_lines before b.lines).gate in
-        record {
-          bytes = s.bytes ++ piece;
-          consumed = Consumes-trans input left left' s.bytes piece s.consumed took;
-          lines = b.lines;
-          others = b.others;
-          split = b.split;
-          good = b.good;
-          ahead = piece_ahead s.bytes piece b.lines b.done rest s.follows.held s.few short b.earlier;
-          text = b.text;
-          told = rw b.more (Appends-trans output written written' _ _ s.text b.written);
-          stop = stops_too fault _ _ _ _ _ _ gate now b.text (λ h. absurd h) (next_or_last b.others _ (λ line. IsBegun gate line now b.text)) (next_or_last b.others _ (λ line. IsHalfway gate line now)) b.stop;
-        }
+    breaks fault short b = record {
+      bytes = s.bytes;
+      piece = piece;
+      consumed = Consumes-trans input left left' s.bytes piece s.consumed took;
+      held = omega (arith, s.few, ap length s.follows.held);
+      small = short;
+      behind = written;
+      earlier = s.text;
+      lines = b.lines;
+      are_next = inl b.split;
+      cut = b.cut;
+    }
 
     pub stops_with_bad : (fault : ScriptFault) → StopsInPiece before s.bytes piece now written written' fault → IfBadLine fault (λ k. IsScript input left' output written' before now (Some k))
     stops_with_bad (faults.BadLine k) f = finds k f
     stops_with_bad faults.WriteFailed f = tt
     stops_with_bad faults.OutOfMemory f = tt
-    stops_with_bad faults.ReadFailed f = tt
-    stops_with_bad faults.Endless f = tt
+    stops_with_bad faults.ReadFailed f = absurd f
+    stops_with_bad faults.Endless f = absurd f
 
     pub stops_halfway : length piece ≤ 4096 → (fault : ScriptFault) → StopsInPiece before s.bytes piece now written written' fault → UnlessBadLine fault (IsCutShort input left' output written' before now fault)
     stops_halfway short (faults.BadLine k) f = tt
     stops_halfway short faults.WriteFailed f = breaks faults.WriteFailed short f
     stops_halfway short faults.OutOfMemory f = breaks faults.OutOfMemory short f
-    stops_halfway short faults.ReadFailed f = breaks faults.ReadFailed short f
-    stops_halfway short faults.Endless f = breaks faults.Endless short f
+    stops_halfway short faults.ReadFailed f = absurd f
+    stops_halfway short faults.Endless f = absurd f
 
 -- where the reader tells its bytes
 all_bytes : (input left output written : Option (List ℕ)) (before after : GateData) (bad : Option ℕ) (bytes : List ℕ) → Consumes input left bytes → after ≡ (script_of before bytes).gate

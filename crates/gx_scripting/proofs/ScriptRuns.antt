@@ -1,14 +1,23 @@
 -- Laws of scripts: a front more, a line's end, one piece more.
-use Rattle.std.proofs.Common.{◌≡◌, ℕ, ◌+◌, true, is_some, Option, Some, None, List, [], ◌∷◌, ◌++◌, Result, Ok, Err, IfErr, OnOk, refl, sym, ap, ◌∙◌, subst, append_assoc, append-nil, inl, inr}
+use Rattle.std.proofs.Common.{◌≡◌, ℕ, ◌+◌, true, cond, is_some, Option, Some, None, List, [], ◌∷◌, ◌++◌, Result, Ok, Err, IfErr, OnOk, refl, sym, ap, ◌∙◌, subst, append_assoc, append-nil, inl, inr}
+use Rattle.std.specs.Prelude.{fold}
+use Rattle.std.specs.Io.KnownBytes.{Appends}
 use Rattle.std.proofs.KnownBytes.{Appends-nil, Appends-trans}
+use Rattle.std.proofs.lemmas.List.Sums.{fold-append}
 use Rattle.gx_core.specs.Gates.{GateData}
 use Rattle.gx_scripting.specs.declared.script_fault.ScriptFault.{ScriptFault}
 use Rattle.gx_devices.specs.Devices.{IsFront}
+use Rattle.gx_devices.specs.Stopping.{AreFirst, Mark, Memory, Writing, IsBetween, IsUnsent, Stops, trail}
+use Rattle.gx_devices.proofs.Stopping.{first_behind, first_same, stops_here, trail_stops}
+use Rattle.gx_history.specs.declared.policy.PolicyData.{PolicyData}
+use Rattle.gx_history.specs.declared.record.RecordData.{RecordData}
 use Rattle.gx_scripting.specs.declared.script_fault.ScriptFault.TheVariants as faults
 use Rattle.gx_script.specs.ScriptLines.{is_too_long}
-use Rattle.gx_scripting.specs.Scripting.{Printed, line_effect, ScriptRun, with_line, on_line, Cut, cut_of, after_lines, script_of, is_settled}
-use Rattle.gx_scripting.specs.ScriptPiping.{so_far, EndsLine, IsBegun, IsHalfway, IsOfNext, Stops, HalvesLine, IsBadLine, StopsAtLine, IsSoFar, TakesPiece, FindsBad, BreaksOff, StopsInPiece}
-use Rattle.gx_scripting.specs.ScriptTexts.{has_no_end}
+use Rattle.gx_scripting.specs.Scripting.{Printed, line_effect, ScriptRun, unread, with_line, on_line, Cut, cut_of, after_lines, script_of, is_settled}
+use Rattle.gx_scripting.specs.Leaving.{IsHalf}
+use Rattle.gx_scripting.specs.ScriptPiping.{so_far, EndsLine, Known, mark, line_marks, cause_of, Refused, StopsIn, IsBadLine, StopsAtLine, IsSoFar, TakesPiece, FindsBad, BreaksOff, StopsInPiece}
+use Rattle.gx_scripting.proofs.Growing.{GoesOn, EffectGoesOn, line_effect_on}
+use Rattle.gx_scripting.specs.ScriptTexts.{ended, has_no_end}
 use Rattle.gx_scripting.proofs.ScriptCuts.{cut_end, cut_on, lines_more, script_is, long_is_bad, settled_bad, settled_long, settled_stays, nothing_follows, lines_grow}
 
 pub if_err : {T E : Type 0} (r : Result T E) (P Q : E → Type 0) → ((x : E) → P x → Q x) → IfErr r P → IfErr r Q
@@ -23,29 +32,91 @@ pub on_ok3 : {T E : Type 0} (r : Result T E) (A B C D : Type 0) → (A → B →
 on_ok3 (Ok x) A B C D f a b c = f a b c
 on_ok3 (Err e) A B C D f a b c = tt
 
--- a line that was done, and of whose text a front was written
+-- in a run with no bad line, a line does what it does
+pub good_line : (run : ScriptRun) → run.bad ≡ None → (line : List ℕ) → on_line run line ≡ with_line run (line_effect run.gate line)
+unfolding on_line
+good_line run is_good line = ap (λ (bad : Option ℕ). cond (is_some bad) run (with_line run (line_effect run.gate line))) is_good
+
+-- nothing of these lines was done
+pub stops_before : (run : ScriptRun) → run.bad ≡ None → (lines : List (List ℕ)) (fault : ScriptFault) (now : GateData) (output left : Option (List ℕ)) → now ≡ run.gate
+    → Stops Refused (cause_of fault) (mark run) (trail line_marks on_line run lines) (mark run) → Appends output left [] → StopsIn run lines fault now output left
+stops_before run is_good lines fault now output left same stops written =
+    record { stop = mark run; stops = stops; good = is_good; gate = same; told = []; text = sym (append-nil run.text); written = written }
+
+-- a growth was refused before them
+pub pauses : (run : ScriptRun) → run.bad ≡ None → (lines : List (List ℕ)) (now : GateData) (output : Option (List ℕ)) → now ≡ run.gate → StopsIn run lines faults.OutOfMemory now output output
+pauses run is_good lines now output same =
+    stops_before run is_good lines faults.OutOfMemory now output output same (stops_here Refused (mark run) (trail line_marks on_line run lines)) (Appends-nil output)
+
+-- a line was done, and a front of its text written
 pub half_written : (before : GateData) (line : List ℕ) (now : GateData) (output left : Option (List ℕ)) (text piece : List ℕ)
-    → line_effect before line ≡ Some (record { gate = now; text = text }) → piece ≡ text → IsFront output left piece → HalvesLine before line now output left faults.WriteFailed
-half_written before line now output left text piece e p f = record {
-  text = f.front;
-  written = f.written;
-  stop = (f.rest, e ∙ ap (λ t. Some (record { gate = now; text = t })) (sym p ∙ f.whole));
-}
+    → line_effect before line ≡ Some (record { gate = now; text = text }) → piece ≡ text → IsFront output left piece
+    → (run : ScriptRun) (others : List (List ℕ)) → run.gate ≡ before → run.bad ≡ None → StopsIn run (line ∷ others) faults.WriteFailed now output left
+half_written before line now output left text piece e p f run others at is_good =
+    let stop : Mark RecordData Known = record { records = now.records; text = run.text ++ f.front; known = record { policy = now.policy; bad = None } } in
+    let done : on_line run line ≡ with_line run (Some (record { gate = now; text = text })) = good_line run is_good line ∙ ap (with_line run) (ap (λ g. line_effect g line) at ∙ e) in
+    record {
+      stop = stop;
+      stops = inr (inl (inr (subst (λ (r : ScriptRun). IsUnsent Writing (mark run) (mark r) stop) (sym done) (record {
+        records = refl;
+        known = refl;
+        begun = record { others = f.front; whole = refl };
+        left = first_behind run.text f.front text (record { others = f.rest; whole = sym p ∙ f.whole });
+        sending = tt;
+      }))));
+      good = refl;
+      gate = refl;
+      told = f.front;
+      text = refl;
+      written = f.written;
+    }
 
--- what a fault says, in other words
-pub stops_too : (fault : ScriptFault) (all_done all_done' begun begun' halfway halfway' : Type 0) (gate now : GateData) (text : List ℕ)
-    → (all_done → all_done') → (begun → begun') → (halfway → halfway') → Stops fault all_done begun halfway gate now text → Stops fault all_done' begun' halfway' gate now text
-stops_too (faults.BadLine n) all_done all_done' begun begun' halfway halfway' gate now text f g k h = absurd h
-stops_too faults.ReadFailed all_done all_done' begun begun' halfway halfway' gate now text f g k h = (f h.0, h.1, h.2)
-stops_too faults.Endless all_done all_done' begun begun' halfway halfway' gate now text f g k h = (f h.0, h.1, h.2)
-stops_too faults.WriteFailed all_done all_done' begun begun' halfway halfway' gate now text f g k h = g h
-stops_too faults.OutOfMemory all_done all_done' begun begun' halfway halfway' gate now text f g k (inl h, e) = (inl h, e)
-stops_too faults.OutOfMemory all_done all_done' begun begun' halfway halfway' gate now text f g k (inr h, e) = (inr (k h), e)
+-- of its records the first were made, and nothing was written
+pub half_done : (before : GateData) (line : List ℕ) (now : GateData) (output : Option (List ℕ)) → IsHalf before (line_effect before line) now
+    → (run : ScriptRun) (others : List (List ℕ)) → run.gate ≡ before → run.bad ≡ None → StopsIn run (line ∷ others) faults.OutOfMemory now output output
+half_done before line now output (inl same) run others at is_good = pauses run is_good (line ∷ others) now output (same ∙ sym at)
+half_done before line now output (inr h) run others at is_good = by h.left.others h.left.whole
+  where
+    stop : Mark RecordData Known
+    stop = record { records = now.records; text = run.text; known = record { policy = now.policy; bad = None } }
 
--- more lines behind the next one
-next_more : (others more : List (List ℕ)) (is_so : List ℕ → Type 0) → IsOfNext others ⊥ is_so → IsOfNext (others ++ more) ⊥ is_so
-next_more [] more is_so h = absurd h
-next_more (line ∷ others) more is_so h = h
+    done : on_line run line ≡ with_line run (Some h.printed)
+    done = good_line run is_good line ∙ ap (with_line run) (ap (λ g. line_effect g line) at ∙ h.is_its)
+
+    effect : GoesOn before h.printed.gate
+    effect = subst (EffectGoesOn before) h.is_its (line_effect_on before line)
+
+    known_as : (policy : PolicyData) (bad : Option ℕ) → now.policy ≡ policy → None ≡ bad → stop.known ≡ record { policy = policy; bad = bad }
+    known_as policy bad e k = ap (λ p. record { policy = p; bad = None }) e ∙ ap (λ b. record { policy = policy; bad = b }) k
+
+    ended : IsBetween Refused Memory (mark run) (mark (with_line run (Some h.printed))) stop → StopsIn run (line ∷ others) faults.OutOfMemory now output output
+    ended between = record {
+      stop = stop;
+      stops = inr (inl (subst (λ (r : ScriptRun). IsBetween Refused Memory (mark run) (mark r) stop) (sym done) between));
+      good = refl;
+      gate = refl;
+      told = [];
+      text = sym (append-nil run.text);
+      written = Appends-nil output;
+    }
+
+    by : (others' : List RecordData) → h.printed.gate.records ≡ now.records ++ others' → StopsIn run (line ∷ others) faults.OutOfMemory now output output
+    by [] e = ended (inr (record {
+      records = sym (append-nil now.records) ∙ sym e;
+      known = known_as h.printed.gate.policy None (h.policy_kept ∙ sym effect.policy_kept) refl;
+      begun = first_same run.text run.text refl;
+      left = record { others = h.printed.text; whole = refl };
+      sending = refl;
+    }))
+    by (r ∷ others') e = ended (inl (
+      tt,
+      record {
+        made = subst (λ (g : GateData). AreFirst g.records now.records) (sym at) h.made;
+        left = record { next = r; others = others'; whole = e };
+        text = refl;
+        known = known_as run.gate.policy run.bad (h.policy_kept ∙ ap (λ (g : GateData). g.policy) (sym at)) (sym is_good);
+      },
+    ))
 
 -- a run with no bad line
 abbrev pub good : GateData → List ℕ → ℕ → ScriptRun
@@ -54,6 +125,20 @@ good gate text lines = record { gate = gate; text = text; lines = lines; bad = N
 -- and one whose last line was bad
 abbrev pub bad_run : GateData → List ℕ → ℕ → ScriptRun
 bad_run gate text lines = record { gate = gate; text = text; lines = lines + 1; bad = Some (lines + 1) }
+
+-- whatever follows a bad line
+finds_before : (before : GateData) (bytes piece tail : List ℕ) (n : ℕ) (now : GateData) (output left : Option (List ℕ)) → FindsBad before bytes piece n now output left → FindsBad before bytes (piece ++ tail) n now output left
+finds_before before bytes piece tail n now output left f =
+    let place : bytes ++ (piece ++ tail) ≡ (bytes ++ piece) ++ tail = sym (append_assoc bytes piece tail) in
+    let same : script_of before (bytes ++ (piece ++ tail)) ≡ script_of before (bytes ++ piece) = ap (script_of before) place ∙ nothing_follows before (bytes ++ piece) tail f.settled in
+    record {
+      bad = ap (λ (r : ScriptRun). r.bad) same ∙ f.bad;
+      gate = f.gate ∙ sym (ap (λ (r : ScriptRun). r.gate) same);
+      text = f.text;
+      written = f.written;
+      more = ap (λ (r : ScriptRun). r.text) same ∙ f.more;
+      settled = ap (is_settled before) place ∙ settled_stays before (bytes ++ piece) tail f.settled;
+    }
 
 module _ (before : GateData) (bytes : List ℕ) (gate : GateData) (line : List ℕ) (lines : ℕ) (s : IsSoFar before bytes gate line lines) where
   -- the line that is held back, as the next one
@@ -67,13 +152,8 @@ module _ (before : GateData) (bytes : List ℕ) (gate : GateData) (line : List �
   pub gate_is : gate ≡ (so_far before bytes).gate
   gate_is = sym (ap (λ (r : ScriptRun). r.gate) s.run)
 
-  -- the line that is held back was given up
-  pub stops_here : (fault : ScriptFault) (now : GateData) (text : List ℕ) → Stops fault ⊥ (IsBegun gate line now text) (IsHalfway gate line now) gate now text
-      → let here = (so_far before bytes).gate in
-      Stops fault ⊥ (IsBegun here (cut_of bytes).rest now text) (IsHalfway here (cut_of bytes).rest now) here now text
-  stops_here fault now text h =
-      subst (λ l. Stops fault ⊥ (IsBegun (so_far before bytes).gate l now text) (IsHalfway (so_far before bytes).gate l now) (so_far before bytes).gate now text) s.held
-      (subst (λ g. Stops fault ⊥ (IsBegun g line now text) (IsHalfway g line now) g now text) gate_is h)
+  pub is_good : (so_far before bytes).bad ≡ None
+  is_good = ap (λ (r : ScriptRun). r.bad) s.run
 
   module _ (byte : ℕ) (ends : byte ≡ 10) where
     so_far_end : (effect : Option Printed) → line_effect gate line ≡ effect
@@ -113,28 +193,26 @@ module _ (before : GateData) (bytes : List ℕ) (gate : GateData) (line : List �
           settled = settled_bad before (bytes ++ byte ∷ []) (ap (λ (r : ScriptRun). is_some r.bad) e);
         }
 
-    half_end : (now : GateData) (output left : Option (List ℕ)) (fault : ScriptFault) → HalvesLine gate line now output left fault → BreaksOff before bytes (byte ∷ []) now output left fault
-    unfolding so_far
-    half_end now output left fault d = record {
-      lines = (cut_of bytes).whole;
-      others = (cut_of bytes).rest ∷ [];
-      split = ap (λ (c : Cut). c.whole) (cut_end bytes byte ends);
-      done = [];
-      earlier = sym (append-nil (cut_of bytes).whole);
-      good = ap (λ (r : ScriptRun). r.bad) s.run;
-      told = d.text;
-      written = d.written;
-      text = d.text;
-      more = refl;
-      stop = stops_here fault now d.text d.stop;
-    }
+    half_end : (tail : List ℕ) (now : GateData) (output left : Option (List ℕ)) (fault : ScriptFault) → ((others : List (List ℕ)) → StopsIn (so_far before bytes) (line ∷ others) fault now output left)
+        → BreaksOff before bytes (byte ∷ tail) now output left fault
+    half_end tail now output left fault d =
+        let g = lines_grow (bytes ++ byte ∷ []) tail in
+        record {
+          lines = line ∷ g.0;
+          split =
+              ap (λ x. (cut_of x).whole) (sym (append_assoc bytes (byte ∷ []) tail)) ∙ g.1
+              ∙ ap (λ (c : Cut). c.whole ++ g.0) (cut_end bytes byte ends)
+              ∙ append_assoc (cut_of bytes).whole ((cut_of bytes).rest ∷ []) g.0
+              ∙ ap (λ l. (cut_of bytes).whole ++ l ∷ g.0) (sym s.held);
+          cut = d g.0;
+        }
 
-    pub stops_end : (now : GateData) (output left : Option (List ℕ)) (fault : ScriptFault) → StopsAtLine gate line lines now output left fault → StopsInPiece before bytes (byte ∷ []) now output left fault
-    stops_end now output left (faults.BadLine n) d = bad_end n now output left d
-    stops_end now output left faults.WriteFailed d = half_end now output left faults.WriteFailed d
-    stops_end now output left faults.OutOfMemory d = half_end now output left faults.OutOfMemory d
-    stops_end now output left faults.ReadFailed d = half_end now output left faults.ReadFailed d
-    stops_end now output left faults.Endless d = half_end now output left faults.Endless d
+    pub stops_end : (tail : List ℕ) (now : GateData) (output left : Option (List ℕ)) (fault : ScriptFault) → StopsAtLine gate line lines now output left fault → StopsInPiece before bytes (byte ∷ tail) now output left fault
+    stops_end tail now output left (faults.BadLine n) d = finds_before before bytes (byte ∷ []) tail n now output left (bad_end n now output left d)
+    stops_end tail now output left faults.WriteFailed d = half_end tail now output left faults.WriteFailed (λ others. d (so_far before bytes) others (sym gate_is) is_good)
+    stops_end tail now output left faults.OutOfMemory d = half_end tail now output left faults.OutOfMemory (λ others. d (so_far before bytes) others (sym gate_is) is_good)
+    stops_end tail now output left faults.ReadFailed d = absurd d
+    stops_end tail now output left faults.Endless d = absurd d
 
   module _ (front : List ℕ) (goes_on : has_no_end front ≡ true) where
     so_far_on : so_far before (bytes ++ front) ≡ so_far before bytes
@@ -174,21 +252,13 @@ module _ (before : GateData) (bytes : List ℕ) (gate : GateData) (line : List �
           settled = settled_long before (bytes ++ front) (ap is_too_long rest_on ∙ longer);
         }
 
-    pub breaks_on : (output : Option (List ℕ)) → BreaksOff before bytes front gate output output faults.OutOfMemory
-    unfolding so_far
-    breaks_on output = record {
-      lines = (cut_of bytes).whole;
-      others = [];
-      split = ap (λ (c : Cut). c.whole) (cut_on bytes front goes_on) ∙ sym (append-nil (cut_of bytes).whole);
-      done = [];
-      earlier = sym (append-nil (cut_of bytes).whole);
-      good = ap (λ (r : ScriptRun). r.bad) s.run;
-      told = [];
-      written = Appends-nil output;
-      text = [];
-      more = refl;
-      stop = (inl gate_is, refl);
-    }
+    pub too_long_on : (tail : List ℕ) (n : ℕ) (output : Option (List ℕ)) → n ≡ lines + 1 → is_too_long (line ++ front) ≡ true → FindsBad before bytes (front ++ tail) n gate output output
+    too_long_on tail n output m longer = finds_before before bytes front tail n gate output output (too_long n output m longer)
+
+  pub breaks_on : (piece : List ℕ) (output : Option (List ℕ)) → BreaksOff before bytes piece gate output output faults.OutOfMemory
+  breaks_on piece output =
+      let g = lines_grow bytes piece in
+      record { lines = g.0; split = g.1; cut = pauses (so_far before bytes) is_good g.0 gate output gate_is }
 
 -- a piece of several
 pub takes_none : (before : GateData) (bytes : List ℕ) (gate : GateData) (rest : List ℕ) (lines : ℕ) (output : Option (List ℕ)) → IsSoFar before bytes gate rest lines
@@ -215,56 +285,57 @@ module _ (before : GateData) (bytes p : List ℕ) (gate : GateData) (rest : List
         more = ap (λ x. (so_far before x).text) (sym place) ∙ (u.more ∙ (ap (λ x. x ++ u.text) t.more ∙ append_assoc (so_far before bytes).text t.text u.text));
       }
 
-  module _ (q tail all : List ℕ) (e : all ≡ (p ++ q) ++ tail) where
-    place_of : bytes ++ all ≡ ((bytes ++ p) ++ q) ++ tail
-    place_of = ap (λ x. bytes ++ x) e ∙ (sym (append_assoc bytes (p ++ q) tail) ∙ ap (λ x. x ++ tail) (sym (append_assoc bytes p q)))
+  module _ (q all : List ℕ) (e : all ≡ p ++ q) where
+    place_of : bytes ++ all ≡ (bytes ++ p) ++ q
+    place_of = ap (λ x. bytes ++ x) e ∙ sym (append_assoc bytes p q)
 
     text_of : (told more : List ℕ) → told ≡ (so_far before (bytes ++ p)).text ++ more → told ≡ (so_far before bytes).text ++ (t.text ++ more)
     text_of told more h = h ∙ (ap (λ x. x ++ more) t.more ∙ append_assoc (so_far before bytes).text t.text more)
 
     finds_more : (n : ℕ) (now : GateData) (third : Option (List ℕ)) → FindsBad before (bytes ++ p) q n now second third → FindsBad before bytes all n now first third
     finds_more n now third f =
-        let x = (bytes ++ p) ++ q in
-        let same : script_of before (bytes ++ all) ≡ script_of before x = ap (script_of before) place_of ∙ nothing_follows before x tail f.settled in
+        let same = ap (script_of before) place_of in
         record {
           bad = ap (λ (r : ScriptRun). r.bad) same ∙ f.bad;
           gate = f.gate ∙ sym (ap (λ (r : ScriptRun). r.gate) same);
           text = t.text ++ f.text;
           written = Appends-trans first second third _ _ t.written f.written;
           more = ap (λ (r : ScriptRun). r.text) same ∙ text_of _ f.text f.more;
-          settled = ap (is_settled before) place_of ∙ settled_stays before x tail f.settled;
+          settled = ap (is_settled before) place_of ∙ f.settled;
         }
 
     breaks_more : (now : GateData) (third : Option (List ℕ)) (fault : ScriptFault) → BreaksOff before (bytes ++ p) q now second third fault → BreaksOff before bytes all now first third fault
+    unfolding so_far
     breaks_more now third fault b =
-        let x = (bytes ++ p) ++ q in
-        let g = lines_grow x tail in
-        let here = lines_grow bytes p in
-        let gate = (after_lines before b.lines).gate in
+        let g = lines_grow bytes p in
+        let run = so_far before bytes in
+        let there : so_far before (bytes ++ p) ≡ fold on_line run g.0 = ap (after_lines before) g.1 ∙ fold-append on_line (unread before) (cut_of bytes).whole g.0 in
         record {
-          lines = b.lines;
-          others = b.others ++ g.0;
-          split = ap (λ y. (cut_of y).whole) place_of ∙ (g.1 ∙ (ap (λ w. w ++ g.0) b.split ∙ append_assoc b.lines b.others g.0));
-          done = here.0 ++ b.done;
-          earlier = b.earlier ∙ (ap (λ w. w ++ b.done) here.1 ∙ append_assoc (cut_of bytes).whole here.0 b.done);
-          good = b.good;
-          told = t.text ++ b.told;
-          written = Appends-trans first second third _ _ t.written b.written;
-          text = b.text;
-          more = text_of _ b.told b.more;
-          stop = stops_too fault _ _ _ _ _ _ gate now b.text (λ h. h) (next_more b.others g.0 (λ line. IsBegun gate line now b.text)) (next_more b.others g.0 (λ line. IsHalfway gate line now)) b.stop;
+          lines = g.0 ++ b.lines;
+          split = ap (λ y. (cut_of y).whole) place_of ∙ (b.split ∙ (ap (λ w. w ++ b.lines) g.1 ∙ append_assoc (cut_of bytes).whole g.0 b.lines));
+          cut = record {
+            stop = b.cut.stop;
+            stops =
+                trail_stops mark line_marks on_line (λ r l. refl) Refused (cause_of fault) g.0 b.lines run b.cut.stop
+                (subst (λ r. Stops Refused (cause_of fault) (mark r) (trail line_marks on_line r b.lines) b.cut.stop) there b.cut.stops);
+            good = b.cut.good;
+            gate = b.cut.gate;
+            told = t.text ++ b.cut.told;
+            text = text_of b.cut.stop.text b.cut.told b.cut.text;
+            written = Appends-trans first second third _ _ t.written b.cut.written;
+          };
         }
 
     pub stops_more : (now : GateData) (third : Option (List ℕ)) (fault : ScriptFault) → StopsInPiece before (bytes ++ p) q now second third fault → StopsInPiece before bytes all now first third fault
     stops_more now third (faults.BadLine n) f = finds_more n now third f
     stops_more now third faults.WriteFailed f = breaks_more now third faults.WriteFailed f
     stops_more now third faults.OutOfMemory f = breaks_more now third faults.OutOfMemory f
-    stops_more now third faults.ReadFailed f = breaks_more now third faults.ReadFailed f
-    stops_more now third faults.Endless f = breaks_more now third faults.Endless f
+    stops_more now third faults.ReadFailed f = absurd f
+    stops_more now third faults.Endless f = absurd f
 
--- and what stopped the first of two pieces
-pub stops_first : (before : GateData) (bytes : List ℕ) (gate : GateData) (rest : List ℕ) (lines : ℕ) (first second : Option (List ℕ)) → IsSoFar before bytes gate rest lines
-    → (p tail : List ℕ) (now : GateData) (fault : ScriptFault) → StopsInPiece before bytes p now first second fault → StopsInPiece before bytes (p ++ tail) now first second fault
-stops_first before bytes gate rest lines first second s p tail now fault h =
-    let StopsHere : List ℕ → Type 0 = λ x. StopsInPiece before x p now first second fault in
-    stops_more before bytes [] gate rest lines first first (takes_none before bytes gate rest lines first s) p tail (p ++ tail) refl now second fault (subst StopsHere (sym (append-nil bytes)) h)
+-- the rest of a line, its end, and what stands behind it
+pub stops_ended : (before : GateData) (bytes front tail : List ℕ) (now : GateData) (output left : Option (List ℕ)) (fault : ScriptFault) → StopsInPiece before bytes (front ++ 10 ∷ tail) now output left fault
+    → StopsInPiece before bytes (ended front ++ tail) now output left fault
+stops_ended before bytes front tail now output left fault h =
+    let StopsHere : List ℕ → Type 0 = λ x. StopsInPiece before bytes x now output left fault in
+    subst StopsHere (sym (append_assoc front (10 ∷ []) tail)) h

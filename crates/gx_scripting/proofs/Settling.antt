@@ -1,6 +1,6 @@
 -- What `match` and `settle` do, step by step.
-use Rattle.std.proofs.Common.{◌≡◌, ℕ, ◌-◌, ◌<◌, ◌≤◌, ◌⊎◌, inl, inr, max, arith, Bool, true, false, cond, List, [], ◌∷◌, ◌++◌, length, take, drop, refl, sym, ap, ◌∙◌, append_assoc, append-nil, length-append, le-leb}
-use Rattle.std.proofs.Math.Seq.{drop-append_seam, drop-length, take-append-add, take-append_seam}
+use Rattle.std.proofs.Common.{◌≡◌, ℕ, ◌-◌, ◌<◌, ◌≤◌, ◌⊎◌, inl, inr, max, arith, Bool, true, false, cond, List, [], ◌∷◌, ◌++◌, length, take, drop, refl, sym, ap, ◌∙◌, append_assoc, subst, length-append, le-leb}
+use Rattle.std.proofs.Math.Seq.{drop-append_seam, drop-length, take-append_seam}
 use Rattle.std.proofs.lemmas.Bool.{leb-true, leb-false, lt-leb}
 use Rattle.std.proofs.lemmas.List.{take_all}
 use Rattle.std.specs.Prelude.{Option, None, Some, Result, Ok, Err, is_none, is_some, nat_le, option_map, ◌||◌}
@@ -19,7 +19,10 @@ use Rattle.gx_core.specs.declared.outcome.StepFault.{StepFault}
 use Rattle.gx_script.specs.Printing.{idle_line, outcome_line, refused_line}
 use Rattle.gx_scripting.specs.Leaving.{IsHalf}
 use Rattle.gx_scripting.specs.Scripting.{Printed, is_full, last_line, makes_none, match_by, match_of, most_records, record_lines, settle_of}
+use Rattle.gx_devices.specs.Stopping.{AreFirst}
+use Rattle.gx_devices.proofs.Stopping.{first_same}
 use Rattle.gx_scripting.proofs.Doing.{not_full}
+use Rattle.gx_scripting.proofs.Growing.{GoesOn, here, further, match_on, settle_on, take_front}
 
 -- a match in a gate that is not full
 pub match_is : (gate : GateData) (moment : ℕ) (r : RecordData) → next_match gate moment ≡ Some r → is_full gate ≡ false
@@ -69,9 +72,6 @@ pub refused_is : (gate : GateData) (moment : ℕ) → (matching_of gate ≡ None
 refused_is gate moment waits full =
     let one : (r : RecordData) × (next_match gate moment ≡ Some r) = waits_for_one gate moment waits in
     refused_match gate moment one.0 one.1 (le-leb day_limit (length gate.records) full)
-
-pub take_front : {X : Type 0} (xs ys : List X) (n : ℕ) → length xs ≤ n → take n (xs ++ ys) ≡ xs ++ take (n - length xs) ys
-take_front xs ys n h = ap (λ (k : ℕ). take k (xs ++ ys)) (omega (arith, h)) ∙ take-append-add xs ys (n - length xs)
 
 -- what settling leaves and prints, of this many records, with room for so many, where it comes to these
 told_of : PolicyData → (n most : ℕ) → List RecordData → Printed
@@ -139,15 +139,6 @@ told_first policy records r more most room =
 
     last : List ℕ
     last = last_line (nat_le (length ((records ++ r ∷ []) ++ more)) most)
-
--- settling goes on from the records that there are
-settle_goes_on : (gate : GateData) (moment : ℕ) → (more : List RecordData) × ((settle_of gate moment).gate.records ≡ gate.records ++ more)
-unfolding settle_of
-settle_goes_on gate moment =
-    let adds : AddsMatches gate.records (settled gate.policy gate.records moment) moment = settled_adds gate.policy gate.records moment in (
-      take (most_records gate - length gate.records) adds.more,
-      ap (take (most_records gate)) adds.goes_on ∙ take_front gate.records adds.more (most_records gate) (omega arith),
-    )
 
 max_left : (n m : ℕ) → m ≤ n → max n m ≡ n
 max_left n m h = omega (arith, h)
@@ -235,66 +226,44 @@ settle_first gate moment legal some = by (next_match gate moment) refl
         settle_one gate moment r legal e (leb-false day_limit (length gate.records) not_full)
         ∙ ap at (sym (match_is gate moment r e not_full))
 
--- a matching step adds a record, or none
-match_goes_on : (gate : GateData) (moment : ℕ) → ((match_of gate moment).gate.policy ≡ gate.policy) × (more : List RecordData) × ((match_of gate moment).gate.records ≡ gate.records ++ more)
-unfolding match_of
-match_goes_on gate moment = by (next_match gate moment)
-  where
-    at : (b : Bool) (r : RecordData) → let made : Printed = cond b (record { gate = gate; text = refused_line }) (record { gate = record { policy = gate.policy; records = gate.records ++ r ∷ [] }; text = outcome_line r.number r.verdict }) in
-        (made.gate.policy ≡ gate.policy) × (more : List RecordData) × (made.gate.records ≡ gate.records ++ more)
-    at true r = (refl, [], sym (append-nil gate.records))
-    at false r = (refl, r ∷ [], refl)
-
-    by : (found : Option RecordData) → ((match_by gate found).gate.policy ≡ gate.policy) × (more : List RecordData) × ((match_by gate found).gate.records ≡ gate.records ++ more)
-    by None = (refl, [], sym (append-nil gate.records))
-    by (Some r) = at (is_full gate) r
-
 -- a matching step whose line was not told
 pub match_half : (gate after : GateData) (moment : ℕ) → (after ≡ gate) ⊎ (after ≡ (match_of gate moment).gate) → IsHalf gate (Some (match_of gate moment)) after
 match_half gate after moment (inl same) = inl same
 match_half gate after moment (inr made) =
-    let goes = match_goes_on gate moment in
+    let goes = subst (GoesOn gate) (sym made) (match_on gate moment) in
     inr (record {
       printed = match_of gate moment;
       is_its = refl;
-      policy_kept = ap (λ (g : GateData). g.policy) made ∙ goes.0;
-      made = goes.1;
-      goes_on = ap (λ (g : GateData). g.records) made ∙ goes.2;
-      behind = [];
-      leads_on = ap (λ (g : GateData). g.records) (sym made) ∙ sym (append-nil after.records);
+      policy_kept = goes.policy_kept;
+      made = goes.records;
+      left = first_same after.records (match_of gate moment).gate.records (ap (λ (g : GateData). g.records) made);
     })
 
 -- some of the matching steps were made, this was printed of them, and the others lead on to the same
 pub record Settles (before : GateData) (moment : ℕ) (text : List ℕ) (now : GateData) : Type 0 where
   pub comes_to : settle_of before moment ≡ record { gate = (settle_of now moment).gate; text = text ++ (settle_of now moment).text }
-  pub policy_kept : now.policy ≡ before.policy
-  pub made : List RecordData
-  pub goes_on : now.records ≡ before.records ++ made
+  pub goes_on : GoesOn before now
 
 pub settles_first : (gate : GateData) (moment : ℕ) (text : List ℕ) → text ≡ [] → Settles gate moment text gate
 settles_first gate moment text none = record {
   comes_to = ap (λ (told : List ℕ). record { gate = (settle_of gate moment).gate; text = told ++ (settle_of gate moment).text }) (sym none);
-  policy_kept = refl;
-  made = [];
-  goes_on = sym (append-nil gate.records);
+  goes_on = here gate;
 }
+
+matched_further : (before now after : GateData) (moment : ℕ) → GoesOn before now → after ≡ (match_of now moment).gate → GoesOn before after
+matched_further before now after moment h made = further before now after h (subst (GoesOn now) (sym made) (match_on now moment))
 
 -- one more
 pub settles_more : (before now after : GateData) (moment : ℕ) (text longer : List ℕ) → Settles before moment text now → IsLegal now.policy now.records → makes_none now moment ≡ false
     → after ≡ (match_of now moment).gate → longer ≡ text ++ (match_of now moment).text → Settles before moment longer after
 settles_more before now after moment text longer s legal some made lines =
-    let goes = match_goes_on now moment in
     record {
       comes_to =
           s.comes_to ∙ ap (behind text) (settle_first now moment legal some)
           ∙ ap (λ (told : List ℕ). at (match_of now moment).gate told) (sym (append_assoc text (match_of now moment).text (settle_of (match_of now moment).gate moment).text))
           ∙ ap (λ (g : GateData). at g ((text ++ (match_of now moment).text) ++ (settle_of g moment).text)) (sym made)
           ∙ ap (λ (told : List ℕ). at after (told ++ (settle_of after moment).text)) (sym lines);
-      policy_kept = ap (λ (g : GateData). g.policy) made ∙ goes.0 ∙ s.policy_kept;
-      made = s.made ++ goes.1;
-      goes_on =
-          ap (λ (g : GateData). g.records) made ∙ goes.2 ∙ ap (λ (records : List RecordData). records ++ goes.1) s.goes_on
-          ∙ append_assoc before.records s.made goes.1;
+      goes_on = matched_further before now after moment s.goes_on made;
     }
   where
     behind : List ℕ → Printed → Printed
@@ -320,35 +289,26 @@ settles_last before now after moment text longer s legal none made lines =
 -- one whose line was not told
 pub settles_half : (before now after : GateData) (moment : ℕ) (text : List ℕ) → Settles before moment text now → IsLegal now.policy now.records
     → (after ≡ now) ⊎ (after ≡ (match_of now moment).gate) → IsHalf before (Some (settle_of before moment)) after
-settles_half before now after moment text s legal (inl same) =
-    let goes = settle_goes_on now moment in
+settles_half before now after moment text s legal how =
+    let goes = so_far how in
     inr (record {
       printed = settle_of before moment;
       is_its = refl;
-      policy_kept = ap (λ (g : GateData). g.policy) same ∙ s.policy_kept;
-      made = s.made;
-      goes_on = ap (λ (g : GateData). g.records) same ∙ s.goes_on;
-      behind = goes.0;
-      leads_on = ap (λ (p : Printed). p.gate.records) s.comes_to ∙ goes.1 ∙ ap (λ (g : GateData). g.records ++ goes.0) (sym same);
-    })
-settles_half before now after moment text s legal (inr made) =
-    let goes = match_goes_on now moment in
-    let then = leads_on (makes_none now moment) refl in
-    inr (record {
-      printed = settle_of before moment;
-      is_its = refl;
-      policy_kept = ap (λ (g : GateData). g.policy) made ∙ goes.0 ∙ s.policy_kept;
-      made = s.made ++ goes.1;
-      goes_on =
-          ap (λ (g : GateData). g.records) made ∙ goes.2 ∙ ap (λ (records : List RecordData). records ++ goes.1) s.goes_on
-          ∙ append_assoc before.records s.made goes.1;
-      behind = then.0;
-      leads_on = ap (λ (p : Printed). p.gate.records) s.comes_to ∙ then.1;
+      policy_kept = goes.policy_kept;
+      made = goes.records;
+      left = subst (λ (p : Printed). AreFirst after.records p.gate.records) (sym s.comes_to) (left how);
     })
   where
-    leads_on : (b : Bool) → makes_none now moment ≡ b → (more : List RecordData) × ((settle_of now moment).gate.records ≡ after.records ++ more)
-    leads_on true none =
-        ([], ap (λ (p : Printed). p.gate.records) (settle_last now moment legal none) ∙ ap (λ (g : GateData). g.records) (sym made) ∙ sym (append-nil after.records))
-    leads_on false some =
-        let goes = settle_goes_on (match_of now moment).gate moment in
-        (goes.0, ap (λ (p : Printed). p.gate.records) (settle_first now moment legal some) ∙ goes.1 ∙ ap (λ (g : GateData). g.records ++ goes.0) (sym made))
+    so_far : (after ≡ now) ⊎ (after ≡ (match_of now moment).gate) → GoesOn before after
+    so_far (inl same) = subst (GoesOn before) (sym same) s.goes_on
+    so_far (inr made) = matched_further before now after moment s.goes_on made
+
+    from_match : (b : Bool) → makes_none now moment ≡ b → AreFirst (match_of now moment).gate.records (settle_of now moment).gate.records
+    from_match true none = first_same _ _ (ap (λ (p : Printed). p.gate.records) (sym (settle_last now moment legal none)))
+    from_match false some =
+        let made = (match_of now moment).gate in
+        subst (λ (p : Printed). AreFirst made.records p.gate.records) (sym (settle_first now moment legal some)) (settle_on made moment).records
+
+    left : (after ≡ now) ⊎ (after ≡ (match_of now moment).gate) → AreFirst after.records (settle_of now moment).gate.records
+    left (inl same) = subst (λ (g : GateData). AreFirst g.records (settle_of now moment).gate.records) (sym same) (settle_on now moment).records
+    left (inr made) = subst (λ (g : GateData). AreFirst g.records (settle_of now moment).gate.records) (sym made) (from_match (makes_none now moment) refl)

@@ -1,5 +1,5 @@
 -- The lines of a text, with their ends, are the text.
-use Rattle.std.proofs.Common.{◌≡◌, ℕ, suc, ◌+◌, ◌-◌, ◌≤◌, length, length-append, take, drop, get_or, arith, Bool, true, false, ◌&&◌, not, cond, eqb, ltb, Some, None, List, [], ◌∷◌, ◌++◌, refl, sym, ap, ◌∙◌, subst, append_assoc, append-nil}
+use Rattle.std.proofs.Common.{◌≡◌, ℕ, suc, ◌+◌, ◌-◌, length, take, drop, get_or, arith, Bool, true, false, ◌&&◌, not, cond, eqb, ltb, Some, None, List, [], ◌∷◌, ◌++◌, refl, sym, ap, ◌∙◌, subst, append_assoc, append-nil}
 use Rattle.std.specs.Prelude.{fold, Option, position, IfNone}
 use Rattle.std.specs.List.{flat_map, position_or_len}
 use Rattle.std.proofs.lemmas.Bool.{eqb-true, ltb-true, ltb-false, and_parts, and_from}
@@ -48,21 +48,6 @@ lines_all (byte ∷ tail) cut h = lines_all tail (on_byte cut byte) (lines_step 
 pub lines_have_no_end : (text : List ℕ) → are_lines (cut_of text) ≡ true
 unfolding cut_of
 lines_have_no_end text = lines_all text (record { whole = []; rest = [] }) refl
-
--- as many bytes as the lines have with their LFs, and what is behind them
-pub bytes_are : (bytes : List ℕ) → length bytes ≡ length (flat_map ended (cut_of bytes).whole) + length (cut_of bytes).rest
-bytes_are bytes = sym (ap length (lines_join bytes)) ∙ length-append (flat_map ended (cut_of bytes).whole) (cut_of bytes).rest
-
--- a piece more, some of whose lines were done
-pub piece_ahead : (bytes piece : List ℕ) (lines done : List (List ℕ)) (rest : List ℕ) → rest ≡ (cut_of bytes).rest → length rest ≤ 1026 → length piece ≤ 4096
-    → lines ≡ (cut_of bytes).whole ++ done → length (bytes ++ piece) ≤ length (flat_map ended lines) + 5122
-piece_ahead bytes piece lines done rest held few short e =
-    let all : length (flat_map ended lines) ≡ length (flat_map ended (cut_of bytes).whole) + length (flat_map ended done) =
-    ap (λ l. length (flat_map ended l)) e ∙ (ap length (flat_map-append ended (cut_of bytes).whole done) ∙ length-append (flat_map ended (cut_of bytes).whole) (flat_map ended done)) in
-    omega (arith, all, few, short, ap length held, bytes_are bytes, length-append bytes piece)
-
-pub rest_ahead : (bytes rest : List ℕ) → rest ≡ (cut_of bytes).rest → length rest ≤ 1026 → length bytes ≤ length (flat_map ended (cut_of bytes).whole) + 5122
-rest_ahead bytes rest held few = omega (arith, few, ap length held, bytes_are bytes)
 
 -- in front of the first LF none stands
 front_has_none : (text : List ℕ) → has_no_end (take (position_or_len is_end text) text) ≡ true

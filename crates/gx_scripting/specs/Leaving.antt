@@ -1,6 +1,6 @@
 -- What a line leaves where it could not be done.
-use Rattle.std.specs.Prelude.{◌≡◌, ◌⊎◌, ◌++◌, List, Option, Some, None}
-use Rattle.gx_history.specs.declared.record.RecordData.{RecordData}
+use Rattle.std.specs.Prelude.{◌≡◌, ◌⊎◌, Option, Some, None}
+use Rattle.gx_devices.specs.Stopping.{AreFirst}
 use Rattle.gx_core.specs.Gates.{GateData}
 use Rattle.gx_scripting.specs.declared.script_fault.LineFault.{LineFault}
 use Rattle.gx_scripting.specs.declared.script_fault.LineFault.TheVariants as line_faults
@@ -11,10 +11,8 @@ pub record IsPartlyDone (gate : GateData) (done : Option Printed) (now : GateDat
   pub printed : Printed
   pub is_its : done ≡ Some printed
   pub policy_kept : now.policy ≡ gate.policy
-  pub made : List RecordData
-  pub goes_on : now.records ≡ gate.records ++ made
-  pub behind : List RecordData
-  pub leads_on : printed.gate.records ≡ now.records ++ behind
+  pub made : AreFirst gate.records now.records
+  pub left : AreFirst now.records printed.gate.records
 
 -- nothing was done, or the first of the line's records were made; nothing was printed
 abbrev pub IsHalf : GateData → Option Printed → GateData → Type 0

@@ -2,4 +2,3 @@ pub mod Scripting
 pub mod Leaving
 pub mod ScriptPiping
 pub mod ScriptTexts
-pub mod Fronts

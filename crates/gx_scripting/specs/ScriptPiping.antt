@@ -1,14 +1,14 @@
 -- What `run_script` did to a reader, a writer and a gate.
 use Rattle.std.specs.Prelude.{◌≡◌, ℕ, ◌+◌, ◌<◌, ◌≤◌, true, length, ◌⊎◌, List, [], ◌∷◌, ◌++◌, Option, Some, None, IfSome}
-use Rattle.std.specs.List.{flat_map}
 use Rattle.std.specs.Io.KnownBytes.{Consumes, Appends, IsAtEnd}
 use Rattle.gx_core.specs.Gates.{GateData}
 use Rattle.gx_scripting.specs.declared.script_fault.ScriptFault.{ScriptFault}
 use Rattle.gx_scripting.specs.declared.script_fault.ScriptFault.TheVariants as faults
 use Rattle.gx_devices.specs.Devices.{IsUnfailing}
-use Rattle.gx_scripting.specs.Leaving.{IsPartlyDone}
-use Rattle.gx_scripting.specs.ScriptTexts.{ended}
-use Rattle.gx_scripting.specs.Scripting.{ScriptRun, line_effect, cut_of, after_lines, script_of, is_settled}
+use Rattle.gx_devices.specs.Stopping.{Cause, Memory, Full, Writing, Reading, Mark, Stops, trail}
+use Rattle.gx_history.specs.declared.policy.PolicyData.{PolicyData}
+use Rattle.gx_history.specs.declared.record.RecordData.{RecordData}
+use Rattle.gx_scripting.specs.Scripting.{ScriptRun, line_effect, on_line, cut_of, after_lines, script_of, is_settled}
 
 -- after the lines that have ended
 unfoldable pub so_far : GateData → List ℕ → ScriptRun
@@ -20,30 +20,47 @@ pub record EndsLine (before : GateData) (line : List ℕ) (now : GateData) (outp
   pub effect : line_effect before line ≡ Some (record { gate = now; text = printed })
   pub written : Appends output left printed
 
--- the line was done, and this is a front of what it prints
-abbrev pub IsBegun : GateData → List ℕ → GateData → List ℕ → Type 0
-IsBegun gate line now text = (rest : List ℕ) × (line_effect gate line ≡ Some (record { gate = now; text = text ++ rest }))
+-- what a script knows beside its records and its text: the policy, and the number of the first bad line
+pub record Known : Type 0 where
+  pub policy : PolicyData
+  pub bad : Option ℕ
 
--- the first of the line's records were made
-abbrev pub IsHalfway : GateData → List ℕ → GateData → Type 0
-IsHalfway gate line now = IsPartlyDone gate (line_effect gate line) now
+-- where a script stands
+abbrev pub mark : ScriptRun → Mark RecordData Known
+mark run = record { records = run.gate.records; text = run.text; known = record { policy = run.gate.policy; bad = run.bad } }
 
--- Where a fault stops a script that has come to this gate: now the gate is the second one, and this text was written of
--- the next line. The reader failed, or was read too often: each line that has ended was done (`all_done`). The writer
--- failed: the next line was done (`begun`). A growth was refused: nothing of the next line was written, and of its
--- records the first were made (`halfway`).
-abbrev pub Stops : ScriptFault → (all_done begun halfway : Type 0) → (gate now : GateData) → List ℕ → Type 0
-Stops (faults.BadLine n) all_done begun halfway gate now text = ⊥
-Stops faults.ReadFailed all_done begun halfway gate now text = all_done × (now ≡ gate) × (text ≡ [])
-Stops faults.Endless all_done begun halfway gate now text = all_done × (now ≡ gate) × (text ≡ [])
-Stops faults.WriteFailed all_done begun halfway gate now text = begun
-Stops faults.OutOfMemory all_done begun halfway gate now text = ((now ≡ gate) ⊎ halfway) × (text ≡ [])
+-- the gate there
+abbrev pub gate_at : Mark RecordData Known → GateData
+gate_at m = record { policy = m.known.policy; records = m.records }
 
--- a line was given up, and this was written of it
-pub record HalvesLine (before : GateData) (line : List ℕ) (now : GateData) (output left : Option (List ℕ)) (fault : ScriptFault) : Type 0 where
-  pub text : List ℕ
-  pub written : Appends output left text
-  pub stop : Stops fault ⊥ (IsBegun before line now text) (IsHalfway before line now) before now text
+-- a line has one mark: its records are made, and then what it prints is written
+abbrev pub line_marks : ScriptRun → List ℕ → List (Mark RecordData Known)
+line_marks run line = mark (on_line run line) ∷ []
+
+-- why a script stops; a full day is printed, and a bad line is told in another way
+abbrev pub cause_of : ScriptFault → Cause
+cause_of (faults.BadLine n) = Full
+cause_of faults.ReadFailed = Reading
+cause_of faults.WriteFailed = Writing
+cause_of faults.OutOfMemory = Memory
+cause_of faults.Endless = Reading
+
+-- a step is refused for want of memory
+abbrev pub Refused : Cause → List RecordData → Type 0
+Refused Memory records = Unit {0}
+Refused Full records = ⊥
+Refused Writing records = ⊥
+Refused Reading records = ⊥
+
+-- With these lines to come a fault stopped the script, and no line was bad. `told` is what was written of them.
+pub record StopsIn (run : ScriptRun) (lines : List (List ℕ)) (fault : ScriptFault) (now : GateData) (output left : Option (List ℕ)) : Type 0 where
+  pub stop : Mark RecordData Known
+  pub stops : Stops Refused (cause_of fault) (mark run) (trail line_marks on_line run lines) stop
+  pub good : stop.known.bad ≡ None
+  pub gate : now ≡ gate_at stop
+  pub told : List ℕ
+  pub text : stop.text ≡ run.text ++ told
+  pub written : Appends output left told
 
 -- a bad line does nothing
 pub record IsBadLine (before : GateData) (line : List ℕ) (lines n : ℕ) (now : GateData) (output left : Option (List ℕ)) : Type 0 where
@@ -55,7 +72,10 @@ pub record IsBadLine (before : GateData) (line : List ℕ) (lines n : ℕ) (now 
 -- behind so many lines, a line was bad or given up
 abbrev pub StopsAtLine : GateData → List ℕ → ℕ → GateData → Option (List ℕ) → Option (List ℕ) → ScriptFault → Type 0
 StopsAtLine before line lines now output left (faults.BadLine n) = IsBadLine before line lines n now output left
-StopsAtLine before line lines now output left fault = HalvesLine before line now output left fault
+StopsAtLine before line lines now output left faults.ReadFailed = ⊥
+StopsAtLine before line lines now output left faults.Endless = ⊥
+StopsAtLine before line lines now output left fault =
+    (run : ScriptRun) (others : List (List ℕ)) → run.gate ≡ before → run.bad ≡ None → StopsIn run (line ∷ others) fault now output left
 
 -- after these bytes, none of whose lines was bad: the gate, what is held back, and how many lines have ended
 pub record IsSoFar (before : GateData) (bytes : List ℕ) (now : GateData) (rest : List ℕ) (lines : ℕ) : Type 0 where
@@ -78,29 +98,17 @@ pub record FindsBad (before : GateData) (bytes piece : List ℕ) (n : ℕ) (now 
   pub more : (script_of before (bytes ++ piece)).text ≡ (so_far before bytes).text ++ text
   pub settled : is_settled before (bytes ++ piece) ≡ true
 
--- so it is of the first of these lines; where there is none, of the last line, which no LF ends
-abbrev pub IsOfNext : List (List ℕ) → (last : Type 0) → (List ℕ → Type 0) → Type 0
-IsOfNext [] last is_so = last
-IsOfNext (line ∷ others) last is_so = is_so line
-
--- The first lines were done, none of them bad, and all that they print was written; `text` was written of the next one.
+-- of the lines that end in a piece, one was given up
 pub record BreaksOff (before : GateData) (bytes piece : List ℕ) (now : GateData) (output left : Option (List ℕ)) (fault : ScriptFault) : Type 0 where
   pub lines : List (List ℕ)
-  pub others : List (List ℕ)
-  pub split : (cut_of (bytes ++ piece)).whole ≡ lines ++ others
-  pub done : List (List ℕ)
-  pub earlier : lines ≡ (cut_of bytes).whole ++ done
-  pub good : (after_lines before lines).bad ≡ None
-  pub told : List ℕ
-  pub written : Appends output left told
-  pub text : List ℕ
-  pub more : (after_lines before lines).text ++ text ≡ (so_far before bytes).text ++ told
-  pub stop : let gate = (after_lines before lines).gate in
-      Stops fault ⊥ (IsOfNext others ⊥ (λ line. IsBegun gate line now text)) (IsOfNext others ⊥ (λ line. IsHalfway gate line now)) gate now text
+  pub split : (cut_of (bytes ++ piece)).whole ≡ (cut_of bytes).whole ++ lines
+  pub cut : StopsIn (so_far before bytes) lines fault now output left
 
 -- in a piece, a line was bad or given up
 abbrev pub StopsInPiece : GateData → List ℕ → List ℕ → GateData → Option (List ℕ) → Option (List ℕ) → ScriptFault → Type 0
 StopsInPiece before bytes piece now output left (faults.BadLine n) = FindsBad before bytes piece n now output left
+StopsInPiece before bytes piece now output left faults.ReadFailed = ⊥
+StopsInPiece before bytes piece now output left faults.Endless = ⊥
 StopsInPiece before bytes piece now output left fault = BreaksOff before bytes piece now output left fault
 
 -- Of the bytes read, the gate, the bytes written and the number of the first bad line are the script's; the bytes read are
@@ -113,23 +121,32 @@ pub record IsScript (input left output written : Option (List ℕ)) (before afte
   pub text : Appends output written (script_of before bytes).text
   pub whole : IsAtEnd left ⊎ (is_settled before bytes ≡ true)
 
--- Of the lines that ended in the bytes read, the first were done, none of them bad, and all that they print was written;
--- `text` was written of the next one. What no LF ends is a line only once the input is at its end. No more was read
--- ahead of the lines done than the front of a line (1,026 bytes) and a piece (4,096).
+-- what no LF ends is a line only once the input is at its end, and was read to it
+abbrev pub IsLast : Cause → (at_end : Type 0) → Type 0
+IsLast Memory at_end = at_end
+IsLast Full at_end = ⊥
+IsLast Writing at_end = at_end
+IsLast Reading at_end = ⊥
+
+-- Behind these bytes, a piece has these lines; or it is empty, and they are the last line, which no LF ends.
+abbrev pub HasLines : (bytes piece : List ℕ) → List (List ℕ) → (last : Type 0) → Type 0
+HasLines bytes piece lines last =
+    ((cut_of (bytes ++ piece)).whole ≡ (cut_of bytes).whole ++ lines) ⊎ ((piece ≡ []) × (lines ≡ (cut_of bytes).rest ∷ []) × last)
+
+-- The lines that ended before the last piece was read were done, none of them bad, and all that they print was written
+-- (`earlier`); in the lines of that piece the script stopped. A piece has at most 4,096 bytes, and what was held back of a
+-- line at most 1,026.
 pub record IsCutShort (input left output written : Option (List ℕ)) (before after : GateData) (fault : ScriptFault) : Type 0 where
   pub bytes : List ℕ
-  pub consumed : Consumes input left bytes
+  pub piece : List ℕ
+  pub consumed : Consumes input left (bytes ++ piece)
+  pub held : length (cut_of bytes).rest ≤ 1026
+  pub small : length piece ≤ 4096
+  pub behind : Option (List ℕ)
+  pub earlier : Appends output behind (so_far before bytes).text
   pub lines : List (List ℕ)
-  pub others : List (List ℕ)
-  pub split : (cut_of bytes).whole ≡ lines ++ others
-  pub good : (after_lines before lines).bad ≡ None
-  pub ahead : length bytes ≤ length (flat_map ended lines) + 5122
-  pub text : List ℕ
-  pub told : Appends output written ((after_lines before lines).text ++ text)
-  pub stop : let gate = (after_lines before lines).gate in
-      let rest = (cut_of bytes).rest in
-      Stops fault (others ≡ []) (IsOfNext others (IsAtEnd left × IsBegun gate rest after text) (λ line. IsBegun gate line after text))
-      (IsOfNext others (IsAtEnd left × IsHalfway gate rest after) (λ line. IsHalfway gate line after)) gate after text
+  pub are_next : HasLines bytes piece lines (IsLast (cause_of fault) (IsAtEnd left))
+  pub cut : StopsIn (so_far before bytes) lines fault after behind written
 
 -- what holds where a line was bad
 abbrev pub IfBadLine : ScriptFault → (ℕ → Type 0) → Type 0

@@ -3,8 +3,8 @@
 ghost use Rattle.std.specs.Prelude.{◌≡◌, ℕ, List, ◌++◌, Option, IfSome, IsTrue};
 ghost use Rattle.gx_core.specs.Gates.{GateData};
 ghost use Rattle.gx_devices.specs.Devices.{IsFront};
+ghost use Rattle.gx_devices.specs.Stopping.{AreFirst};
 ghost use Rattle.gx_scripting.specs.declared.script_fault.ScriptFault.{ScriptFault};
-ghost use Rattle.gx_scripting.specs.Fronts.{AreFirst};
 ghost use Rattle.gx_scripting.specs.ScriptPiping.{IsCutShort};
 ghost use Rattle.gx_scripting.specs.Scripting.{cut_of, script_of, is_settled};
 ghost use Rattle.gx_scripting.specs.ScriptTexts.{joined, are_lines};

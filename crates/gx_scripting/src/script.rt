@@ -88,9 +88,9 @@ fn take_front(held: &mut Held, front: &[u8]) -> Result<(), ScriptFault>
         output output) }
     ensures lines { OnOk result (held.new.lines ≡ held.old.lines) }
     ensures err { IfErr result (λ e.
-        (before gate : GateData) (bytes : List ℕ) (output : Option (List ℕ))
+        (before gate : GateData) (bytes tail : List ℕ) (output : Option (List ℕ))
         → IsSoFar before bytes gate held.old.rest.items held.old.lines
-        → StopsInPiece before bytes front.now gate output output e) }
+        → StopsInPiece before bytes (front.now ++ tail) gate output output e) }
     ensures told { IfErr result (λ e. (writes : ℕ) → IsBlamedRightly 0 0 writes writes e) }
 {
     if held.rest.len() + front.len() > LONGEST {
@@ -117,9 +117,9 @@ fn take_ended<W: Write>(
         (W.contents writer.old.device) (W.contents writer.new.device)) }
     ensures counted { OnOk result (held.new.lines ≡ held.old.lines + 1) }
     ensures kept { OnOk result (writer.new.failed ≡ writer.old.failed) }
-    ensures err { IfErr result (λ e. (before : GateData) (bytes : List ℕ)
+    ensures err { IfErr result (λ e. (before : GateData) (bytes tail : List ℕ)
         → IsSoFar before bytes gate.old held.old.rest.items held.old.lines
-        → StopsInPiece before bytes (ended front.now) gate.new
+        → StopsInPiece before bytes (ended front.now ++ tail) gate.new
         (W.contents writer.old.device) (W.contents writer.new.device) e) }
     ensures told { IfErr result (IsBlamedRightly 0 0 writer.old.failed writer.new.failed) }
 {

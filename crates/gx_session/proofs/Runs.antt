@@ -118,7 +118,7 @@ unfolding finished
 finished_from run gate connection h s =
     ap (λ x. (on_event x run.connection happens.End run.connection.session.heard).gate) (sym h) ∙ ap (λ (x : Connection). (on_event gate x happens.End x.session.heard).gate) (sym s)
 
-finished_text : (run : Run) → (finished run).text ≡ run.text
+pub finished_text : (run : Run) → (finished run).text ≡ run.text
 unfolding finished on_event
 finished_text run =
     ap (λ c. run.text ++ control_text c) (end_is_silent run.connection.session run.connection.session.heard) ∙ append-nil run.text

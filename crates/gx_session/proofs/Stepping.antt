@@ -6,8 +6,9 @@ use Rattle.gx_core.specs.Steps.{IsFull}
 use Rattle.gx_core.specs.declared.outcome.StepFault.{StepFault}
 use Rattle.gx_core.specs.declared.outcome.StepFault.TheVariants as refusals
 use Rattle.gx_session.specs.Faults.{fault_of_step, HasRoom, IsToldFull}
-use Rattle.gx_session.specs.Piping.{IsOfMatching, IsOfStep}
-use Rattle.std.proofs.Common.{◌≡◌, ℕ, ◌<◌, ◌≤◌, ◌⊎◌, inl, inr, subst, Bool, true, false, Result, Ok, Err, is_some, List, [], ◌∷◌, ◌++◌, length, Option, None, Some, option_map, refl, sym, ap, ◌∙◌}
+use Rattle.gx_devices.specs.Stopping.{AreFewer}
+use Rattle.gx_session.specs.Piping.{cause_of, Refused}
+use Rattle.std.proofs.Common.{◌≡◌, ℕ, ◌<◌, ◌≤◌, ◌⊎◌, inl, inr, subst, Bool, true, false, Result, Ok, Err, is_some, List, [], ◌∷◌, ◌++◌, length, Option, None, Some, option_map, refl, sym, ap, ◌∙◌, append-nil}
 use Rattle.gx_units.specs.Spelling.{folded_user}
 use Rattle.gx_units.specs.declared.names.UserName.{UserName}
 use Rattle.gx_soup.specs.declared.packet.LoginRequest.{LoginRequest}
@@ -17,9 +18,13 @@ use Rattle.gx_history.specs.declared.record.Step.TheVariants as steps
 use Rattle.gx_history.specs.declared.record.Verdict.{Verdict}
 use Rattle.gx_history.specs.Verdicts.{next, verdict}
 use Rattle.gx_history_laws.proofs.Granting.{verdict_of_next}
-use Rattle.gx_effects.proofs.Settling.{settled_idle}
+use Rattle.gx_history.specs.Matching.{matching}
+use Rattle.gx_history.specs.Settling.{AddsMatches}
+use Rattle.gx_history.specs.Verdicts.{IsLegal}
+use Rattle.gx_effects.proofs.Orderly.{legal_is_orderly}
+use Rattle.gx_effects.proofs.Settling.{settled_adds, settled_ends, settled_idle}
 use Rattle.gx_core.specs.Gates.{GateData, left_by, matched_by}
-use Rattle.gx_core.specs.Matches.{next_match, with_match, settled_gate, IsSettling}
+use Rattle.gx_core.specs.Matches.{matching_of, next_match, with_match, settled_gate, IsSettling}
 use Rattle.gx_core.specs.Logins.{login_answered}
 use Rattle.gx_core.specs.declared.outcome.LoginAnswer.{LoginAnswer}
 use Rattle.gx_core.specs.declared.outcome.Outcome.{Outcome}
@@ -81,10 +86,36 @@ match_told_full {T} {F} gate after found none r refusals.OutOfMemory same idle f
     by (inr h) = absurd (not_both h found refl)
 
 -- as a connection tells it
-pub of_step : (gate after : GateData) (e : StepFault) → after ≡ gate → IsToldFull after e → IsOfStep (fault_of_step e) gate
+pub of_step : (gate after : GateData) (e : StepFault) → after ≡ gate → IsToldFull after e → Refused (cause_of (fault_of_step e)) gate.records
 of_step gate after refusals.OutOfMemory same h = subst HasRoom same h
 of_step gate after refusals.DayFull same h = subst IsFull same h
 
-pub of_matching : (gate : GateData) (e : StepFault) → IsToldFull gate e → IsOfMatching (fault_of_step e) gate
+-- where an order waits, one record more is to be made
+pub settling_left : (before now : GateData) (moment : ℕ) → IsSettling before moment now → IsLegal now.policy now.records → is_some (matching_of now) ≡ true → AreFewer now.records (settled_gate before moment).records
+settling_left before now moment s legal waits =
+    subst (λ (g : GateData). AreFewer now.records g.records) s.goes_on (by adds.more adds.goes_on)
+  where
+    adds : AddsMatches now.records (settled_gate now moment).records moment
+    adds = settled_adds now.policy now.records moment
+
+    by : (more : List RecordData) → (settled_gate now moment).records ≡ now.records ++ more → AreFewer now.records (settled_gate now moment).records
+    by (r ∷ more) e = record { next = r; others = more; whole = e }
+    by [] e =
+        let none : matching_of now ≡ None =
+        ap (matching now.policy) (sym (e ∙ append-nil now.records)) ∙ settled_ends now.policy now.records moment (legal_is_orderly now.policy now.records legal) in
+        let clash : true ≡ false = sym waits ∙ ap is_some none in
+        cc
+
+-- so it was where a matching step was refused
+pub refused_left : {T : Type 0} (before now after : GateData) (moment : ℕ) (none : T) (r : Result T StepFault) (e : StepFault) → IsSettling before moment now → IsLegal now.policy now.records
+    → after ≡ now → (matching_of now ≡ None → r ≡ Ok none) → r ≡ Err e → AreFewer after.records (settled_gate before moment).records
+refused_left before now after moment none r e s legal same idle is =
+    subst (λ (g : GateData). AreFewer g.records (settled_gate before moment).records) (sym same) (settling_left before now moment s legal (by (matching_of now) refl))
+  where
+    by : (x : Option Verdict) → matching_of now ≡ x → is_some (matching_of now) ≡ true
+    by None k = let clash : Err e ≡ Ok none = sym is ∙ idle k in cc
+    by (Some v) k = ap is_some k
+
+pub of_matching : (gate : GateData) (e : StepFault) → IsToldFull gate e → Refused (cause_of (fault_of_step e)) gate.records
 of_matching gate refusals.OutOfMemory h = h
 of_matching gate refusals.DayFull h = h

@@ -1,8 +1,8 @@
 -- What an event, a login, a packet and a pull leave, whole or given up.
-use Rattle.std.proofs.Common.{◌≡◌, ℕ, ◌+◌, ◌-◌, ◌<◌, inl, inr, max, pred, nat_lt, Bool, true, false, ◌&&◌, cond, is_some, List, [], ◌++◌, length, take, drop, Option, Some, None, refl, sym, ap, ◌∙◌, subst, append_assoc, append-nil, arith, length-drop}
+use Rattle.std.proofs.Common.{◌≡◌, ℕ, ◌+◌, ◌-◌, ◌<◌, inl, inr, max, pred, nat_lt, Bool, true, false, ◌&&◌, cond, is_some, List, [], ◌∷◌, ◌++◌, length, take, drop, Option, Some, None, refl, sym, ap, ◌∙◌, subst, append_assoc, append-nil, arith, length-drop}
 use Rattle.std.proofs.lemmas.Bool.Decides.{nat_tests}
 use Rattle.std.specs.Io.KnownBytes.{Appends}
-use Rattle.std.proofs.KnownBytes.{Appends-trans}
+use Rattle.std.proofs.KnownBytes.{Appends-nil, Appends-trans}
 use Rattle.gx_units.specs.Spelling.{folded_user}
 use Rattle.gx_units.specs.declared.names.UserName.{UserName}
 use Rattle.gx_soup.specs.declared.packet.LoginRequest.{LoginRequest}
@@ -20,6 +20,7 @@ use Rattle.gx_core.specs.declared.outcome.LoginAnswer.TheVariants as answers
 use Rattle.gx_session.specs.declared.connection.Connection.{Connection}
 use Rattle.gx_session.specs.declared.event.Control.{Control}
 use Rattle.gx_session.specs.declared.event.Next.{Next}
+use Rattle.gx_session.specs.declared.event.Reply.{Reply}
 use Rattle.gx_session.specs.declared.event.Next.TheVariants as nexts
 use Rattle.gx_session.specs.declared.fault.PipeFault.{PipeFault}
 use Rattle.gx_session.specs.declared.fault.PipeFault.TheVariants as faults
@@ -28,15 +29,21 @@ use Rattle.gx_session.specs.declared.fault.SendFault.TheVariants as send_faults
 use Rattle.gx_session.specs.declared.session.Phase.{Phase}
 use Rattle.gx_session.specs.declared.session.Phase.TheVariants.{Fresh, Waiting, On, Abandoned, Done}
 use Rattle.gx_devices.specs.Devices.{IsFront}
+use Rattle.gx_devices.specs.Stopping.{AreFewer, Cause, Memory, Full, Writing, Reading, IsOfSending, Mark}
+use Rattle.gx_devices.proofs.Stopping.{fewer_then, first_behind, first_same, stops_here}
+use Rattle.gx_history.specs.declared.record.RecordData.{RecordData}
+use Rattle.gx_session.specs.Serving.{IsOnLine}
+use Rattle.gx_session.proofs.Growing.{event_adds, answer_on, login_adds}
+use Rattle.gx_session.proofs.OnLine.{pull_keeps}
 use Rattle.gx_session.specs.Faults.{fault_of_send}
 use Rattle.gx_session.specs.Events.{asks_step}
 use Rattle.gx_session.specs.Happenings.{Happening}
 use Rattle.gx_session.specs.Happenings as happens
-use Rattle.gx_session.specs.Piping.{logout_of, IsTaken, IsUnsent, IsGivenUp, IsTurnGivenUp, IsPullGivenUp, GivesAll, IfFullIsClosed, IsOfStep}
+use Rattle.gx_session.specs.Piping.{Standing, mark, cause_of, Refused, logout_of, IsTaken, IsUnwritten, IsGivenUp, IsTurnGivenUp, GivesAll, reported_of, told_of, pull_marks, StopsIn}
 use Rattle.gx_core.specs.Asking.{asked_by, stepped}
 use Rattle.gx_session.specs.Steps.{login_asked_at, login_told}
 use Rattle.gx_session.specs.Table.{SessionData, row_in, turn}
-use Rattle.gx_session.specs.Transcript.{Run, with_text, silent, control_text, acted, on_event, first_told, logged_in, login_in, with_login, answered, reports_text, sent, unsent, is_on, pulled}
+use Rattle.gx_session.specs.Transcript.{Run, run_at, and_then, with_text, silent, control_bytes, control_text, acted, on_event, first_told, logged_in, login_in, with_login, answered, reports_text, sent, unsent, is_on, pulled}
 use Rattle.gx_core.proofs.Stepped.{all_taken}
 
 -- Rows of the table.
@@ -96,18 +103,6 @@ login_waits : (session : SessionData) (packet : ClientPacket) (moment : ℕ) →
 unfolding turn
 login_waits session packet moment h = row_login session.phase packet _ _ h
 
-row_pulled : (p : Phase) (count : ℕ) (ended : Bool) (silent quiet : Bool) → asks_step (row_in p (happens.Pulled count ended) silent quiet).reply.next ≡ true → ended ≡ true
-row_pulled Fresh count ended silent quiet h = cc
-row_pulled Waiting count ended silent quiet h = cc
-row_pulled On count true silent quiet h = refl
-row_pulled On count false silent quiet h = cc
-row_pulled Abandoned count ended silent quiet h = cc
-row_pulled Done count ended silent quiet h = cc
-
-pull_asks_at_the_end : (session : SessionData) (count : ℕ) (ended : Bool) (moment : ℕ) → asks_step (turn session (happens.Pulled count ended) moment).reply.next ≡ true → ended ≡ true
-unfolding turn
-pull_asks_at_the_end session count ended moment h = row_pulled session.phase count ended _ _ h
-
 -- Text behind text.
 
 pub taken_behind : (text : List ℕ) (run : Run) (now : GateData) (state : Connection) (output mid left : Option (List ℕ)) → Appends output mid text → IsTaken run now state mid left → IsTaken (with_text text run) now state output left
@@ -124,8 +119,43 @@ front_behind text more output mid left w f = record {
 pub front_longer : (text more : List ℕ) (output left : Option (List ℕ)) → IsFront output left text → IsFront output left (text ++ more)
 front_longer text more output left f = record { front = f.front; rest = f.rest ++ more; written = f.written; whole = ap (λ t. t ++ more) f.whole ∙ append_assoc f.front f.rest more }
 
-front_whole : (text more : List ℕ) (output left : Option (List ℕ)) → Appends output left text → IsFront output left (text ++ more)
-front_whole text more output left w = record { front = text; rest = more; written = w; whole = refl }
+-- nothing was written, where nothing may be
+pub of_text : (cause : Cause) (text front : List ℕ) → IsOfSending cause (front ≡ []) → IsOfSending cause (text ++ front ≡ text)
+of_text Memory text front none = ap (λ t. text ++ t) none ∙ append-nil text
+of_text Full text front h = absurd h
+of_text Writing text front h = tt
+of_text Reading text front h = absurd h
+
+-- a run that a growth stopped where it stood
+pub pauses : (run : Run) (marks : List (Mark RecordData Standing)) (now : GateData) (state : Connection) (output : Option (List ℕ)) → now ≡ run.gate → state ≡ run.connection → StopsIn run marks faults.OutOfMemory now state output output
+pauses run marks now state output same still = record {
+  stop = mark run;
+  stops = stops_here Refused (mark run) marks;
+  gate = same;
+  logout = ap logout_of still;
+  line = λ h. h;
+  told = [];
+  text = sym (append-nil run.text);
+  written = Appends-nil output;
+}
+
+-- a packet of the session's own was not sent
+pub unwritten : (run : Run) (fault : SendFault) (now : GateData) (state : Connection) (output left : Option (List ℕ)) → now ≡ run.gate → logout_of state ≡ logout_of run.connection → IsFront output left run.text
+    → (fault ≡ send_faults.OutOfMemory → Appends output left []) → IsUnwritten run (fault_of_send fault) now state output left
+unwritten run send_faults.OutOfMemory now state output left g l f none = record { gate = g; logout = l; text = record { front = []; rest = run.text; written = none refl; whole = refl }; sending = refl }
+unwritten run send_faults.WriteFailed now state output left g l f none = record { gate = g; logout = l; text = f; sending = tt }
+
+pub turn_unwritten : (gate : GateData) (c : Connection) (event : Happening) (moment : ℕ) (reply : Reply) (session : SessionData) (control : Control) (fault : SendFault) (now : GateData) (output left : Option (List ℕ)) → reply ≡ (turn c.session event moment).reply → session ≡ (turn c.session event moment).session
+    → reply.send ≡ Some control → now ≡ acted gate c.user moment reply.next → IsFront output left (control_bytes control) → (fault ≡ send_faults.OutOfMemory → Appends output left [])
+    → IsTurnGivenUp gate c event moment (fault_of_send fault) now (record c { session = session }) output left
+unfolding on_event
+turn_unwritten gate c event moment reply session control fault now output left r s sends acts f none =
+    let sent : (turn c.session event moment).reply.send ≡ Some control = ap (λ (x : Reply). x.send) (sym r) ∙ sends in
+    inr (
+      ap is_some sent,
+      unwritten (on_event gate c event moment) fault now (record c { session = session }) output left (acts ∙ ap (λ (x : Reply). acted gate c.user moment x.next) r)
+          (ap (λ (x : SessionData). logout_of (record c { session = x })) s) (subst (λ (x : Option Control). IsFront output left (control_text x)) (sym sent) f) none,
+    )
 
 -- A login.
 
@@ -142,12 +172,17 @@ log_in_cut gate gate' c login moment answer next waiting g a n fault now state o
     let asks = h.0 in
     cc
 log_in_cut gate gate' c login moment answer next waiting g a n fault now state output left (inr h) =
-    inr (subst (λ r. IsUnsent r fault now state output left) (sym (logged_in_is gate gate' c login moment answer next g a n)) h.1)
+    inr (subst (λ r. IsUnwritten r fault now state output left) (sym (logged_in_is gate gate' c login moment answer next g a n)) h.1)
+
+-- a login whose step was refused
+pub login_undone : (gate now : GateData) (c : Connection) (login : LoginRequest) (moment : ℕ) (fault : PipeFault) (output : Option (List ℕ)) → now ≡ gate → Refused (cause_of fault) gate.records
+    → IsGivenUp gate c (logged_in gate c login moment) fault now c output output
+login_undone gate now c login moment fault output same cause = inl (login_adds gate c moment login, record { gate_is = same; logout = refl; cause = cause; written = Appends-nil output })
 
 -- A packet.
 
 pub packet_cut : (gate : GateData) (c : Connection) (packet : ClientPacket) (moment : ℕ) (fault : PipeFault) (now : GateData) (state : Connection) (output left : Option (List ℕ)) → IsTurnGivenUp gate c (happens.Packet packet) moment fault now state output left → IsGivenUp gate c (answered gate c packet moment) fault now state output left
-packet_cut gate c packet moment fault now state output left (inl h) = inl h.1
+packet_cut gate c packet moment fault now state output left (inl h) = inl (fewer_then _ _ _ (event_adds gate c (happens.Packet packet) moment h.0) (answer_on gate c packet moment), h.1)
 packet_cut gate c packet moment fault now state output left (inr h) =
     let quiet = packet_is_silent c.session packet moment in
     let sends = h.0 in
@@ -192,10 +227,14 @@ module _ (gate : GateData) (c : Connection) (packet : ClientPacket) (moment : �
       ∙ ap (λ x. logged_in now x login moment) (sym told.connection))))
 
   pub login_cut : (fault : PipeFault) (then : GateData) (after : Connection) (left : Option (List ℕ)) → IsGivenUp now state (logged_in now state login moment) fault then after mid left → IsGivenUp gate c (answered gate c packet moment) fault then after output left
-  login_cut fault then after left (inl u) =
-      inl (record { gate_is = u.gate_is ∙ same_gate; logout = u.logout ∙ (after_is_out ∙ sym before_is_out); cause = subst (IsOfStep fault) same_gate u.cause; written = Appends-trans output mid left [] [] nothing_sent u.written })
+  unfolding front_behind
+  login_cut fault then after left (inl h) =
+      let u = h.1 in
+      let fewer : AreFewer gate.records (answered gate c packet moment).gate.records =
+      subst (λ (r : Run). AreFewer gate.records r.gate.records) (sym answered_is) (subst (λ (g : GateData). AreFewer g.records (logged_in now state login moment).gate.records) same_gate h.0) in
+      inl (fewer, record { gate_is = u.gate_is ∙ same_gate; logout = u.logout ∙ (after_is_out ∙ sym before_is_out); cause = subst (λ (g : GateData). Refused (cause_of fault) g.records) same_gate u.cause; written = Appends-trans output mid left [] [] nothing_sent u.written })
   login_cut fault then after left (inr u) =
-      inr (subst (λ r. IsUnsent r fault then after output left) (sym answered_is) (record { gate = u.gate; logout = u.logout; cause = u.cause; text = front_behind [] (logged_in now state login moment).text output mid left nothing_sent u.text }))
+      inr (subst (λ r. IsUnwritten r fault then after output left) (sym answered_is) (record { gate = u.gate; logout = u.logout; text = front_behind [] (logged_in now state login moment).text output mid left nothing_sent u.text; sending = u.sending }))
 
 -- A pull.
 
@@ -238,36 +277,102 @@ module _ (gate : GateData) (c : Connection) (moment : ℕ) (reports : List Repor
       ∙ (ap (λ b. with_text (reports_text reports) (on_event gate (record c { next = next }) (happens.Pulled (length reports) b) moment)) (sym all.ended_is)
       ∙ ap (λ n. with_text (reports_text reports) (on_event gate (record c { next = next }) (happens.Pulled n ended) moment)) (sym counted))))
 
-  text_is : (pulled gate c moment).text ≡ reports_text reports ++ turned.text
-  text_is = ap (λ (r : Run). r.text) pulled_is
-
-  pub pull_unsent : (fault : SendFault) (output left : Option (List ℕ)) → IsFront output left (reports_text reports) → IsPullGivenUp gate c moment (fault_of_send fault) gate c output left
-  pull_unsent fault output left f =
-      inl (record { gate_is = refl; logout = refl; cause = sends fault; text = subst (IsFront output left) (sym text_is) (front_longer (reports_text reports) turned.text output left f) })
-    where
-      sends : (e : SendFault) → IfFullIsClosed (fault_of_send e) gate
-      sends send_faults.OutOfMemory = tt
-      sends send_faults.WriteFailed = tt
-
   pub pull_done : (now : GateData) (state : Connection) (output mid left : Option (List ℕ)) → Appends output mid (reports_text reports) → IsTaken turned now state mid left → IsTaken (pulled gate c moment) now state output left
   pull_done now state output mid left w t =
       subst (λ r. IsTaken r now state output left) (sym pulled_is) (taken_behind (reports_text reports) turned now state output mid left w t)
 
-  pub pull_unturned : (fault : PipeFault) (now : GateData) (state : Connection) (output mid left : Option (List ℕ)) → Appends output mid (reports_text reports) → IsTurnGivenUp gate (record c { next = next }) (happens.Pulled count ended) moment fault now state mid left → IsPullGivenUp gate c moment fault now state output left
-  pull_unturned fault now state output mid left w (inl h) =
-      let closed : is_closed gate.records ≡ true = sym all.ended_is ∙ pull_asks_at_the_end c.session count ended moment h.0 in
-      inl (record {
-        gate_is = h.1.gate_is;
-        logout = h.1.logout;
-        cause = if_closed fault h.1.cause closed;
-        text = subst (IsFront output left) (sym text_is) (front_whole (reports_text reports) turned.text output left (subst (Appends output left) (append-nil (reports_text reports)) (Appends-trans output mid left (reports_text reports) [] w h.1.written)));
-      })
-    where
-      if_closed : (e : PipeFault) → IsOfStep e gate → is_closed gate.records ≡ true → IfFullIsClosed e gate
-      if_closed faults.OutOfMemory f k = tt
-      if_closed faults.WriteFailed f k = absurd f
-      if_closed faults.ReadFailed f k = absurd f
-      if_closed faults.DayFull f k = k
-      if_closed faults.Endless f k = absurd f
-  pull_unturned fault now state output mid left w (inr h) =
-      inr (subst (λ r. IsUnsent r fault now state output left) (sym pulled_is) (record { gate = h.1.gate; logout = h.1.logout; cause = h.1.cause; text = front_behind (reports_text reports) turned.text output mid left w h.1.text }))
+  module _ (text : List ℕ) (more : List (Mark RecordData Standing)) where
+    abbrev here : Run
+    here = run_at gate c text
+
+    abbrev behind : Run
+    behind = run_at gate (record c { next = next }) (text ++ reports_text reports)
+
+    -- the marks are these
+    marks_are : pull_marks here moment ≡ mark behind ∷ mark (and_then behind (λ g k. on_event g k (happens.Pulled count ended) moment)) ∷ []
+    marks_are =
+        ap (λ b. cond b (mark (reported_of here) ∷ mark (told_of (reported_of here) (length (unsent gate c)) moment) ∷ []) []) on
+        ∙ ap (λ xs. marks_by (reports_text xs) (max 1 c.next + length xs) (length xs) (is_closed gate.records)) (sym all.reports_are)
+        ∙ ap (λ n. marks_by (reports_text reports) n (length reports) (is_closed gate.records)) (sym all.next_is)
+        ∙ ap (λ b. marks_by (reports_text reports) next (length reports) b) (sym all.ended_is)
+        ∙ ap (λ n. marks_by (reports_text reports) next n ended) (sym counted)
+      where
+        marks_by : List ℕ → ℕ → ℕ → Bool → List (Mark RecordData Standing)
+        marks_by told number n closed =
+            let run = run_at gate (record c { next = number }) (text ++ told) in
+            mark run ∷ mark (and_then run (λ g k. on_event g k (happens.Pulled n closed) moment)) ∷ []
+
+    stops_there : (fault : PipeFault) (now : GateData) (state : Connection) (output left : Option (List ℕ))
+        → StopsIn here ((mark behind ∷ mark (and_then behind (λ g k. on_event g k (happens.Pulled count ended) moment)) ∷ []) ++ more) fault now state output left
+        → StopsIn here (pull_marks here moment ++ more) fault now state output left
+    stops_there fault now state output left h = subst (λ ms. StopsIn here (ms ++ more) fault now state output left) (sym marks_are) h
+
+    pub pull_unsent : (fault : SendFault) (output left : Option (List ℕ)) → IsFront output left (reports_text reports) → (fault ≡ send_faults.OutOfMemory → Appends output left [])
+        → StopsIn here (pull_marks here moment ++ more) (fault_of_send fault) gate c output left
+    pull_unsent fault output left f none = stops_there (fault_of_send fault) gate c output left (sends fault f none)
+      where
+        at : (e : PipeFault) (front : IsFront output left (reports_text reports)) → IsOfSending (cause_of e) (front.front ≡ [])
+            → StopsIn here ((mark behind ∷ mark (and_then behind (λ g k. on_event g k (happens.Pulled count ended) moment)) ∷ []) ++ more) e gate c output left
+        at e front sending = record {
+          stop = record { records = gate.records; text = text ++ front.front; known = record { policy = gate.policy; connection = record c { next = next } } };
+          stops = inr (inl (inr (record {
+            records = refl;
+            known = refl;
+            begun = record { others = front.front; whole = refl };
+            left = first_behind text front.front (reports_text reports) (record { others = front.rest; whole = front.whole });
+            sending = of_text (cause_of e) text front.front sending;
+          })));
+          gate = refl;
+          logout = refl;
+          line = λ h. h;
+          told = front.front;
+          text = refl;
+          written = front.written;
+        }
+
+        sends : (e : SendFault) → IsFront output left (reports_text reports) → (e ≡ send_faults.OutOfMemory → Appends output left [])
+            → StopsIn here ((mark behind ∷ mark (and_then behind (λ g k. on_event g k (happens.Pulled count ended) moment)) ∷ []) ++ more) (fault_of_send e) gate c output left
+        sends send_faults.OutOfMemory front n = at faults.OutOfMemory (record { front = []; rest = reports_text reports; written = n refl; whole = refl }) refl
+        sends send_faults.WriteFailed front n = at faults.WriteFailed front tt
+
+    pub pull_unturned : (fault : PipeFault) (now : GateData) (state : Connection) (output mid left : Option (List ℕ)) → Appends output mid (reports_text reports) → IsTurnGivenUp gate (record c { next = next }) (happens.Pulled count ended) moment fault now state mid left
+        → StopsIn here (pull_marks here moment ++ more) fault now state output left
+    pull_unturned fault now state output mid left w (inl h) = stops_there fault now state output left (record {
+      stop = mark behind;
+      stops = inr (inr (inr (inl (inl (
+        h.1.cause,
+        record {
+          made = first_same gate.records gate.records refl;
+          left = event_adds gate (record c { next = next }) (happens.Pulled count ended) moment h.0;
+          text = refl;
+          known = refl;
+        },
+      )))));
+      gate = h.1.gate_is;
+      logout = h.1.logout;
+      line = λ k. k;
+      told = reports_text reports;
+      text = refl;
+      written = subst (Appends output left) (append-nil (reports_text reports)) (Appends-trans output mid left (reports_text reports) [] w h.1.written);
+    })
+    pull_unturned fault now state output mid left w (inr h) = stops_there fault now state output left (record {
+      stop = record { records = turned.gate.records; text = (text ++ reports_text reports) ++ h.1.text.front; known = record { policy = turned.gate.policy; connection = turned.connection } };
+      stops = inr (inr (inr (inl (inr (record {
+        records = refl;
+        known = refl;
+        begun = record { others = h.1.text.front; whole = refl };
+        left = first_behind (text ++ reports_text reports) h.1.text.front turned.text (record { others = h.1.text.rest; whole = h.1.text.whole });
+        sending = of_text (cause_of fault) (text ++ reports_text reports) h.1.text.front h.1.sending;
+      })))));
+      gate = h.1.gate;
+      logout = h.1.logout;
+      line = λ k. subst (λ (r : Run). IsOnLine r.gate r.connection) pulled_is (pull_keeps gate c moment k);
+      told = reports_text reports ++ h.1.text.front;
+      text = append_assoc text (reports_text reports) h.1.text.front;
+      written = Appends-trans output mid left (reports_text reports) h.1.text.front w h.1.text.written;
+    })
+
+-- a growth that no step asked for
+pub pull_pauses : (gate : GateData) (c : Connection) (moment : ℕ) (output : Option (List ℕ)) (text : List ℕ) (more : List (Mark RecordData Standing))
+    → StopsIn (run_at gate c text) (pull_marks (run_at gate c text) moment ++ more) faults.OutOfMemory gate c output output
+pull_pauses gate c moment output text more = pauses (run_at gate c text) (pull_marks (run_at gate c text) moment ++ more) gate c output refl refl

@@ -41,9 +41,12 @@ pub record Run : Type 0 where
 abbrev pub with_text : List ℕ → Run → Run
 with_text before run = record { gate = run.gate; connection = run.connection; text = before ++ run.text }
 
+abbrev pub run_at : GateData → Connection → List ℕ → Run
+run_at gate connection text = record { gate = gate; connection = connection; text = text }
+
 -- nothing is written
 abbrev pub silent : GateData → Connection → Run
-silent gate connection = record { gate = gate; connection = connection; text = [] }
+silent gate connection = run_at gate connection []
 
 -- a run, and what follows where it stopped
 abbrev pub and_then : Run → (GateData → Connection → Run) → Run
@@ -118,10 +121,15 @@ report_packet report = server_bytes (server.Sequenced (report_bytes report))
 abbrev pub reports_text : List Report → List ℕ
 reports_text reports = flat_map report_packet reports
 
--- reports are sent, the next number is the one after them, and the session is told how many, and whether the day is closed
+-- reports are sent, and the next number is the one after them
+abbrev pub reported : GateData → Connection → List Report → Run
+reported gate connection reports =
+    record { gate = gate; connection = record connection { next = max 1 connection.next + length reports }; text = reports_text reports }
+
+-- and the session is told how many, and whether the day is closed
 unfoldable pub sent : GateData → Connection → List Report → ℕ → Run
 sent gate connection reports moment =
-    and_then (record { gate = gate; connection = record connection { next = max 1 connection.next + length reports }; text = reports_text reports }) (λ g c.
+    and_then (reported gate connection reports) (λ g c.
     on_event g c (happens.Pulled (length reports) (is_closed g.records)) moment)
 
 -- the user's stream from the next number on

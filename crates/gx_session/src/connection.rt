@@ -1,20 +1,21 @@
 //! A connection: what happens to its session, done to the gate and to the writer.
 
-ghost use Rattle.std.specs.Prelude.{◌≡◌, ◌-◌, ◌^◌, ◌<◌, ◌≤◌, List, ◌∷◌, length, is_some, IfOk, IfErr, OnOk, OnErr, IsFalse, IsTrue};
-ghost use Rattle.gx_core.specs.Matches.{matching_of, settled_gate, IsSettling};
-ghost use Rattle.gx_soup.specs.declared.packet.ClientPacket.{ClientPacket};
+ghost use Rattle.std.specs.Prelude.{◌≡◌, ℕ, ◌-◌, ◌^◌, ◌<◌, ◌≤◌, List, ◌++◌, length, IfOk, IfErr, OnOk, OnErr, IsFalse, IsTrue};
+ghost use Rattle.gx_history.specs.declared.record.RecordData.{RecordData};
+ghost use Rattle.gx_core.specs.Matches.{settled_gate, IsSettling};
+ghost use Rattle.gx_devices.specs.Stopping.{AreFewer, Mark};
 ghost use Rattle.gx_session.specs.declared.session.Phase.TheVariants.{Waiting};
 ghost use Rattle.gx_session.specs.Faults.{IsToldFull, IsToldRightly, IsFinite};
 ghost use Rattle.gx_session.specs.Faults.{fault_of_step};
 ghost use Rattle.gx_session.specs.Events.{CanAsk, asks_step, is_over};
 ghost use Rattle.gx_session.specs.Happenings.{happening};
 ghost use Rattle.gx_session.specs.Piping.{is_never_refused, logout_of, step_of, IsTaken, IsGivenUp};
-ghost use Rattle.gx_session.specs.Piping.{IsTurnGivenUp, IsPullGivenUp, IsAt};
-ghost use Rattle.gx_session.specs.Piping.{GivesAll, IsCutShort, IsLeaving, IsMatchedInPart};
+ghost use Rattle.gx_session.specs.Piping.{IsTurnGivenUp, Standing, pull_marks, packet_marks};
+ghost use Rattle.gx_session.specs.Piping.{StopsIn, GivesAll, IsLeaving, IsMatchedInPart};
 ghost use Rattle.gx_session.specs.Table.{turn};
 ghost use Rattle.gx_session.specs.Transcript.{acted, silent, on_event, logged_in, answered};
 ghost use Rattle.gx_session.specs.Transcript.{matched, pulled, is_on, handled, opened_at};
-ghost use Rattle.gx_session.specs.Transcript.{finished, first_told};
+ghost use Rattle.gx_session.specs.Transcript.{run_at, finished, first_told};
 
 use crate::asking::login_step;
 use crate::event::{Event, Next};
@@ -72,12 +73,18 @@ fn act(gate: &mut Gate, user: UserName, next: Next, moment: u64) -> Result<(), S
 fn settle(gate: &mut Gate, moment: u64) -> Result<(), StepFault>
     ensures ok { OnOk result (gate.new ≡ settled_gate gate.old moment) }
     ensures err { OnErr result (IsSettling gate.old moment gate.new) }
-    ensures waits { OnErr result (IsTrue (is_some (matching_of gate.new))) }
+    ensures left { OnErr result (AreFewer
+        gate.new.records (settled_gate gate.old moment).records) }
     ensures grows { length gate.old.records ≤ length gate.new.records }
     ensures full { IfErr result (IsToldFull gate.new) }
 {
-    while gate.match_one(moment)?.is_some() {}
-    Ok(())
+    loop {
+        // What this ensures: the records are those of a legal day, on which what settles rests.
+        gate.is_legal();
+        if gate.match_one(moment)?.is_none() {
+            return Ok(());
+        }
+    }
 }
 
 impl Connection {
@@ -221,10 +228,14 @@ impl Connection {
         requires { writer.old.failed < 2 ^ 64 - 1 }
         ensures ok { OnOk result (IsTaken (pulled gate.old self.old moment)
             gate.new self.new (W.contents writer.old.device) (W.contents writer.new.device)) }
-        ensures err { IfErr result (λ fault. IsPullGivenUp
-            gate.old self.old moment fault gate.new self.new
+        ensures err { IfErr result (λ fault. (text : List ℕ)
+            (more : List (Mark RecordData Standing)) → StopsIn
+            (run_at gate.old self.old text)
+            (pull_marks (run_at gate.old self.old text) moment ++ more)
+            fault gate.new self.new
             (W.contents writer.old.device) (W.contents writer.new.device)) }
         ensures kept { OnOk result (writer.new.failed ≡ writer.old.failed) }
+        ensures finite { IfErr result IsFinite }
         ensures told { IfErr result (IsToldRightly
             0 0 writer.old.failed writer.new.failed gate.new) }
     {
@@ -253,10 +264,12 @@ impl Connection {
         requires { writer.old.failed < 2 ^ 64 - 1 }
         ensures ok { OnOk result (IsTaken (handled gate.old self.old packet.now)
             gate.new self.new (W.contents writer.old.device) (W.contents writer.new.device)) }
-        ensures err { IfErr result (λ fault. (others : List ClientPacket) →
-            IsCutShort (silent gate.old self.old) (packet.now ∷ others)
-            (W.contents writer.old.device) (W.contents writer.new.device)
-            fault (IsAt gate.new self.new)) }
+        ensures err { IfErr result (λ fault. (text : List ℕ)
+            (more : List (Mark RecordData Standing)) → StopsIn
+            (run_at gate.old self.old text)
+            (packet_marks (run_at gate.old self.old text) packet.now ++ more)
+            fault gate.new self.new
+            (W.contents writer.old.device) (W.contents writer.new.device)) }
         ensures kept { OnOk result (writer.new.failed ≡ writer.old.failed) }
         ensures finite { IfErr result IsFinite }
         ensures told { IfErr result (IsToldRightly
@@ -295,11 +308,12 @@ impl Connection {
     /// Tells the session that its input has a fault or is at its end, and logs out a user who is on.
     ///
     /// A logout that the gate grants is not refused; and of a user who is on it grants it, wherever a run stops.
-    #[tactic(auto, using(crate::proofs::Faults::leaves_as_at_the_end, crate::proofs::Faults::refused_as_at_the_end))]
+    #[tactic(auto, using(crate::proofs::Leaving::leaves_as_at_the_end, crate::proofs::Leaving::refused_as_at_the_end, crate::proofs::Leaving::asks_as_at_the_end))]
     pub(crate) fn leave(&mut self, gate: &mut Gate, event: Event<'_>) -> Result<(), StepFault>
         requires { IsLeaving (happening event) }
         ensures ok { OnOk result (gate.new ≡ (finished (silent gate.old self.old)).gate) }
         ensures err { OnErr result ((gate.new ≡ gate.old) × (self.new ≡ self.old)) }
+        ensures asks { OnErr result (IsTrue (is_on self.old.session.phase)) }
         ensures sure { OnErr result (IsFalse (is_never_refused gate.old (logout_of self.old))) }
         ensures grows { length gate.old.records ≤ length gate.new.records }
         ensures full { IfErr result (IsToldFull gate.new) }

@@ -3,11 +3,12 @@
 ghost use Rattle.std.specs.Prelude.{◌≡◌, ℕ, ◌-◌, ◌^◌, ◌<◌, ◌≤◌, List, fold, IfSome, IfOk, IfErr, IsErrOf, OnOk};
 ghost use Rattle.gx_core.specs.Gates.{GateData};
 ghost use Rattle.gx_devices.specs.Devices.{IsUnfailing, counted_on};
+ghost use Rattle.gx_devices.specs.Stopping.{trail};
 ghost use Rattle.gx_session.specs.Faults.{IsToldRightly, IsFinite};
-ghost use Rattle.gx_session.specs.Piping.{IsTaken, IsAt, IsCutShort, Follows, Exchanged, Broken, IsFault};
+ghost use Rattle.gx_session.specs.Piping.{IsTaken, StopsIn, IsCutShort, Follows, Exchanged, Broken};
 ghost use Rattle.gx_session.specs.Happenings.{happening};
-ghost use Rattle.gx_session.specs.Piping.{IsAfterFault, IsLeaving, IsTranscript, IsPipe};
-ghost use Rattle.gx_session.specs.Transcript.{silent, on_packet, opened_at};
+ghost use Rattle.gx_session.specs.Piping.{IsAfterFault, IsLeaving, IsTranscript, IsPipe, packet_marks};
+ghost use Rattle.gx_session.specs.Transcript.{run_at, silent, on_packet, opened_at};
 
 use crate::connection::Connection;
 use crate::event::Event;
@@ -32,9 +33,11 @@ fn take_packets<W: Write>(
     requires { writer.old.failed < 2 ^ 64 - 1 }
     ensures ok { OnOk result (IsTaken (fold on_packet (silent gate.old connection.old) packets.now)
         gate.new connection.new (W.contents writer.old.device) (W.contents writer.new.device)) }
-    ensures err { IfErr result (λ fault. IsCutShort (silent gate.old connection.old) packets.now
-        (W.contents writer.old.device) (W.contents writer.new.device) fault
-        (IsAt gate.new connection.new)) }
+    ensures err { IfErr result (λ fault. (text : List ℕ) → StopsIn
+        (run_at gate.old connection.old text)
+        (trail packet_marks on_packet (run_at gate.old connection.old text) packets.now)
+        fault gate.new connection.new
+        (W.contents writer.old.device) (W.contents writer.new.device)) }
     ensures kept { OnOk result (writer.new.failed ≡ writer.old.failed) }
     ensures finite { IfErr result IsFinite }
     ensures told { IfErr result (IsToldRightly 0 0 writer.old.failed writer.new.failed gate.new) }
@@ -61,9 +64,8 @@ fn exchange<W: Write>(
         (W.contents writer.old.device) (W.contents writer.new.device)) }
     ensures err { IfErr result (λ fault. (before : GateData) (first : ℕ) (bytes : List ℕ)
         → Follows before first bytes gate.old connection.old feeder.old
-        → Broken gate.old connection.old bytes piece.now
-        (W.contents writer.old.device) (W.contents writer.new.device)
-        fault (IsAt gate.new connection.new)) }
+        → Broken before first bytes piece.now fault gate.new connection.new
+        (W.contents writer.old.device) (W.contents writer.new.device)) }
     ensures kept { OnOk result (writer.new.failed ≡ writer.old.failed) }
     ensures finite { IfErr result IsFinite }
     ensures told { IfErr result (IsToldRightly 0 0 writer.old.failed writer.new.failed gate.new) }
@@ -91,10 +93,10 @@ fn serve<R: Read, W: Write>(
         (W.contents writer.old.device) (W.contents writer.new.device) gate.old first gate.new) }
     ensures all { OnOk result (IfSome (R.remaining reader.old.device) (λ input. IsPipe input
         (W.contents writer.old.device) (W.contents writer.new.device) gate.old first gate.new)) }
-    ensures cut { IfErr result (λ fault. IsFault
+    ensures cut { IfErr result (λ fault. IsCutShort
         (R.remaining reader.old.device) (R.remaining reader.new.device)
         (W.contents writer.old.device) (W.contents writer.new.device)
-        gate.old first fault (IsAt gate.new connection.new)) }
+        gate.old first fault gate.new connection.new) }
     ensures unfailing { OnOk result (IsUnfailing
         reader.old.failed reader.new.failed writer.old.failed writer.new.failed) }
     ensures endless { IsErrOf result PipeFault.Endless

@@ -1,6 +1,6 @@
 //! Sending reports, and packets of the session's own.
 
-ghost use Rattle.std.specs.Prelude.{◌≡◌, ◌-◌, ◌^◌, ◌<◌, ◌++◌, IfOk, IfErr, OnOk, OnErr};
+ghost use Rattle.std.specs.Prelude.{◌≡◌, ◌-◌, ◌^◌, ◌<◌, [], ◌++◌, IfOk, IfErr, OnOk, OnErr};
 ghost use Rattle.std.specs.Io.KnownBytes.{Appends};
 ghost use Rattle.gx_devices.specs.Devices.{IsFront};
 ghost use Rattle.gx_session.specs.Faults.{IsBlamed};
@@ -40,7 +40,7 @@ fn reports_text(alloc: Global, reports: &[Report]) -> Result<Vec<u8>, OutOfMemor
 }
 
 /// Sends the reports of a pull: one Sequenced Data packet each, in their order, and nothing else.
-/// After a fault a front of these packets is written.
+/// After a fault a front of these packets is written; nothing, where a growth was refused.
 pub fn send_pulled<W: Write>(
     alloc: Global,
     pulled: &Pulled,
@@ -53,6 +53,8 @@ pub fn send_pulled<W: Write>(
     ensures front { OnErr result (IsFront
         (W.contents writer.old.device) (W.contents writer.new.device)
         (reports_text pulled.now.reports)) }
+    ensures nothing { IfErr result (λ fault. fault ≡ SendFault.OutOfMemory → Appends
+        (W.contents writer.old.device) (W.contents writer.new.device) []) }
     ensures kept { OnOk result (writer.new.failed ≡ writer.old.failed) }
     ensures told { IfErr result (IsBlamed writer.old.failed writer.new.failed) }
 {
@@ -61,7 +63,8 @@ pub fn send_pulled<W: Write>(
     Ok(())
 }
 
-/// Sends a packet of the session's own, and nothing else. After a fault a front of it is written.
+/// Sends a packet of the session's own, and nothing else. After a fault a front of it is written;
+/// nothing, where a growth was refused.
 pub fn send_control<W: Write>(
     alloc: Global,
     control: Control,
@@ -72,6 +75,8 @@ pub fn send_control<W: Write>(
         (W.contents writer.old.device) (W.contents writer.new.device) (control_bytes control)) }
     ensures front { OnErr result (IsFront
         (W.contents writer.old.device) (W.contents writer.new.device) (control_bytes control)) }
+    ensures nothing { IfErr result (λ fault. fault ≡ SendFault.OutOfMemory → Appends
+        (W.contents writer.old.device) (W.contents writer.new.device) []) }
     ensures kept { OnOk result (writer.new.failed ≡ writer.old.failed) }
     ensures told { IfErr result (IsBlamed writer.old.failed writer.new.failed) }
 {

@@ -1,4 +1,4 @@
-use Rattle.std.proofs.Common.{◌≡◌, ◌++◌, ◌∙◌, ap, ℕ, List, sym}
+use Rattle.std.proofs.Common.{◌++◌, ◌∙◌, ap, ℕ, List, sym}
 use Rattle.gx_scripting.specs.Scripting.{Printed}
 use Rattle.gx_scripting.proofs.Settling.{refused_is}
 use Rattle.gx_scripting.proofs.running.add_match.Goals as goal

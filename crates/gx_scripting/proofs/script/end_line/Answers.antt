@@ -1,6 +1,9 @@
+use Rattle.std.proofs.Common.{subst}
 use Rattle.std.proofs.lemmas.Result.{err_from_is_err_and}
 use Rattle.gx_devices.proofs.Known.{on_fault}
-use Rattle.gx_scripting.proofs.ScriptRuns.{half_written}
+use Rattle.gx_scripting.specs.Leaving.{Leaves}
+use Rattle.gx_scripting.specs.Scripting.{line_effect}
+use Rattle.gx_scripting.proofs.ScriptRuns.{half_done, half_written}
 use Rattle.gx_scripting.proofs.script.end_line.Goals as goal
 
 pub returns-in_err-write_whole-in-Ok-clause-err : goal.returns-in_err-write_whole-in-Ok-clause-err
@@ -8,3 +11,7 @@ returns-in_err-write_whole-in-Ok-clause-err g c =
     let p = err_from_is_err_and c.from_residual.result c.from_residual.ensures.1 in
     on_fault _ _ _ _ p.1 p.2
     (half_written _ _ _ _ _ _ c.as_slice-in-Ok.result.now (rw c.as_slice.ensures.value at c.in-Ok.ensures.ok) c.as_slice-in-Ok.ensures.value c.in_err-write_whole-in-Ok.ensures.front)
+
+pub returns-in-Err-OutOfMemory-clause-err : goal.returns-in-Err-OutOfMemory-clause-err
+returns-in-Err-OutOfMemory-clause-err g c =
+    half_done _ _ _ _ (subst (Leaves c.args.gate.now (line_effect c.args.gate.now c.args.held.now.rest.items) c.take_line.new.gate) c.in-Err-OutOfMemory.field-0-is (rw c.as_slice.ensures.value at c.in-Err-OutOfMemory.ensures.err))

@@ -29,7 +29,7 @@ loop-preserved g c =
 
 pub returns-in-Err-clause-fault : goal.returns-in-Err-clause-fault
 returns-in-Err-clause-fault g c =
-    stops_reading _ _ _ _ _ _ _ _ c.loop.invariant.stands faults.ReadFailed (λ all_done begun halfway at h e. (h, e, refl)) _ c.in-Err.ensures.bytes
+    stops_reading _ _ _ _ _ _ _ _ c.loop.invariant.stands faults.ReadFailed tt _ c.in-Err.ensures.bytes
 
 pub returns-then-n-eq0-clause-script : goal.returns-then-n-eq0-clause-script
 returns-then-n-eq0-clause-script g c =
@@ -63,4 +63,4 @@ returns-in_err-take_piece-clause-fault g c =
 
 pub returns-clause-fault : goal.returns-clause-fault
 returns-clause-fault g c =
-    stops_reading _ _ _ _ _ _ _ _ c.loop.invariant.stands faults.Endless (λ all_done begun halfway at h e. (h, e, refl)) _ (Keeps-refl _)
+    stops_reading _ _ _ _ _ _ _ _ c.loop.invariant.stands faults.Endless tt _ (Keeps-refl _)

@@ -1,15 +1,15 @@
-use Rattle.std.proofs.Common.{[], ◌∷◌, ◌++◌, refl, sym, append-nil}
+use Rattle.std.proofs.Common.{[], ◌∷◌, ◌++◌, refl, append_assoc}
 use Rattle.std.proofs.lemmas.Result.{err_from_is_err_and}
 use Rattle.gx_devices.proofs.Known.{on_fault}
 use Rattle.gx_scripting.specs.ScriptTexts.{ended}
-use Rattle.gx_scripting.proofs.ScriptRuns.{if_err, on_ok3, takes_end, takes_more, stops_end, stops_more, stops_first}
+use Rattle.gx_scripting.proofs.ScriptRuns.{if_err, on_ok3, takes_end, takes_more, stops_end, stops_ended, stops_more}
 use Rattle.gx_scripting.proofs.script.take_ended.Goals as goal
 
 pub returns-in_err-take_front-clause-err : goal.returns-in_err-take_front-clause-err
 returns-in_err-take_front-clause-err g c =
     let p = err_from_is_err_and c.from_residual.result c.from_residual.ensures.1 in
-    on_fault _ _ _ _ p.1 p.2 (λ before bytes s.
-    stops_first before bytes _ _ _ _ _ s c.args.front.now (10 ∷ []) _ _ (c.in_err-take_front.ensures.err before _ bytes _ s))
+    on_fault _ _ _ _ p.1 p.2 (λ before bytes tail s.
+    stops_ended before bytes c.args.front.now tail _ _ _ _ (c.in_err-take_front.ensures.err before _ bytes (10 ∷ tail) _ s))
 
 pub returns-clause-ok : goal.returns-clause-ok
 returns-clause-ok g c =
@@ -22,10 +22,10 @@ returns-clause-ok g c =
 
 pub returns-clause-err : goal.returns-clause-err
 returns-clause-err g c =
-    if_err c.end_line.result _ _ (λ fault d before bytes s.
+    if_err c.end_line.result _ _ (λ fault d before bytes tail s.
     let t = c.in_ok-take_front.ensures.ok before _ bytes (g.W.Write.contents c.args.writer.now.device) s in
-    stops_more before bytes c.args.front.now _ _ _ _ _ t (10 ∷ []) [] (ended c.args.front.now) (sym (append-nil _)) _ _ fault
-    (stops_end before (bytes ++ c.args.front.now) _ _ _ t.follows 10 refl _ _ _ fault d))
+    stops_more before bytes c.args.front.now _ _ _ _ _ t (10 ∷ tail) (ended c.args.front.now ++ tail) (append_assoc c.args.front.now (10 ∷ []) tail) _ _ fault
+    (stops_end before (bytes ++ c.args.front.now) _ _ _ t.follows 10 refl tail _ _ _ fault d))
     c.end_line.ensures.err
 
 pub returns-in_err-take_front-clause-told : goal.returns-in_err-take_front-clause-told

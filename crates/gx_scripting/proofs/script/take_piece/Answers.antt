@@ -1,4 +1,4 @@
-use Rattle.std.proofs.Common.{◌≡◌, ◌+◌, ◌∷◌, [], ◌++◌, IsTrue, length, length-append, append_assoc, append-nil, refl, sym, ap, ◌∙◌, arith}
+use Rattle.std.proofs.Common.{◌≡◌, ◌∷◌, [], ◌++◌, length, length-append, append_assoc, append-nil, refl, sym, ap, ◌∙◌, arith}
 use Rattle.std.proofs.lemmas.Result.{err_from_is_err_and}
 use Rattle.gx_devices.proofs.Known.{on_fault}
 use Rattle.gx_scripting.specs.ScriptTexts.{ended}
@@ -11,11 +11,10 @@ returns-in_err-take_ended-clause-err g c =
     let i = c.loop-line.invariant in
     let line = ended c.in-Some.line.now in
     let behind = c.in-Some.behind.now in
-    let cut : c.args.piece.now ≡ (i.done ++ line) ++ behind =
-    i.split ∙ (ap (λ l. i.done ++ l) c.in-Some.ensures.parts ∙ sym (append_assoc i.done line behind)) in
+    let cut : c.args.piece.now ≡ i.done ++ (line ++ behind) = i.split ∙ ap (λ l. i.done ++ l) c.in-Some.ensures.parts in
     on_fault _ _ _ _ p.1 p.2 (λ before bytes s.
     let t = i.takes before bytes s in
-    stops_more before bytes i.done _ _ _ _ _ t line behind c.args.piece.now cut _ _ _ (c.in_err-take_ended.ensures.err before (bytes ++ i.done) t.follows))
+    stops_more before bytes i.done _ _ _ _ _ t (line ++ behind) c.args.piece.now cut _ _ _ (c.in_err-take_ended.ensures.err before (bytes ++ i.done) behind t.follows))
 
 pub loop-line-init : goal.loop-line-init
 loop-line-init g c = record {
@@ -56,5 +55,5 @@ returns-clause-err g c =
     if_err c.take_front.result _ _
     (λ fault err before bytes s.
     let t = i.takes before bytes s in
-    stops_more before bytes i.done _ _ _ _ _ t c.loop-line.left.now [] c.args.piece.now (i.split ∙ sym (append-nil _)) _ _ fault (err before c.loop-line.gate (bytes ++ i.done) (g.W.Write.contents c.loop-line.writer.device) t.follows))
+    stops_more before bytes i.done _ _ _ _ _ t (c.loop-line.left.now ++ []) c.args.piece.now (i.split ∙ ap (λ l. i.done ++ l) (sym (append-nil _))) _ _ fault (err before c.loop-line.gate (bytes ++ i.done) [] (g.W.Write.contents c.loop-line.writer.device) t.follows))
     c.take_front.ensures.err

@@ -1,5 +1,5 @@
 use Rattle.gx_session.proofs.OnLine.{run_keeps}
-use Rattle.gx_session.proofs.Faults.{run_may_leave}
+use Rattle.gx_session.proofs.Leaving.{run_may_leave}
 use Rattle.gx_session.proofs.laws.whoever_is_on_may_leave.Goals as goal
 
 pub returns-clause-line : goal.returns-clause-line

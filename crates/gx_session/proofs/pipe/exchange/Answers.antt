@@ -3,7 +3,7 @@ use Rattle.gx_session.specs.Events.{is_over}
 use Rattle.std.proofs.lemmas.Result.{err_from_is_err_and}
 use Rattle.gx_session.proofs.Runs.{exchanged_by}
 use Rattle.gx_devices.proofs.Known.{on_fault}
-use Rattle.gx_session.proofs.Faults.{feed_cut}
+use Rattle.gx_session.proofs.Faults.{broken_by, feed_cut}
 use Rattle.gx_session.proofs.pipe.exchange.Goals as goal
 use Rattle.gx_session.proofs.pipe.exchange.Goals.{then-is_some, else-is_some}
 
@@ -27,4 +27,10 @@ returns-clause-ok g c = λ before first bytes follows.
 pub returns-in_err-fed-clause-err : goal.returns-in_err-fed-clause-err
 returns-in_err-fed-clause-err g c =
     let p = err_from_is_err_and c.from_residual.result c.from_residual.ensures.1 in
-    on_fault _ _ _ _ p.1 p.2 (λ before first bytes follows. feed_cut c.args.gate.now c.args.connection.now bytes c.args.piece.now (g.W.Write.contents c.args.writer.now.device))
+    on_fault _ _ _ _ p.1 p.2 (λ before first bytes follows. feed_cut before first bytes c.args.piece.now c.args.gate.now c.args.connection.now c.args.feeder.now (g.W.Write.contents c.args.writer.now.device) follows)
+
+pub returns-in_err-take_packets-clause-err : goal.returns-in_err-take_packets-clause-err
+returns-in_err-take_packets-clause-err g c =
+    let p = err_from_is_err_and c.from_residual-in_err-take_packets.result c.from_residual-in_err-take_packets.ensures.1 in
+    on_fault _ _ _ _ p.1 p.2
+    (broken_by c.args.gate.now c.args.connection.now c.args.feeder.now c.feed.new.self c.args.piece.now c.in_ok-fed.fed.packets.items c.in_ok-fed.fed.fault _ _ _ c.take_packets.new.gate c.take_packets.new.connection c.in_ok-fed.ensures.fed (rw c.as_slice.ensures.value at c.in_err-take_packets.ensures.err))
