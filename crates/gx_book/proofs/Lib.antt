@@ -1,13 +1,5 @@
-pub mod Places
-pub mod Finding
+pub mod Order
+pub mod Keyed
 pub mod Stocks
-pub mod Keeping
 pub mod Opening
-pub mod Ranks
-pub mod Putting
-pub mod Arrivals
-pub mod Laddered
-pub mod Indexed
-pub mod Leaving
-pub mod Each
 pub mod Shown

@@ -1,15 +1,14 @@
 -- A book: for each listed stock the orders that rest, buys and sells apart.
-use Rattle.std.specs.Prelude.{ℕ, Bool, true, false, IsTrue, ◌&&◌, ◌≤◌, List, [], ◌++◌, Option, map, slice_get, if◌then◌else◌}
+use Rattle.std.specs.Prelude.{ℕ, Bool, true, false, IsTrue, ◌&&◌, List, [], ◌++◌, Option, map, slice_get, if◌then◌else◌}
 use Rattle.std.specs.Option.{option_map_or}
 use Rattle.std.specs.List.{find, flat_map, list_all}
 use Rattle.gx_units.specs.Names.{same_stock}
 use Rattle.gx_units.specs.declared.names.Symbol.{Symbol}
-use Rattle.gx_history.specs.Book.{is_buy}
 use Rattle.gx_history.specs.Lists.{are_distinct}
 use Rattle.gx_history.specs.declared.policy.Stock.{Stock}
 use Rattle.gx_history.specs.declared.policy.PolicyData.{PolicyData}
 use Rattle.gx_book.specs.declared.resting.Resting.{Resting}
-use Rattle.gx_book.specs.Queue.{is_numbered, is_same_number, is_sound_side, with_order}
+use Rattle.gx_book.specs.Queue.{is_in_order, is_numbered, with_order}
 
 -- the orders that rest in one stock, each side with the better price first
 pub record StockOrders : Type 0 where
@@ -41,17 +40,13 @@ resting_in book stock buy = option_map_or (side_of buy) (stock_in book stock) []
 abbrev pub best_in : List StockOrders → Symbol → Bool → Option Resting
 best_in book stock buy = slice_get (resting_in book stock buy) 0
 
--- the order has so many shares at least
-abbrev pub HasShares : ℕ → Resting → Type 0
-HasShares shares r = shares ≤ r.shares
-
 -- the book with one side of one stock changed, and all else as it was
 abbrev pub on_side : Symbol → Bool → (List Resting → List Resting) → List StockOrders → List StockOrders
 on_side stock buy change book = map (λ (s : StockOrders). if same_stock stock s.stock then with_side buy change s else s) book
 
--- the book with one more order, on its side
-abbrev pub with_rested : Resting → List StockOrders → List StockOrders
-with_rested r book = on_side r.stock (is_buy r.side) (with_order r) book
+-- the book with one more order on one side of a stock
+abbrev pub with_rested : Symbol → Bool → Resting → List StockOrders → List StockOrders
+with_rested stock buy r book = on_side stock buy (with_order buy r) book
 
 -- the book with each side changed
 abbrev pub on_each_side : (List Resting → List Resting) → List StockOrders → List StockOrders
@@ -77,11 +72,11 @@ without_orders s = record { stock = s.name; buys = []; sells = [] }
 abbrev pub empty_book : PolicyData → List StockOrders
 empty_book policy = map without_orders policy.stocks
 
--- both sides are in price-time order, with orders that belong there and have shares
+-- each side has the better price first
 abbrev pub is_sound_stock : StockOrders → Bool
-is_sound_stock s = is_sound_side s.stock true s.buys && is_sound_side s.stock false s.sells
+is_sound_stock s = is_in_order true s.buys && is_in_order false s.sells
 
--- each stock's sides are, and so is the book
+-- each stock's sides have
 abbrev pub is_sound_book : List StockOrders → Bool
 is_sound_book book = list_all is_sound_stock book
 
@@ -89,8 +84,7 @@ is_sound_book book = list_all is_sound_stock book
 abbrev pub is_same_stock : StockOrders → StockOrders → Bool
 is_same_stock a b = same_stock a.stock b.stock
 
--- what is always so: each side has the better price first, and orders that belong there; no stock and no number stands twice
+-- what is always so: each side has the better price first, and no stock stands twice
 pub record IsSound (book : List StockOrders) : Type 0 where
   pub sides_are_sound : IsTrue (is_sound_book book)
   pub stocks_differ : IsTrue (are_distinct is_same_stock book)
-  pub numbers_differ : IsTrue (are_distinct is_same_number (all_orders book))

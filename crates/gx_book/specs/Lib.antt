@@ -1,6 +1,5 @@
 pub mod Queue
 pub mod Books
+pub mod Keys
 pub mod Table
-pub mod Levels
-pub mod Index
 pub mod Laws

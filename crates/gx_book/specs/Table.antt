@@ -3,9 +3,7 @@ use Rattle.std.specs.Prelude.{Bool, List, map, if◌then◌else◌}
 use Rattle.gx_units.specs.declared.names.Symbol.{Symbol}
 use Rattle.gx_book.specs.declared.resting.Resting.{Resting}
 use Rattle.gx_book.specs.declared.sides.Sides.{Sides}
-use Rattle.gx_history.specs.Book.{is_buy}
 use Rattle.gx_book.specs.Books.{StockOrders}
-use Rattle.gx_book.specs.Queue.{with_order}
 
 -- one of two sides, true for buys
 abbrev pub side_in : Bool → Sides → List Resting
@@ -17,14 +15,6 @@ changed buy change s = record {
   buys = if buy then change s.buys else s.buys;
   sells = if buy then s.sells else change s.sells;
 }
-
--- the side of the order
-abbrev pub own_side : Resting → Sides → List Resting
-own_side r s = side_in (is_buy r.side) s
-
--- the sides with one more order, on its side
-abbrev pub with_own : Resting → Sides → Sides
-with_own r s = changed (is_buy r.side) (with_order r) s
 
 -- both sides changed
 abbrev pub both_changed : (List Resting → List Resting) → Sides → Sides

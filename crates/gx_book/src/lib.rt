@@ -3,8 +3,6 @@
 
 pub mod book;
 pub mod laws;
-mod level;
-mod place;
 pub mod resting;
 mod side;
 mod sides;

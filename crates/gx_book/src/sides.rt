@@ -1,13 +1,10 @@
 //! The two sides of a stock.
 
-ghost use Rattle.std.specs.Prelude.{◌≡◌, [], IsTrue, OnOk, OnErr, slice_get};
-ghost use Rattle.std.specs.List.{find};
-ghost use Rattle.gx_history.specs.Book.{is_buy};
-ghost use Rattle.gx_book.specs.Levels.{IsAtRank};
-ghost use Rattle.gx_book.specs.Queue.{TellsGone, are_on, is_numbered, no_orders, reduced, without_account};
-ghost use Rattle.gx_book.specs.Table.{both_changed, changed, own_side, side_in, with_own};
+ghost use Rattle.std.specs.Prelude.{◌≡◌, [], OnOk, OnErr, slice_get};
+ghost use Rattle.gx_book.specs.Queue.{IsLatest, is_among, no_orders, with_order, without_account, without_order};
+ghost use Rattle.gx_book.specs.Table.{both_changed, changed, side_in};
 
-use crate::resting::{Resting, is_buy};
+use crate::resting::Resting;
 use crate::side::Side;
 use gx_units::{AccountName, OutOfMemory};
 use std::alloc::Global;
@@ -15,8 +12,8 @@ use std::alloc::Global;
 /// The buys and the sells of a stock.
 #[derive(Drop)]
 pub(crate) struct Sides {
-    pub(crate) buys: Side,
-    pub(crate) sells: Side,
+    pub(crate) buys: Side<b'B'>,
+    pub(crate) sells: Side<b'S'>,
 }
 
 impl Sides {
@@ -42,42 +39,28 @@ impl Sides {
         }
     }
 
-    /// The order of this number, which stands on this side, in the level of this rank.
-    pub(crate) fn find(&self, buy: bool, rank: u32, number: u64) -> Option<Resting>
-        requires ranked { IsAtRank rank number (side_in buy self.now) }
-        ensures { result ≡ find (is_numbered number) (side_in buy self.now) }
-    {
-        if buy {
-            self.buys.find(rank, number)
-        } else {
-            self.sells.find(rank, number)
-        }
-    }
-
-    /// Puts the order on its side, behind all of equal or better price.
-    pub(crate) fn put(&mut self, added: Resting) -> Result<(), OutOfMemory>
-        requires one_side { IsTrue (are_on (is_buy added.side) (own_side added self.old)) }
-        ensures ok { OnOk result (self.new ≡ with_own added self.old) }
+    /// Puts the order on this side, behind all of equal or better price.
+    pub(crate) fn put(&mut self, buy: bool, added: Resting) -> Result<(), OutOfMemory>
+        requires { IsLatest added (side_in buy self.old) }
+        ensures ok { OnOk result (self.new ≡ changed buy (with_order buy added) self.old) }
         ensures err { OnErr result (self.new ≡ self.old) }
     {
-        if is_buy(added.side) {
+        if buy {
             self.buys.put(added)
         } else {
             self.sells.put(added)
         }
     }
 
-    /// Takes so many shares off the order, which stands on this side, in the level of this rank, and it out where none
-    /// are left; whether it has gone.
-    pub(crate) fn lower(&mut self, buy: bool, rank: u32, number: u64, shares: u32) -> bool
-        requires ranked { IsAtRank rank number (side_in buy self.old) }
-        ensures lowered { self.new ≡ changed buy (reduced number shares) self.old }
-        ensures gone { TellsGone result number shares (side_in buy self.old) }
+    /// Takes the order out of this side; whether it was there.
+    pub(crate) fn remove(&mut self, buy: bool, gone: &Resting) -> bool
+        ensures found { result ≡ is_among gone.now (side_in buy self.old) }
+        ensures removed { self.new ≡ changed buy (without_order gone.now) self.old }
     {
         if buy {
-            self.buys.lower(rank, number, shares)
+            self.buys.remove(gone)
         } else {
-            self.sells.lower(rank, number, shares)
+            self.sells.remove(gone)
         }
     }
 

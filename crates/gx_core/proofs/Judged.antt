@@ -1,5 +1,5 @@
 -- What the keepers answer is what the rules ask of the records.
-use Rattle.std.proofs.Common.{◌≡◌, ℕ, ◌+◌, ◌<◌, ◌^◌, max, pred, arith, length, drop, List, ◌∙◌, ap, refl, true}
+use Rattle.std.proofs.Common.{◌≡◌, ℕ, ◌+◌, ◌<◌, ◌^◌, max, pred, arith, length, drop, List, ◌∙◌, ap, refl, sym, true}
 use Rattle.std.proofs.lemmas.List.{length-take, length-drop}
 use Rattle.gx_history.specs.Lists.{slice}
 use Rattle.std.specs.Prelude.{false, Option, Some, None, is_some, option_map, option_and_then, Result, Ok, Err, IfOk}
@@ -16,19 +16,20 @@ use Rattle.gx_history.specs.declared.policy.User.{User}
 use Rattle.gx_history.specs.declared.record.RecordData.{RecordData}
 use Rattle.gx_history.specs.declared.record.Request.{Request}
 use Rattle.gx_history.specs.declared.report.Report.{Report}
-use Rattle.gx_history.specs.Asking.{has_power, live_named, named_order, takes_nothing}
-use Rattle.gx_history.specs.Executions.{executions}
+use Rattle.gx_history.specs.Asking.{has_power, live_named}
 use Rattle.gx_history.specs.InForce.{is_closed, is_killed, kill_in_force, line_of}
 use Rattle.gx_history.specs.Logins.{password_is}
 use Rattle.gx_history.specs.Orders.{is_token_used}
 use Rattle.gx_history.specs.People.{account_of, account_of_role, is_officer, is_reader, is_trader, role_in, user_in}
+use Rattle.gx_history.specs.Requests.{named_token}
 use Rattle.gx_history.specs.Streams.{copies, stream}
 use Rattle.gx_history.specs.Verdicts.{last_moment}
+use Rattle.gx_history.specs.LiveOrders.{kept}
 use Rattle.gx_day.specs.DayData.{DayData, kill_in, killed_in, line_in}
 use Rattle.gx_day.proofs.Answering.{ends_are_kept, kills_are_kept, lines_are_kept, moments_are_kept}
-use Rattle.gx_orders.specs.InForce.{cuts_nothing, named, order_named, orders_in_force}
-use Rattle.gx_orders.specs.LiveOrders.{OrdersData, is_used}
-use Rattle.gx_orders.proofs.Keeping.{named_fact_is, takes_nothing_is, used_is}
+use Rattle.gx_orders.specs.InForce.{orders_in_force}
+use Rattle.gx_orders.specs.LiveOrders.{OrdersData, is_used, order_under}
+use Rattle.gx_orders.proofs.Keeping.{named_is, used_is}
 use Rattle.gx_people.specs.Entitled.{has, holds, holds_in_role, power_of}
 use Rattle.gx_people.proofs.Keeping.{accounts_stay, officers_stay, passwords_stay, powers_stay, scopes_stay, users_stay}
 use Rattle.gx_streams.specs.Streams.{reports_in}
@@ -95,16 +96,12 @@ pub tokens_are_known : (policy : PolicyData) (history : List RecordData) (k : Ke
     → is_used k.orders.used user token ≡ is_token_used history user token
 tokens_are_known policy history k user token kept = ap (λ (orders : OrdersData). is_used orders.used user token) kept.in_force.orders ∙ used_is policy history user token
 
-pub orders_are_known : (policy : PolicyData) (history : List RecordData) (k : Keepers) → IsKept policy history k → k.orders.live ≡ (orders_in_force policy history).live
-orders_are_known policy history k kept = ap (λ (orders : OrdersData). orders.live) kept.in_force.orders
-
-pub named_are_known : (policy : PolicyData) (history : List RecordData) (user : UserName) (q : Request)
-    → option_map (named_order (executions policy history)) (live_named policy history user q) ≡ option_map named (order_named (orders_in_force policy history).live user q)
-named_are_known policy history user q = named_fact_is policy history user q
-
-pub cuts_are_known : (policy : PolicyData) (history : List RecordData) (user : UserName) (q : Request)
-    → option_map_or (takes_nothing history q) (live_named policy history user q) false ≡ option_map_or (cuts_nothing q) (order_named (orders_in_force policy history).live user q) false
-cuts_are_known policy history user q = takes_nothing_is policy history user q
+pub named_is_known : (policy : PolicyData) (history : List RecordData) (k : Keepers) (user : UserName) (q : Request) (token : Token) → IsKept policy history k → named_token q ≡ Some token
+    → order_under k.orders.live user token ≡ option_map (kept policy history) (live_named policy history user q)
+named_is_known policy history k user q token is names =
+    ap (λ (orders : OrdersData). order_under orders.live user token) is.in_force.orders
+    ∙ sym (ap (λ (found : Option Token). option_and_then (order_under (orders_in_force policy history).live user) found) names)
+    ∙ sym (named_is policy history user q)
 
 -- what users were told
 pub reports_are_known : (policy : PolicyData) (history : List RecordData) (k : Keepers) (user : UserName) → IsKept policy history k

@@ -19,7 +19,7 @@ use Rattle.gx_history_laws.proofs.Runs.{step_left}
 use Rattle.gx_keepers.specs.declared.keepers.Keepers.{Keepers}
 use Rattle.gx_keepers.specs.Keepers.{AreInForce, KeepPlaces, Takes}
 use Rattle.gx_keepers.specs.Matching.{TakesMatch}
-use Rattle.gx_orders.specs.declared.live_order.LiveOrder.{LiveOrder}
+use Rattle.gx_history.specs.declared.live_order.LiveOrder.{LiveOrder}
 use Rattle.gx_orders.specs.LiveOrders.{first_waiting}
 use Rattle.gx_places.specs.Places.{has_kept_places, is_kill_or_logout, most_record_places, record_places}
 use Rattle.gx_places.proofs.Asked.{kept_records_take_places, so_many_record_places_are_enough}

@@ -22,9 +22,9 @@ use Rattle.gx_effects.proofs.Orderly.{legal_is_orderly}
 use Rattle.gx_effects.proofs.Rests.{rest_takes_effect}
 use Rattle.gx_effects.proofs.Settling.{not_judged, settled_step}
 use Rattle.gx_book.specs.Books.{StockOrders}
-use Rattle.gx_market.proofs.Crossing.{matching_is_met, next_record_is_met}
+use Rattle.gx_market.proofs.Crossing.{matching_is_met}
 use Rattle.gx_market.specs.Meeting.{best_against, match_record, met, next_met}
-use Rattle.gx_orders.specs.declared.live_order.LiveOrder.{LiveOrder}
+use Rattle.gx_history.specs.declared.live_order.LiveOrder.{LiveOrder}
 use Rattle.gx_orders.specs.InForce.{orders_in_force}
 use Rattle.gx_orders.specs.LiveOrders.{OrdersData, first_waiting}
 use Rattle.gx_keepers.specs.declared.keepers.Keepers.{Keepers}
@@ -42,7 +42,7 @@ met_by_kept policy history k kept =
 -- where no order waits there is nothing to match
 pub nothing_is_met : (policy : PolicyData) (history : List RecordData) (k : Keepers) → IsKept policy history k → first_waiting k.orders.live ≡ None → matching policy history ≡ None
 nothing_is_met policy history k kept none =
-    sym (met_by_kept policy history k kept) ∙ ap (option_map (λ (o : LiveOrder). met o (best_against k.book o))) none
+    sym (met_by_kept policy history k kept) ∙ ap (option_map (λ (o : LiveOrder). met o (best_against k.book k.orders.live o))) none
 
 pub nothing_is_next : (policy : PolicyData) (history : List RecordData) (handed : ℕ) (k : Keepers) → IsKept policy history k → first_waiting k.orders.live ≡ None
     → next policy history (steps.Matching handed) ≡ None
@@ -51,16 +51,9 @@ nothing_is_next policy history handed k kept none = ap (option_map (match_record
 
 -- else it is the first that waits
 pub first_is_met : (policy : PolicyData) (history : List RecordData) (k : Keepers) (first : LiveOrder) → IsKept policy history k → first_waiting k.orders.live ≡ Some first
-    → matching policy history ≡ Some (met first (best_against k.book first))
+    → matching policy history ≡ Some (met first (best_against k.book k.orders.live first))
 first_is_met policy history k first kept waits =
-    sym (met_by_kept policy history k kept) ∙ ap (option_map (λ (o : LiveOrder). met o (best_against k.book o))) waits
-
--- and this is the record
-pub first_is_next : (policy : PolicyData) (history : List RecordData) (k : Keepers) (first : LiveOrder) (handed : ℕ) → IsKept policy history k → first_waiting k.orders.live ≡ Some first
-    → next policy history (steps.Matching handed) ≡ Some (match_record history handed (met first (best_against k.book first)))
-first_is_next policy history k first handed kept waits =
-    next_record_is_met policy history handed kept.legal
-    ∙ ap (option_map (match_record history handed)) (matching_is_met policy history kept.legal ∙ first_is_met policy history k first kept waits)
+    sym (met_by_kept policy history k kept) ∙ ap (option_map (λ (o : LiveOrder). met o (best_against k.book k.orders.live o))) waits
 
 -- the first that waits is the one that is kept
 pub first_is_known : (policy : PolicyData) (history : List RecordData) (k : Keepers) → IsKept policy history k

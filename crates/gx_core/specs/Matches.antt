@@ -9,7 +9,7 @@ use Rattle.gx_history.specs.Matched.{ExpiresOrder, FillsOrders, RestsOrder}
 use Rattle.gx_history.specs.Matching.{matching}
 use Rattle.gx_history.specs.Settling.{AddsMatches, most_matches, settled}
 use Rattle.gx_history.specs.Verdicts.{next}
-use Rattle.gx_orders.specs.declared.live_order.LiveOrder.{LiveOrder}
+use Rattle.gx_history.specs.declared.live_order.LiveOrder.{LiveOrder}
 use Rattle.gx_orders.specs.InForce.{orders_in_force}
 use Rattle.gx_orders.specs.LiveOrders.{first_waiting}
 use Rattle.gx_core.specs.declared.outcome.Outcome.{Outcome}

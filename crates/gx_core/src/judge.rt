@@ -6,10 +6,9 @@ ghost use Rattle.gx_history.specs.Asking.{changes, facts, fits_role, has_power, 
 ghost use Rattle.gx_history.specs.People.{account_named, account_of, role_in};
 ghost use Rattle.gx_history.specs.Showing.{answers, is_askable, is_showable};
 ghost use Rattle.gx_history.specs.Verdicts.{moment_of, next, verdict};
-ghost use Rattle.gx_orders.specs.InForce.{cuts_nothing, named};
 ghost use Rattle.gx_people.specs.Entitled.{holds_in_role};
 ghost use Rattle.gx_core.specs.Gates.{left_by};
-ghost use Rattle.gx_core.specs.Known.{accounts_held, change_asked, cuts_none, has_used, is_available_after, named_asked, names_known, order_asked, power_held, role_asking};
+ghost use Rattle.gx_core.specs.Known.{accounts_held, change_asked, has_used, is_available_after, names_known, order_asked, power_held, role_asking};
 ghost use Rattle.gx_core.specs.Steps.{next_of, verdict_of};
 ghost use Rattle.gx_core.specs.Told.{stream_of};
 
@@ -17,10 +16,10 @@ use crate::gate::Gate;
 use crate::outcome::Outcome;
 use gx_decide::decide;
 use gx_desk::Action;
-use gx_history::facts::{Facts, NamedOrder};
+use gx_history::facts::Facts;
+use gx_history::live_order::LiveOrder;
 use gx_history::record::{Asked, Request, Verdict};
 use gx_keepers::listed::{account_named, fits_firm, lists_its_stock};
-use gx_orders::live_order::LiveOrder;
 use gx_orders::request_tokens::{named_token, new_token};
 use gx_people::power::Power;
 use gx_units::{AccountName, Moment, UserName};
@@ -29,37 +28,6 @@ fn is_on_line(on: Option<u16>, line: u16) -> bool
     ensures { result ≡ is_on_line on line }
 {
     on == Some(line)
-}
-
-/// What the rules ask of a live order.
-fn named_order(order: &LiveOrder) -> NamedOrder
-    ensures { result ≡ named order.now }
-{
-    NamedOrder {
-        order: order.number,
-        side: order.terms.side,
-        stock: order.terms.stock,
-        price: order.terms.price,
-        open_shares: order.open(),
-        done: u64::from(order.done),
-    }
-}
-
-/// Whether the request is a Cancel that asks for no less than the order's size.
-fn cuts_nothing(request: &Request, order: &LiveOrder) -> bool
-    ensures { result ≡ cuts_nothing request.now order.now }
-{
-    match request {
-        Request::Cancel(m) => order.total <= m.shares,
-        _ => false,
-    }
-}
-
-/// What the rules ask of the order that a request names.
-#[derive(Clone, Copy)]
-struct NamedFacts {
-    named: Option<NamedOrder>,
-    cancel_takes_nothing: bool,
 }
 
 impl Gate {
@@ -119,29 +87,11 @@ impl Gate {
     }
 
     /// The live order that a Replace or a Cancel names.
-    #[tactic(auto, using(crate::proofs::Judged::orders_are_known))]
+    #[tactic(auto, using(crate::proofs::Judged::named_is_known))]
     fn order_named(&self, a: &Asked) -> Option<LiveOrder>
         ensures { result ≡ order_asked self.now a.now }
     {
         self.keepers.orders.under(a.user, named_token(&a.request)?)
-    }
-
-    /// What the rules ask of the order that a Replace or a Cancel names.
-    #[tactic(auto, using(crate::proofs::Judged::named_are_known, crate::proofs::Judged::cuts_are_known))]
-    fn named_facts(&self, a: &Asked) -> NamedFacts
-        ensures named { result.named ≡ named_asked self.now a.now }
-        ensures takes_nothing { result.cancel_takes_nothing ≡ cuts_none self.now a.now }
-    {
-        match self.order_named(a) {
-            Some(order) => NamedFacts {
-                named: Some(named_order(&order)),
-                cancel_takes_nothing: cuts_nothing(&a.request, &order),
-            },
-            None => NamedFacts {
-                named: None,
-                cancel_takes_nothing: false,
-            },
-        }
     }
 
     /// What the rules ask of the records, for a request at this moment.
@@ -151,7 +101,6 @@ impl Gate {
     {
         let account = self.account_of(a.user);
         let on = self.on(a.user);
-        let order = self.named_facts(a);
         let command = self.command_facts(a);
         Facts {
             may_log_in: self.knows_who_asks(a),
@@ -160,8 +109,7 @@ impl Gate {
             is_on_this_line: is_on_line(on, a.line),
             role_fits: self.fits_role(a, account),
             token_is_used: self.token_is_used(a),
-            named: order.named,
-            cancel_takes_nothing: order.cancel_takes_nothing,
+            named: self.order_named(a),
             day_is_closed: self.is_closed(),
             account_is_killed: account.is_some_and(|name| self.is_killed(name)),
             firm_fits: fits_firm(&self.policy, account, &a.request),

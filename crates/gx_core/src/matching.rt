@@ -7,9 +7,9 @@ ghost use Rattle.gx_core.specs.Matches.{first_of, matching_of, next_match};
 
 use crate::gate::Gate;
 use crate::outcome::Outcome;
+use gx_history::live_order::LiveOrder;
 use gx_history::record::{RecordData, Step};
 use gx_market::meeting::{best_against, met};
-use gx_orders::live_order::LiveOrder;
 use gx_units::Moment;
 
 /// The record of a matching step with this outcome.
@@ -44,7 +44,10 @@ impl Gate {
         Outcome {
             number: self.length() + 1,
             moment: handed.max(self.last_moment()),
-            verdict: met(first, best_against(&self.keepers.book, first)),
+            verdict: met(
+                first,
+                best_against(&self.keepers.book, &self.keepers.orders, first),
+            ),
         }
     }
 }

@@ -1,13 +1,13 @@
 -- The verdict that was decided is that of the day.
-use Rattle.std.proofs.Common.{◌≡◌, ℕ, true, List, [], ◌∷◌, refl, ◌∙◌, ap, map, subst, sym}
-use Rattle.std.specs.Prelude.{Bool, Option, Some, None, is_some, option_and_then, option_map, ◌&&◌}
+use Rattle.std.proofs.Common.{◌≡◌, ℕ, true, List, refl, ◌∙◌, ap, map, subst, sym}
+use Rattle.std.specs.Prelude.{Option, Some, None, is_some, option_and_then, option_map, ◌&&◌}
 use Rattle.std.specs.Option.{option_map_or}
 use Rattle.gx_units.specs.Names.{same_token, same_user}
 use Rattle.gx_units.specs.declared.names.AccountName.{AccountName}
 use Rattle.gx_units.specs.declared.names.Token.{Token}
 use Rattle.gx_desk.specs.declared.Action.{Action}
 use Rattle.gx_history.specs.declared.facts.Facts.{Facts}
-use Rattle.gx_history.specs.declared.facts.NamedOrder.{NamedOrder}
+use Rattle.gx_history.specs.declared.live_order.LiveOrder.{LiveOrder}
 use Rattle.gx_history.specs.declared.facts.RuleFigures.{RuleFigures}
 use Rattle.gx_history.specs.declared.policy.FileRule.{FileRule}
 use Rattle.gx_history.specs.declared.policy.PolicyData.{PolicyData}
@@ -15,24 +15,25 @@ use Rattle.gx_history.specs.declared.policy.User.{User}
 use Rattle.gx_history.specs.declared.record.Asked.{Asked}
 use Rattle.gx_history.specs.declared.record.RecordData.{RecordData}
 use Rattle.gx_history.specs.declared.record.Request.{Request}
-use Rattle.gx_history.specs.Asking.{facts, has_power, live_named, named_order, of_command}
-use Rattle.gx_history.specs.Executions.{Standing, executions, live_orders, standing_numbered, standing_under}
+use Rattle.gx_history.specs.Asking.{facts, live_named, of_command}
+use Rattle.gx_history.specs.Executions.{Standing, live_orders, standing_under}
 use Rattle.gx_history.specs.Figures.{Positions, figures, no_figures, positions}
 use Rattle.gx_history.specs.InForce.{rules_in_force}
-use Rattle.gx_history.specs.People.{account_named, account_of, role_in}
+use Rattle.gx_history.specs.People.{account_named, account_of}
 use Rattle.gx_history.specs.Requests.{named_token}
 use Rattle.gx_history.specs.Rules.{first_forbidding}
 use Rattle.gx_history.specs.Soundness.{is_sound}
 use Rattle.gx_history.specs.Verdicts.{facts_now, figures_asked, verdict, verdict_by, with_figures, IsLegal}
+use Rattle.gx_history.specs.LiveOrders.{kept}
 use Rattle.gx_history_laws.proofs.FiguresKept.{figures_kept}
 use Rattle.gx_history_laws.proofs.Owners.{last_such_is}
-use Rattle.gx_effects.proofs.FairFills.{live_are_found}
-use Rattle.gx_people.specs.Entitled.{has, people_in_force, power_of}
+use Rattle.gx_people.specs.Entitled.{people_in_force}
 use Rattle.gx_people.proofs.Keeping.{powers_stay}
 use Rattle.gx_positions.specs.Changing.{live_positions}
 use Rattle.gx_positions.proofs.SameFigures.{figures_are_of_live}
 use Rattle.gx_positions.proofs.Sound.{positions_are_sound}
-use Rattle.gx_ledger.specs.StandsFor.{IsNamedIfAny}
+use Rattle.gx_ledger.proofs.Held.{all_held}
+use Rattle.gx_ledger.specs.StandsFor.{IsHeld, IsHeldIfAny}
 use Rattle.gx_decide.specs.Deciding.{AskForTheSame, knows_asker, with_powers}
 use Rattle.gx_decide.specs.Verdicts.{DecidesTheVerdict}
 use Rattle.gx_effects.proofs.Accounts.{accounts_are_known}
@@ -60,26 +61,20 @@ powers_are policy history a =
 -- the order that is named is a live one
 is_named : (policy : PolicyData) (history : List RecordData) (a : Asked) (token : Option Token) (found : Option Standing) → IsLegal policy history
     → option_and_then (standing_under (live_orders policy history) a.user) token ≡ found
-    → IsNamedIfAny (live_positions policy history) (option_map (named_order (executions policy history)) found)
+    → IsHeldIfAny (live_positions policy history) (option_map (kept policy history) found)
 is_named policy history a token None legal e = tt
 is_named policy history a None (Some s) legal e = cc
-is_named policy history a (Some token) (Some s) legal e = record {
-  standing = s;
-  is_found = last_such_is (λ (x : Standing). standing_numbered (live_orders policy history) x.order.number ≡ Some x)
-      (λ (x : Standing). same_user x.order.user a.user && same_token x.order.token token) (live_orders policy history) s (live_are_found policy history legal) e;
-  side = refl;
-  stock = refl;
-  price = refl;
-  open_shares = refl;
-}
+is_named policy history a (Some token) (Some s) legal e =
+    last_such_is (λ (x : Standing). IsHeld (live_positions policy history) (kept policy history x))
+    (λ (x : Standing). same_user x.order.user a.user && same_token x.order.token token) (live_orders policy history) s (all_held policy history legal) e
 
-named_fact : (policy : PolicyData) (history : List RecordData) (a : Asked) → IsLegal policy history → IsNamedIfAny (live_positions policy history) (facts_now policy history a).named
+named_fact : (policy : PolicyData) (history : List RecordData) (a : Asked) → IsLegal policy history → IsHeldIfAny (live_positions policy history) (facts_now policy history a).named
 unfolding facts
 named_fact policy history a legal = is_named policy history a (named_token a.request) (live_named policy history a.user a.request) legal refl
 
 -- its number is that of the live order
 number_of_named : (policy : PolicyData) (history : List RecordData) (found : Option Standing)
-    → option_map (λ (o : NamedOrder). o.order) (option_map (named_order (executions policy history)) found) ≡ option_map (λ (s : Standing). s.order.number) found
+    → option_map (λ (o : LiveOrder). o.number) (option_map (kept policy history) found) ≡ option_map (λ (s : Standing). s.order.number) found
 number_of_named policy history None = refl
 number_of_named policy history (Some s) = refl
 
@@ -90,8 +85,8 @@ unfolding facts
 of_live policy history a rule legal = at (account_of policy a.user)
   where
     at : (found : Option AccountName)
-        → option_map_or (λ (account : AccountName). figures policy (positions policy history) account a.request (option_map (λ (o : NamedOrder). o.order) (facts_now policy history a).named) (facts_now policy history a).moment rule) found no_figures
-        ≡ option_map_or (λ (account : AccountName). figures policy (live_positions policy history) account a.request (option_map (λ (o : NamedOrder). o.order) (facts_now policy history a).named) (facts_now policy history a).moment rule) found no_figures
+        → option_map_or (λ (account : AccountName). figures policy (positions policy history) account a.request (option_map (λ (o : LiveOrder). o.number) (facts_now policy history a).named) (facts_now policy history a).moment rule) found no_figures
+        ≡ option_map_or (λ (account : AccountName). figures policy (live_positions policy history) account a.request (option_map (λ (o : LiveOrder). o.number) (facts_now policy history a).named) (facts_now policy history a).moment rule) found no_figures
     at None = refl
     at (Some account) =
         let number = number_of_named policy history (live_named policy history a.user a.request) in
@@ -112,7 +107,7 @@ decided_is_the_verdict policy history people rules ledger given a result sound l
     λ (asker : AccountName) (q : Request) (replaced : Option ℕ) (moment : ℕ). ap (map (figures policy held asker q replaced moment)) rules_are ∙ figures_kept policy history held asker q replaced moment in
     let same : with_powers people a given ≡ now =
     ap (λ (us : List User). with_powers us a given) people_are ∙ ap (with_powers (people_in_force policy history) a) given_is ∙ powers_are policy history a in
-    decides policy held stands (positions_are_sound policy history legal) alike known (subst (λ (f : Facts). IsNamedIfAny held f.named) (sym given_is) (named_fact policy history a legal))
+    decides policy held stands (positions_are_sound policy history legal) alike known (subst (λ (f : Facts). IsHeldIfAny held f.named) (sym given_is) (named_fact policy history a legal))
     ∙ ap (λ (rs : List FileRule). verdict_by (first_forbidding (with_figures (figures_asked policy held a.request (with_powers people a given)) rs) (with_powers people a given) a.request)) rules_are
     ∙ ap (λ (f : Facts). verdict_by (first_forbidding (with_figures (figures_asked policy held a.request f) (rules_in_force policy history)) f a.request)) same
     ∙ ap (λ (rs : List (FileRule × RuleFigures)). verdict_by (first_forbidding rs now a.request))

@@ -18,7 +18,7 @@ use Rattle.gx_history.specs.Verdicts.{figures_asked, verdict_by, with_figures}
 use Rattle.gx_people.specs.Entitled.{has, power_of}
 use Rattle.gx_positions.specs.Sound.{AreSound}
 use Rattle.gx_ledger.specs.Keeping.{Kept}
-use Rattle.gx_ledger.specs.StandsFor.{IsNamedIfAny, StandsFor}
+use Rattle.gx_ledger.specs.StandsFor.{IsHeldIfAny, StandsFor}
 
 -- the facts, with what these people say of the asker's power
 abbrev pub with_powers : List User → Asked → Facts → Facts
@@ -37,6 +37,6 @@ knows_asker policy given = option_map_or (λ (account : AccountName). is_some (a
 -- ledger stands for, whichever these are.
 abbrev pub Decides : List User → List FileRule → Kept → Facts → Asked → Verdict → Type 0
 Decides people rules ledger given a result = (policy : PolicyData) (held : Positions)
-    → StandsFor policy ledger held → AreSound policy held → AskForTheSame policy held rules → IsTrue (knows_asker policy given) → IsNamedIfAny held given.named
+    → StandsFor policy ledger held → AreSound policy held → AskForTheSame policy held rules → IsTrue (knows_asker policy given) → IsHeldIfAny held given.named
     → let facts = with_powers people a given in
     result ≡ verdict_by (first_forbidding (with_figures (figures_asked policy held a.request facts) rules) facts a.request)

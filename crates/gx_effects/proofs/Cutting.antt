@@ -1,7 +1,6 @@
 -- A granted Cancel takes effect: its order has fewer shares open, in its place, and no other changes.
 use Rattle.std.proofs.Common.{◌≡◌, ℕ, ◌+◌, ◌-◌, ◌<◌, Bool, true, false, not, List, [], ◌∷◌, ◌++◌, refl, ◌∙◌, ap, sym, map, cond, length, arith}
-use Rattle.std.specs.Prelude.{Option, Some, ◌&&◌, ◌||◌, ◌==◌, nat_lt, nat_le, drop, unwrap_or, option_to_list, flat_map}
-use Rattle.std.specs.Option.{option_map_or}
+use Rattle.std.specs.Prelude.{option_map, Option, Some, ◌||◌, ◌==◌, nat_lt, drop, unwrap_or, option_to_list, flat_map}
 use Rattle.std.specs.List.{list_any, filter, AllByRecursion}
 use Rattle.std.proofs.lemmas.Bool.{lt-ltb, leb-false, eq-eqb}
 use Rattle.std.proofs.lemmas.List.{append-nil}
@@ -12,21 +11,20 @@ use Rattle.gx_ouch.specs.declared.letters.CancelReason.TheVariants as cancels
 use Rattle.gx_history.specs.declared.policy.PolicyData.{PolicyData}
 use Rattle.gx_history.specs.declared.record.Asked.{Asked}
 use Rattle.gx_history.specs.declared.record.RecordData.{RecordData}
-use Rattle.gx_history.specs.declared.record.Request.{Request}
 use Rattle.gx_history.specs.declared.record.Request.TheVariants as requests
 use Rattle.gx_history.specs.declared.record.RuleName.{RuleName}
 use Rattle.gx_history.specs.declared.record.RuleName.TheVariants.{L1, L2, L3, G1, G2, G3, I1, I2, I3}
 use Rattle.gx_history.specs.declared.record.Step.TheVariants as steps
 use Rattle.gx_history.specs.declared.record.Verdict.TheVariants as verdicts
-use Rattle.gx_history.specs.Asking.{facts, live_named, takes_nothing}
 use Rattle.gx_history.specs.Book.{incoming, resting, rested, has_rested}
 use Rattle.gx_history.specs.Effects.{CutsOrder, resized, with_left}
 use Rattle.gx_history.specs.Executions.{Standing, standing, standings, standing_under, executions, done, sides, open_shares, is_live, live_orders}
 use Rattle.gx_history.specs.Lists.{where_true}
 use Rattle.gx_history.specs.Orders.{Order, orders, total, is_dead, size_set}
-use Rattle.gx_history.specs.Requests.{is_cancel}
+use Rattle.gx_history.specs.LiveOrders.{kept}
+use Rattle.gx_history.specs.declared.live_order.LiveOrder.{LiveOrder}
 use Rattle.gx_history.specs.RuleNames.{rules_before}
-use Rattle.gx_history.specs.Rules.{forbids}
+use Rattle.gx_history.specs.Rules.{forbids, takes_nothing}
 use Rattle.gx_history.specs.Streams.{stream, canceled, decrease, reported, to_user}
 use Rattle.gx_history.specs.Verdicts.{next, facts_now, IsLegal}
 use Rattle.gx_history_laws.proofs.Granting.{granted_passes_before}
@@ -34,7 +32,7 @@ use Rattle.gx_history_laws.proofs.NextOrders.{orders_next, standing_after, open_
 use Rattle.gx_history_laws.proofs.Numbers.{all_weaker, number_left}
 use Rattle.gx_history_laws.proofs.Order.{none_among}
 use Rattle.gx_effects.proofs.Among.{of_all}
-use Rattle.gx_effects.proofs.NamedOrders.{Names, names_live, IsOpen, live_is_open, all_stay_ended, maps_through, IsEarlier, all_earlier}
+use Rattle.gx_effects.proofs.NamedOrders.{Names, named_is, names_live, IsOpen, live_is_open, all_stay_ended, maps_through, IsEarlier, all_earlier}
 use Rattle.gx_effects.proofs.Naming.{IsToldApart, FindsOne, finds_one, is_under_swapped}
 use Rattle.gx_effects.proofs.NotLive.{all_and}
 use Rattle.gx_effects.proofs.OrderRequests.{Grants, it_grants, size_by, ends_by, adds_by, fills_none, executions_kept, rested_kept, IsForOrders, in_force_kept, told_by}
@@ -48,20 +46,15 @@ takes_something policy history a r e granted =
     none_among (λ (name : RuleName). forbids name (facts_now policy history a) a.request) (L1 ∷ L2 ∷ L3 ∷ G1 ∷ G2 ∷ G3 ∷ I1 ∷ I2 ∷ []) I3 (drop 9 rules_before)
     (granted_passes_before policy history a r e granted)
 
-what_it_takes : (policy : PolicyData) (history : List RecordData) (a : Asked) (m : CancelOrder) (s : Standing) → a.request ≡ requests.Cancel m
-    → standing_under (live_orders policy history) a.user m.token ≡ Some s → (facts_now policy history a).cancel_takes_nothing ≡ nat_le (total history s.order) m.shares
-unfolding facts
-what_it_takes policy history a m s asks found =
-    ap (λ (q : Request). option_map_or (takes_nothing history q) (live_named policy history a.user q) false) asks
-    ∙ ap (λ (x : Option Standing). option_map_or (takes_nothing history (requests.Cancel m)) x false) found
-
 asks_for_less : (policy : PolicyData) (history : List RecordData) (a : Asked) (r : RecordData) (m : CancelOrder) (s : Standing)
     → next policy history (steps.Asked a) ≡ Some r → r.verdict ≡ verdicts.Granted → a.request ≡ requests.Cancel m
     → standing_under (live_orders policy history) a.user m.token ≡ Some s → m.shares < total history s.order
 asks_for_less policy history a r m s left granted asks found =
     leb-false (total history s.order) m.shares
-    (sym (what_it_takes policy history a m s asks found)
-    ∙ sym (ap (λ (q : Request). is_cancel q && (facts_now policy history a).cancel_takes_nothing) asks)
+    (sym
+    (ap (forbids I3 (facts_now policy history a)) asks
+    ∙ ap (λ (o : Option LiveOrder). takes_nothing o (requests.Cancel m))
+    (named_is policy history a (requests.Cancel m) m.token asks refl ∙ ap (option_map (kept policy history)) found))
     ∙ takes_something policy history a r left granted)
 
 -- the size that it sets

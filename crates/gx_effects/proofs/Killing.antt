@@ -1,6 +1,6 @@
 -- A granted Kill takes effect: the account's orders are live no more, and the others keep their places.
 use Rattle.std.proofs.Common.{◌≡◌, ℕ, ◌+◌, ◌<◌, Bool, true, false, not, List, [], ◌∷◌, ◌++◌, refl, ◌∙◌, ap, sym, map, cond, length}
-use Rattle.std.specs.Prelude.{Some, ◌&&◌, nat_lt, Option, None}
+use Rattle.std.specs.Prelude.{Some, ◌&&◌, nat_lt, None}
 use Rattle.std.specs.List.{filter, filter_map, AllByRecursion}
 use Rattle.gx_units.specs.Names.{same_account, same_stock}
 use Rattle.gx_units.specs.declared.names.AccountName.{AccountName}

@@ -11,11 +11,12 @@ use Rattle.gx_history.specs.declared.record.RecordData.{RecordData}
 use Rattle.gx_history.specs.declared.record.Request.{Request}
 use Rattle.gx_history.specs.declared.record.Step.TheVariants as steps
 use Rattle.gx_history.specs.declared.record.Verdict.TheVariants as verdicts
-use Rattle.gx_history.specs.Asking.{facts, live_named, named_order}
+use Rattle.gx_history.specs.Asking.{facts, live_named}
 use Rattle.gx_history.specs.Executions.{Standing, standing, standings, standing_under, executions, done, open_shares, is_live, live_orders}
 use Rattle.gx_history.specs.Orders.{Order, orders, total, is_dead}
 use Rattle.gx_history.specs.Requests.{named_token, names_order}
 use Rattle.gx_history.specs.Verdicts.{next, facts_now, IsLegal}
+use Rattle.gx_history.specs.LiveOrders.{kept}
 use Rattle.gx_history_laws.proofs.Adding.{name_is_no_bar, not_none}
 use Rattle.gx_history_laws.proofs.Ends.{sooner}
 use Rattle.gx_history_laws.proofs.Numbers.{all_weaker, numbers_are_within}
@@ -32,11 +33,11 @@ all_earlier policy history r legal place = sooner (length history) r.number plac
 
 -- the fact on the order that a request names
 pub named_is : (policy : PolicyData) (history : List RecordData) (a : Asked) (q : Request) (token : Token) → a.request ≡ q → named_token q ≡ Some token
-    → (facts_now policy history a).named ≡ option_map (named_order (executions policy history)) (standing_under (live_orders policy history) a.user token)
+    → (facts_now policy history a).named ≡ option_map (kept policy history) (standing_under (live_orders policy history) a.user token)
 unfolding facts
 named_is policy history a q token asks names =
-    ap (λ (x : Request). option_map (named_order (executions policy history)) (live_named policy history a.user x)) asks
-    ∙ ap (λ (t : Option Token). option_map (named_order (executions policy history)) (option_and_then (standing_under (live_orders policy history) a.user) t)) names
+    ap (λ (x : Request). option_map (kept policy history) (live_named policy history a.user x)) asks
+    ∙ ap (λ (t : Option Token). option_map (kept policy history) (option_and_then (standing_under (live_orders policy history) a.user) t)) names
 
 abbrev pub Names : PolicyData → List RecordData → UserName → Token → Type 0
 Names policy history user token = (s : Standing) × (standing_under (live_orders policy history) user token ≡ Some s)
@@ -46,7 +47,7 @@ pub names_live : (policy : PolicyData) (history : List RecordData) (a : Asked) (
     → next policy history (steps.Asked a) ≡ Some r → r.verdict ≡ verdicts.Granted → a.request ≡ q → names_order q ≡ true → named_token q ≡ Some token → Names policy history a.user token
 names_live policy history a r q token left granted asks named under =
     at (standing_under (live_orders policy history) a.user token) refl
-    (not_none (named_order (executions policy history)) (standing_under (live_orders policy history) a.user token)
+    (not_none (kept policy history) (standing_under (live_orders policy history) a.user token)
     (sym (ap is_none (named_is policy history a q token asks under))
     ∙ sym (ap (λ (b : Bool). b && is_none (facts_now policy history a).named) (ap names_order asks ∙ named))
     ∙ name_is_no_bar policy history a r left granted))

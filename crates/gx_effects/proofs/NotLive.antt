@@ -18,7 +18,7 @@ use Rattle.gx_history.specs.declared.record.Step.{Step}
 use Rattle.gx_history.specs.declared.record.Step.TheVariants as steps
 use Rattle.gx_history.specs.declared.record.Verdict.{Verdict}
 use Rattle.gx_history.specs.declared.record.Verdict.TheVariants as verdicts
-use Rattle.gx_history.specs.Asking.{facts, live_named, named_order}
+use Rattle.gx_history.specs.Asking.{facts, live_named}
 use Rattle.gx_history.specs.Executions.{Standing, standing, standings, standing_under, executions, done, sides, open_shares, is_live, live_orders}
 use Rattle.gx_history.specs.InForce.{is_killed, kill_after, kill_in_force, kill_or_lift_of}
 use Rattle.gx_history.specs.Lists.{where_true}
@@ -28,6 +28,7 @@ use Rattle.gx_history.specs.Requests.{granted, granted_action, granted_mark, act
 use Rattle.gx_history.specs.Rules.{forbids}
 use Rattle.gx_history.specs.declared.record.RuleName.TheVariants.{I2}
 use Rattle.gx_history.specs.Verdicts.{next, facts_now, Follows, IsLegal}
+use Rattle.gx_history.specs.LiveOrders.{kept}
 use Rattle.gx_history_laws.proofs.Adding.{AddsNone, AddsOne, what_is_added, granted_is, user_is, found_passes, all_pass, name_is_no_bar, not_none}
 use Rattle.gx_history_laws.proofs.Ends.{ended, nothing_open}
 use Rattle.gx_history_laws.proofs.Granting.{legal_keeps}
@@ -70,16 +71,16 @@ granted_parts r a h = by_verdict r.verdict refl
     by_verdict (verdicts.Expired n) e = let no : None ≡ Some a = asked_in (verdicts.Expired n) e in cc
 
 named_by_cancel : (policy : PolicyData) (history : List RecordData) (a : Asked) (m : CancelOrder) → a.request ≡ requests.Cancel m
-    → (facts_now policy history a).named ≡ option_map (named_order (executions policy history)) (standing_under (live_orders policy history) a.user m.token)
+    → (facts_now policy history a).named ≡ option_map (kept policy history) (standing_under (live_orders policy history) a.user m.token)
 unfolding facts
-named_by_cancel policy history a m e = ap (λ (q : Request). option_map (named_order (executions policy history)) (live_named policy history a.user q)) e
+named_by_cancel policy history a m e = ap (λ (q : Request). option_map (kept policy history) (live_named policy history a.user q)) e
 
 -- a granted Cancel names a live order
 pub canceled_is_live : (policy : PolicyData) (history : List RecordData) (a : Asked) (r : RecordData) (m : CancelOrder)
     → next policy history (steps.Asked a) ≡ Some r → r.verdict ≡ verdicts.Granted → a.request ≡ requests.Cancel m
     → is_none (standing_under (live_orders policy history) a.user m.token) ≡ false
 canceled_is_live policy history a r m e granted asks =
-    not_none (named_order (executions policy history)) (standing_under (live_orders policy history) a.user m.token)
+    not_none (kept policy history) (standing_under (live_orders policy history) a.user m.token)
     (sym (ap is_none (named_by_cancel policy history a m asks)) ∙ sym (ap (forbids I2 (facts_now policy history a)) asks) ∙ name_is_no_bar policy history a r e granted)
 
 first : (b c : Bool) → (b && c) ≡ true → b ≡ true

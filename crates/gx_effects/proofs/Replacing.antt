@@ -10,7 +10,7 @@ use Rattle.gx_units.specs.declared.names.Symbol.{Symbol}
 use Rattle.gx_units.specs.declared.names.UserName.{UserName}
 use Rattle.gx_ouch.specs.declared.inbound.ReplaceOrder.{ReplaceOrder}
 use Rattle.gx_history.specs.declared.policy.PolicyData.{PolicyData}
-use Rattle.gx_history.specs.declared.facts.NamedOrder.{NamedOrder}
+use Rattle.gx_history.specs.declared.live_order.LiveOrder.{LiveOrder}
 use Rattle.gx_history.specs.declared.record.Asked.{Asked}
 use Rattle.gx_history.specs.declared.record.RecordData.{RecordData}
 use Rattle.gx_history.specs.declared.record.Request.TheVariants as requests
@@ -19,7 +19,6 @@ use Rattle.gx_history.specs.declared.record.RuleName.TheVariants.{L1, L2, L3, G1
 use Rattle.gx_history.specs.declared.record.Step.TheVariants as steps
 use Rattle.gx_history.specs.declared.record.Verdict.TheVariants as verdicts
 use Rattle.gx_history.specs.declared.facts.ProposedOrder.{ProposedOrder}
-use Rattle.gx_history.specs.Asking.{named_order}
 use Rattle.gx_history.specs.Book.{incoming, resting, rested, has_rested, by_price}
 use Rattle.gx_history.specs.Effects.{ReplacesOrder, replacement, resized, without}
 use Rattle.gx_history.specs.Executions.{Execution, Standing, standing, standings, standing_under, executions, executed, done, sides, open_shares, is_live, live_orders}
@@ -28,6 +27,7 @@ use Rattle.gx_history.specs.RuleNames.{rules_before}
 use Rattle.gx_history.specs.Rules.{forbids}
 use Rattle.gx_history.specs.Streams.{stream, replaced, reported, to_user}
 use Rattle.gx_history.specs.Verdicts.{next, facts_now, IsLegal}
+use Rattle.gx_history.specs.LiveOrders.{kept}
 use Rattle.gx_history_laws.proofs.Granting.{granted_passes_before}
 use Rattle.gx_history_laws.proofs.Legality.{done_of_replacement}
 use Rattle.gx_history_laws.proofs.NextOrders.{orders_next, standing_after, open_shares_next, is_dead_next, done_none, rests}
@@ -53,10 +53,10 @@ asks_for_some policy history a r e granted =
     (granted_passes_before policy history a r e granted)
 
 -- the order that a Replace proposes
-abbrev proposed_by : ReplaceOrder → NamedOrder → ProposedOrder
+abbrev proposed_by : ReplaceOrder → LiveOrder → ProposedOrder
 proposed_by m o = record {
-  side = o.side;
-  stock = o.stock;
+  side = o.terms.side;
+  stock = o.terms.stock;
   shares = m.shares;
   price = m.price;
   time_in_force = m.time_in_force;
@@ -77,8 +77,8 @@ more_than_done policy history a r m s left granted asks found =
     leb-false m.shares (done (executions policy history) s.order)
     (sym
     (ap (forbids P12 (facts_now policy history a)) asks
-    ∙ ap (λ (o : Option NamedOrder). option_map_or is_too_small (option_map (proposed_by m) o) false)
-    (named_is policy history a (requests.Replace m) m.existing_token asks refl ∙ ap (option_map (named_order (executions policy history))) found))
+    ∙ ap (λ (o : Option LiveOrder). option_map_or is_too_small (option_map (proposed_by m) o) false)
+    (named_is policy history a (requests.Replace m) m.existing_token asks refl ∙ ap (option_map (kept policy history)) found))
     ∙ asks_for_some policy history a r left granted)
 
 abbrev stands : Order → ℕ → Standing

@@ -1,5 +1,5 @@
 -- How a kill ends: by the last of as many different officers as the policy asks for, each entitled to lift the account.
-use Rattle.std.specs.Prelude.{◌≡◌, ◌+◌, ℕ, Bool, false, ◌&&◌, IsTrue, IsFalse, List, Option, Some, length}
+use Rattle.std.specs.Prelude.{◌≡◌, ◌+◌, Bool, false, ◌&&◌, IsTrue, IsFalse, List, Option, Some, length}
 use Rattle.std.specs.List.{AllByRecursion}
 use Rattle.gx_units.specs.declared.names.AccountName.{AccountName}
 use Rattle.gx_units.specs.declared.names.UserName.{UserName}

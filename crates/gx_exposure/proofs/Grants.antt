@@ -9,7 +9,7 @@ use Rattle.gx_units.specs.Names.{same_token, same_user}
 use Rattle.gx_units.specs.declared.names.AccountName.{AccountName}
 use Rattle.gx_ouch.specs.declared.inbound.EnterOrder.{EnterOrder}
 use Rattle.gx_ouch.specs.declared.inbound.ReplaceOrder.{ReplaceOrder}
-use Rattle.gx_history.specs.declared.facts.NamedOrder.{NamedOrder}
+use Rattle.gx_history.specs.declared.live_order.LiveOrder.{LiveOrder}
 use Rattle.gx_history.specs.declared.facts.ProposedOrder.{ProposedOrder}
 use Rattle.gx_history.specs.declared.facts.StockSide.{StockSide}
 use Rattle.gx_history.specs.declared.policy.PolicyData.{PolicyData}
@@ -20,16 +20,17 @@ use Rattle.gx_history.specs.declared.record.Request.TheVariants as requests
 use Rattle.gx_history.specs.declared.record.Step.{Step}
 use Rattle.gx_history.specs.declared.record.Step.TheVariants as steps
 use Rattle.gx_history.specs.declared.record.Verdict.TheVariants as verdicts
-use Rattle.gx_history.specs.Asking.{facts, live_named, named_order}
+use Rattle.gx_history.specs.Asking.{facts, live_named}
 use Rattle.gx_history.specs.Book.{is_buy}
 use Rattle.gx_history.specs.Effects.{ReplacesOrder, TakesEffect, replacement, whole_order}
-use Rattle.gx_history.specs.Executions.{Execution, Standing, executions, is_live, live_orders, standing_numbered, standings}
+use Rattle.gx_history.specs.Executions.{Execution, Standing, is_live, live_orders, standing_numbered, standings}
 use Rattle.gx_history.specs.Figures.{done_of_chosen, done_value, live_value, of_accounts, on_side, open_of_chosen, open_value, side_asked}
 use Rattle.gx_history.specs.Orders.{Order, entered, orders, orders_added, orders_made, replacing}
 use Rattle.gx_history.specs.People.{account_of}
 use Rattle.gx_history.specs.Requests.{granted}
 use Rattle.gx_history.specs.Rules.{new_open, proposed}
 use Rattle.gx_history.specs.Verdicts.{Follows, IsLegal, facts_now, next}
+use Rattle.gx_history.specs.LiveOrders.{kept}
 use Rattle.gx_history_laws.proofs.Adding.{user_is}
 use Rattle.gx_history_laws.proofs.Judging.{both}
 use Rattle.gx_history_laws.proofs.Owners.{IsHisAccounts, last_such_is, orders_are_their_users}
@@ -50,7 +51,7 @@ use Rattle.gx_exposure.proofs.Live.{gross_value_is, shares_are}
 
 -- the order that a request names, among all orders
 abbrev pub replaced_by : PolicyData → List RecordData → Asked → Option Standing
-replaced_by policy before a = option_and_then (standing_numbered (standings policy before)) (option_map (λ (o : NamedOrder). o.order) (facts_now policy before a).named)
+replaced_by policy before a = option_and_then (standing_numbered (standings policy before)) (option_map (λ (o : LiveOrder). o.number) (facts_now policy before a).named)
 
 -- the record grants an order to the asker's account, on the side that the request is for, where the order stood that it replaces
 pub record GrantsOrder (policy : PolicyData) (before : List RecordData) (r : RecordData) : Type 0 where
@@ -88,10 +89,10 @@ asked_by_enter m = record {
 }
 
 -- what a Replace asks for
-abbrev asked_by_replace : ReplaceOrder → NamedOrder → ProposedOrder
+abbrev asked_by_replace : ReplaceOrder → LiveOrder → ProposedOrder
 asked_by_replace m o = record {
-  side = o.side;
-  stock = o.stock;
+  side = o.terms.side;
+  stock = o.terms.stock;
   shares = m.shares;
   price = m.price;
   time_in_force = m.time_in_force;
@@ -129,7 +130,7 @@ by_enter policy before a r m legal left asks is_granted =
       is_granted = is_granted;
       is_his = t.is_his;
       is_shown = ap (proposed (facts_now policy before a)) asks;
-      is_replaced = ap (λ (q : Request). option_and_then (standing_numbered (standings policy before)) (option_map (λ (o : NamedOrder). o.order) (option_map (named_order (executions policy before)) (live_named policy before a.user q)))) asks;
+      is_replaced = ap (λ (q : Request). option_and_then (standing_numbered (standings policy before)) (option_map (λ (o : LiveOrder). o.number) (option_map (kept policy before) (live_named policy before a.user q)))) asks;
       is_there = ap (λ (q : Request). side_asked q None) asks;
       old_theirs = λ among h. refl;
       old_there = λ among side h. refl;
@@ -166,18 +167,18 @@ by_replace laws policy before a r m legal left asks is_granted =
     last_such_is (λ (s : Standing). IsKnown policy before s × (is_live s ≡ true)) (λ (s : Standing). same_user s.order.user a.user && same_token s.order.token m.existing_token) (live_orders policy before) t.old (live_known policy before (legal_is_orderly policy before legal)) t.is_named in
     let found : standing_numbered (live_orders policy before) t.old.order.number ≡ Some t.old = live_found policy before t.old known.0 known.1 in
     let distinct = (laws.are_sound policy before legal).numbers_differ in
-    let names : (facts_now policy before a).named ≡ Some (named_order (executions policy before) t.old) =
-    named_is policy before a (requests.Replace m) m.existing_token asks refl ∙ ap (option_map (named_order (executions policy before))) t.is_named in
+    let names : (facts_now policy before a).named ≡ Some (kept policy before t.old) =
+    named_is policy before a (requests.Replace m) m.existing_token asks refl ∙ ap (option_map (kept policy before)) t.is_named in
     record {
       asked = a;
       order = new.order;
-      shown = asked_by_replace m (named_order (executions policy before) t.old);
+      shown = asked_by_replace m (kept policy before t.old);
       old = Some t.old;
       is_left = left;
       is_granted = is_granted;
       is_his = ap (account_of policy) (sym (user_is t.old.order.user a.user parts.0)) ∙ of_all (IsHisAccounts policy) t.old.order (orders policy before) (orders_are_their_users policy before) one.is_known;
       is_shown = ap (proposed (facts_now policy before a)) asks ∙ ap (option_map (asked_by_replace m)) names;
-      is_replaced = ap (λ (o : Option NamedOrder). option_and_then (standing_numbered (standings policy before)) (option_map (λ (o : NamedOrder). o.order) o)) names ∙ known.0.is_found;
+      is_replaced = ap (λ (o : Option LiveOrder). option_and_then (standing_numbered (standings policy before)) (option_map (λ (o : LiveOrder). o.number) o)) names ∙ known.0.is_found;
       is_there = ap (λ (q : Request). side_asked q (Some t.old)) asks;
       old_theirs = λ among h. h;
       old_there = λ among side h. h;

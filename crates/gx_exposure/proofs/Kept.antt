@@ -10,7 +10,7 @@ use Rattle.gx_units.specs.Names.{same_stock}
 use Rattle.gx_units.specs.Money.{value}
 use Rattle.gx_units.specs.declared.names.AccountName.{AccountName}
 use Rattle.gx_history.specs.declared.facts.Facts.{Facts}
-use Rattle.gx_history.specs.declared.facts.NamedOrder.{NamedOrder}
+use Rattle.gx_history.specs.declared.live_order.LiveOrder.{LiveOrder}
 use Rattle.gx_history.specs.declared.facts.ProposedOrder.{ProposedOrder}
 use Rattle.gx_history.specs.declared.facts.RuleFigures.{RuleFigures}
 use Rattle.gx_history.specs.declared.facts.StockSide.{StockSide}
@@ -85,7 +85,7 @@ unfolding facts
 kind_passes policy before r g rule kind is covered passes =
     let given : Facts = facts_now policy before g.asked in
     let q : Request = g.asked.request in
-    let number : Option ℕ = option_map (λ (o : NamedOrder). o.order) given.named in
+    let number : Option ℕ = option_map (λ (o : LiveOrder). o.number) given.named in
     let of_kind : (k : RuleKind) → RuleFigures = λ k. kind_figures policy (positions policy before) (λ count. counts_account count rule.scope g.order.account) q g.old given.moment k in
     let asked_of : figures_asked policy (positions policy before) q given rule ≡ of_kind rule.kind =
     ap (λ (account : Option AccountName). option_map_or (λ (account : AccountName). figures policy (positions policy before) account q number given.moment rule) account no_figures) g.is_his

@@ -1,5 +1,5 @@
 -- What an officer's granted command changes, beside Kill and Lift: a rule's setting, what a reader sees, the day's end.
-use Rattle.std.specs.Prelude.{◌≡◌, ℕ, Bool, true, ◌&&◌, IsTrue, IsFalse, List, [], ◌++◌, map, Option, Some}
+use Rattle.std.specs.Prelude.{◌≡◌, Bool, true, ◌&&◌, IsTrue, IsFalse, List, [], ◌++◌, map, Some}
 use Rattle.gx_units.specs.Names.{same_account, same_rule}
 use Rattle.gx_units.specs.declared.names.AccountName.{AccountName}
 use Rattle.gx_units.specs.declared.names.RuleId.{RuleId}

@@ -21,7 +21,7 @@ use Rattle.gx_history.specs.declared.record.Step.{Step}
 use Rattle.gx_history.specs.declared.record.Step.TheVariants as steps
 use Rattle.gx_history.specs.declared.record.Verdict.{Verdict}
 use Rattle.gx_history.specs.declared.record.Verdict.TheVariants as verdicts
-use Rattle.gx_history.specs.Asking.{facts, live_named, named_order}
+use Rattle.gx_history.specs.Asking.{facts, live_named}
 use Rattle.gx_history.specs.Executions.{Standing, standing, standings, standing_under, executions, is_live, live_orders}
 use Rattle.gx_history.specs.Lists.{last_such}
 use Rattle.gx_history.specs.Orders.{Order, orders, orders_added, orders_made, order_under, entered, replacing, is_token_used}
@@ -30,6 +30,7 @@ use Rattle.gx_history.specs.Requests.{granted, asked, is_granted, is_order, new_
 use Rattle.gx_history.specs.RuleNames.{rules_before}
 use Rattle.gx_history.specs.Rules.{forbids}
 use Rattle.gx_history.specs.Verdicts.{next, facts_now, Follows}
+use Rattle.gx_history.specs.LiveOrders.{kept}
 use Rattle.gx_history_laws.specs.Laws.{grants_order}
 use Rattle.gx_history_laws.proofs.Entering.{HasAccount, entered_has_account}
 use Rattle.gx_history_laws.proofs.Granting.{granted_passes_before}
@@ -136,9 +137,9 @@ name_is_no_bar policy history a r e granted =
     (granted_passes_before policy history a r e granted)
 
 named_at : (policy : PolicyData) (history : List RecordData) (a : Asked) (m : ReplaceOrder) → a.request ≡ requests.Replace m
-    → (facts_now policy history a).named ≡ option_map (named_order (executions policy history)) (standing_under (live_orders policy history) a.user m.existing_token)
+    → (facts_now policy history a).named ≡ option_map (kept policy history) (standing_under (live_orders policy history) a.user m.existing_token)
 unfolding facts
-named_at policy history a m e = ap (λ (q : Request). option_map (named_order (executions policy history)) (live_named policy history a.user q)) e
+named_at policy history a m e = ap (λ (q : Request). option_map (kept policy history) (live_named policy history a.user q)) e
 
 pub not_none : {X Y : Type 0} (f : X → Y) (o : Option X) → is_none (option_map f o) ≡ false → is_none o ≡ false
 not_none f None h = h
@@ -150,7 +151,7 @@ replaced_is_known : (policy : PolicyData) (history : List RecordData) (a : Asked
     → is_none (order_under (orders policy history) a.user m.existing_token) ≡ false
 replaced_is_known policy history a r m e granted asks =
     under_known policy history a.user m.existing_token
-    (not_none (named_order (executions policy history)) (standing_under (live_orders policy history) a.user m.existing_token)
+    (not_none (kept policy history) (standing_under (live_orders policy history) a.user m.existing_token)
     (sym (ap is_none (named_at policy history a m asks)) ∙ sym (ap (forbids I2 (facts_now policy history a)) asks) ∙ name_is_no_bar policy history a r e granted))
 
 pub record AddsNone (policy : PolicyData) (history : List RecordData) (r : RecordData) : Type 0 where

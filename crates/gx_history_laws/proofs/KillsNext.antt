@@ -1,5 +1,5 @@
 -- What one more record does to the Kill of an account.
-use Rattle.std.proofs.Common.{◌≡◌, ℕ, ◌+◌, Bool, true, false, not, List, [], ◌∷◌, ◌++◌, refl, ◌∙◌, ap, sym, cond, map, length}
+use Rattle.std.proofs.Common.{◌≡◌, Bool, true, false, not, List, [], ◌∷◌, ◌++◌, refl, ◌∙◌, ap, sym, cond}
 use Rattle.std.specs.Prelude.{Option, Some, None, is_some, is_none, option_map, option_and_then, ◌||◌}
 use Rattle.std.specs.Option.{option_or}
 use Rattle.std.specs.List.{cons_option, filter, filter_map, list_any}
@@ -12,7 +12,7 @@ use Rattle.gx_history.specs.declared.policy.Lifters.{Lifters}
 use Rattle.gx_history.specs.declared.policy.Lifters.TheVariants as lifters
 use Rattle.gx_history.specs.declared.policy.PolicyData.{PolicyData}
 use Rattle.gx_history.specs.declared.record.RecordData.{RecordData}
-use Rattle.gx_history.specs.InForce.{fewer_than, has_lifted, is_killed, kill_after, kill_in_force, kill_or_lift_of, kills_and_lifts, lifted_since_kill, lifters_asked, officers_of, with_officer}
+use Rattle.gx_history.specs.InForce.{fewer_than, has_lifted, is_killed, kill_after, kill_in_force, kill_or_lift_of, kills_and_lifts, lifters_asked, officers_of, with_officer}
 use Rattle.gx_history.specs.Lists.{behind_last, once, where_true}
 use Rattle.gx_history.specs.Requests.{granted_mark}
 use Rattle.gx_history_laws.proofs.Adding.{user_is}

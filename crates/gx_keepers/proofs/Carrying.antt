@@ -2,7 +2,7 @@
 use Rattle.std.proofs.Common.{◌≡◌, ℕ, ◌<◌, arith, true, false, Bool, List, [], ◌∷◌, ◌++◌, length, refl, ◌∙◌, ap, sym, cond, map}
 use Rattle.std.proofs.Math.Path.{subst}
 use Rattle.std.proofs.lemmas.List.{append-nil, append_cancel_left}
-use Rattle.std.specs.Prelude.{Option, Some, None, IfSome, IsFalse, is_some, option_and_then, option_to_list, drop}
+use Rattle.std.specs.Prelude.{Option, Some, None, IfSome, IsFalse, is_some, option_and_then, option_to_list}
 use Rattle.std.specs.Option.{option_map_or}
 use Rattle.gx_units.specs.Names.{same_user}
 use Rattle.gx_units.specs.declared.names.AccountName.{AccountName}
@@ -22,7 +22,6 @@ use Rattle.gx_history.specs.declared.record.RecordData.{RecordData}
 use Rattle.gx_history.specs.declared.record.Request.{Request}
 use Rattle.gx_history.specs.declared.record.Request.TheVariants as requests
 use Rattle.gx_history.specs.declared.record.RuleName.{RuleName}
-use Rattle.gx_history.specs.declared.record.RuleName.TheVariants.{L1, L2, L3, G1, G2, G3}
 use Rattle.gx_history.specs.declared.record.Step.TheVariants as steps
 use Rattle.gx_history.specs.declared.record.Verdict.{Verdict}
 use Rattle.gx_history.specs.declared.record.Verdict.TheVariants as verdicts
@@ -32,16 +31,12 @@ use Rattle.gx_history.specs.InForce.{rules_in_force}
 use Rattle.gx_history.specs.Orders.{entered}
 use Rattle.gx_history.specs.People.{account_of, account_of_role, role_in}
 use Rattle.gx_history.specs.Requests.{action_of, asked, granted, granted_action, is_granted, is_judged, is_unreadable}
-use Rattle.gx_history.specs.RuleNames.{rules_before}
-use Rattle.gx_history.specs.Rules.{forbids}
 use Rattle.gx_history.specs.Streams.{accepted, reported, reports_of, reports_of_denial, stream, to_user}
-use Rattle.gx_history.specs.Verdicts.{facts_now, next}
 use Rattle.gx_history_laws.proofs.Adding.{user_is_itself}
-use Rattle.gx_history_laws.proofs.Granting.{asked_is_judged, granted_passes_before, verdict_of_next}
+use Rattle.gx_history_laws.proofs.Granting.{asked_is_judged, verdict_of_next}
 use Rattle.gx_history_laws.proofs.NextInForce.{rules_in_force_next, rules_with}
 use Rattle.gx_history_laws.proofs.NextReports.{stream_next}
 use Rattle.gx_history_laws.proofs.Numbers.{number_left}
-use Rattle.gx_history_laws.proofs.Order.{none_among}
 use Rattle.gx_history_laws.proofs.Runs.{step_left}
 use Rattle.gx_effects.proofs.Effects.{is_told}
 use Rattle.gx_effects.proofs.Lines.{login_takes_effect, logout_takes_effect}
@@ -53,7 +48,7 @@ use Rattle.gx_orders.specs.Changes.{denied_token, entering, keeps_orders, markin
 use Rattle.gx_orders.specs.InForce.{orders_in_force}
 use Rattle.gx_orders.specs.Laws.{CanEnter}
 use Rattle.gx_orders.specs.LiveOrders.{AreBelow, OrdersData, is_used}
-use Rattle.gx_orders.specs.declared.live_order.LiveOrder.{LiveOrder}
+use Rattle.gx_history.specs.declared.live_order.LiveOrder.{LiveOrder}
 use Rattle.gx_orders.proofs.Granted.{denials_keep, enters_more, enters_new, others_keep}
 use Rattle.gx_orders.proofs.Tokens.{denied_is_new}
 use Rattle.gx_market.specs.BookInForce.{book_in_force}
@@ -67,11 +62,10 @@ use Rattle.gx_streams.specs.Laws.{TellsNobody, TellsOne}
 use Rattle.gx_streams.specs.Streams.{AllStreams, ReaderMask, mask_in}
 use Rattle.gx_streams.specs.Telling.{shown, told_after}
 use Rattle.gx_streams.proofs.Telling.{stays_by_none, stays_by_one}
-use Rattle.gx_ledger.specs.declared.placed.Placed.{Placed}
 use Rattle.gx_ledger.specs.StandsFor.{Accepts}
 use Rattle.gx_keepers.specs.declared.keepers.Keepers.{Keepers}
 use Rattle.gx_keepers.specs.Keepers.{AreInForce, AreInForceBut, AreSentTo, HavePlaces, Takes, mask_for, with_told}
-use Rattle.gx_keepers.specs.Ledgers.{StandsForDay, placed}
+use Rattle.gx_keepers.specs.Ledgers.{StandsForDay}
 use Rattle.gx_keepers.specs.Messages.{accepted_message}
 use Rattle.gx_keepers.proofs.Figuring.{denial_figured, enter_figured, quiet_figured}
 
@@ -251,18 +245,18 @@ enter_place policy history a r m account k t places grants enters his =
     has_place policy history r k.streams a.user _ places (enter_tells policy history a r m account k t grants enters his)
 
 -- a granted Enter
-pub enter_goes_on : (policy : PolicyData) (history : List RecordData) (a : Asked) (r : RecordData) (m : EnterOrder) (account : AccountName) (before k : Keepers) (order : LiveOrder) (handed : Placed) (message : Message)
+pub enter_goes_on : (policy : PolicyData) (history : List RecordData) (a : Asked) (r : RecordData) (m : EnterOrder) (account : AccountName) (before k : Keepers) (order : LiveOrder) (message : Message)
     → Takes policy history a r before → r.verdict ≡ verdicts.Granted → a.request ≡ requests.Enter m → account_of policy a.user ≡ Some account
-    → order ≡ waiting_order policy r a.user account m → handed ≡ placed order r.moment false → message ≡ accepted_message order
+    → order ≡ waiting_order policy r a.user account m → message ≡ accepted_message order
     → k.people ≡ before.people → k.rules ≡ before.rules → k.day ≡ before.day
-    → k.orders ≡ entering order before.orders → k.book ≡ before.book → Accepts handed before.ledger k.ledger → k.streams ≡ with_told a.user r.moment (Some message) before.streams
+    → k.orders ≡ entering order before.orders → k.book ≡ before.book → Accepts order r.moment false before.ledger k.ledger → k.streams ≡ with_told a.user r.moment (Some message) before.streams
     → AreInForceBut policy history r k
-enter_goes_on policy history a r m account before k order handed message t grants enters his order_is handed_is message_is people_are rules_are day_is orders_are book_is accepts streams_are =
+enter_goes_on policy history a r m account before k order message t grants enters his order_is message_is people_are rules_are day_is orders_are book_is accepts streams_are =
     by_grant policy history a r before k (requests.Enter m) t.in_force grants (step_left policy history (steps.Asked a) r t.left) enters people_are rules_are day_is
     (orders_are ∙ ap (λ (o : LiveOrder). entering o before.orders) order_is ∙ ap (entering (waiting_order policy r a.user account m)) t.in_force.orders
     ∙ sym (enters_more policy history a r m account t.legal t.left enters grants his))
     (book_stays policy history a r before k t grants (ap keeps_book enters) book_is)
-    (enter_figured policy history a r m account before handed k.ledger t grants enters his (handed_is ∙ ap (λ (o : LiveOrder). placed o r.moment false) order_is) accepts)
+    (enter_figured policy history a r m account before order k.ledger t grants enters his order_is accepts)
     (ap shown (streams_are ∙ ap (λ (x : Message). with_told a.user r.moment (Some x) before.streams) (message_is ∙ ap accepted_message order_is))
     ∙ stays_by_one policy history (history ++ r ∷ []) r before.streams a.user (accepted_message (waiting_order policy r a.user account m)) t.in_force.streams
     (enter_tells policy history a r m account before t grants enters his))

@@ -41,7 +41,7 @@ use Rattle.gx_day.specs.DayData.{DayData, at_moment}
 use Rattle.gx_day.specs.InForce.{day_commanded, day_in_force}
 use Rattle.gx_day.proofs.Answering.{command_is_known, known_kill_is_kept}
 use Rattle.gx_day.proofs.Going.{commanded_goes_on}
-use Rattle.gx_orders.specs.declared.live_order.LiveOrder.{LiveOrder}
+use Rattle.gx_history.specs.declared.live_order.LiveOrder.{LiveOrder}
 use Rattle.gx_orders.specs.Changes.{ended_message, is_lasting, keeps_orders, with_live}
 use Rattle.gx_orders.specs.InForce.{orders_in_force}
 use Rattle.gx_orders.specs.LiveOrders.{OrdersData, is_of_user}

@@ -22,26 +22,23 @@ use Rattle.gx_history_laws.proofs.Order.{some_same}
 use Rattle.gx_history_laws.proofs.Owners.{last_such_is}
 use Rattle.gx_history_laws.proofs.Runs.{step_left}
 use Rattle.gx_effects.proofs.Cutting.{cancel_takes_effect}
-use Rattle.gx_book.specs.Books.{on_each_side}
-use Rattle.gx_book.specs.Queue.{reduced}
-use Rattle.gx_orders.specs.declared.live_order.LiveOrder.{LiveOrder}
+use Rattle.gx_history.specs.declared.live_order.LiveOrder.{LiveOrder}
+use Rattle.gx_history.specs.LiveOrders.{kept}
 use Rattle.gx_orders.specs.Changes.{with_live}
-use Rattle.gx_orders.specs.InForce.{kept, orders_in_force}
+use Rattle.gx_orders.specs.InForce.{orders_in_force}
 use Rattle.gx_orders.specs.LiveOrders.{OrdersData, cut_at, order_under}
 use Rattle.gx_orders.proofs.Cutting.{cancels_name_one, cuts_one}
 use Rattle.gx_orders.proofs.Keeping.{IsKeptOpen, open_is, under_is}
-use Rattle.gx_market.specs.Changes.{cut_from}
+use Rattle.gx_market.specs.Changes.{cut_from, left_with}
 use Rattle.gx_market.proofs.Requested.{cancels_take}
 use Rattle.gx_streams.specs.Kept.{places_in}
 use Rattle.gx_streams.specs.Laws.{TellsOne}
 use Rattle.gx_streams.specs.Streams.{AllStreams}
 use Rattle.gx_streams.specs.Telling.{shown}
 use Rattle.gx_streams.proofs.Telling.{stays_by_one}
-use Rattle.gx_ledger.specs.declared.placed.OpenOrder.{OpenOrder}
 use Rattle.gx_ledger.specs.StandsFor.{Cuts}
 use Rattle.gx_keepers.specs.declared.keepers.Keepers.{Keepers}
 use Rattle.gx_keepers.specs.Keepers.{AreInForceBut, HavePlaces, Takes, with_told}
-use Rattle.gx_keepers.specs.Ledgers.{open_order}
 use Rattle.gx_keepers.specs.Messages.{canceled_message}
 use Rattle.gx_keepers.proofs.Carrying.{by_grant, has_place, still_sent}
 use Rattle.gx_keepers.proofs.Figuring.{cancel_figured}
@@ -93,20 +90,20 @@ cancel_has_place policy history a r m k o t places grants asks found =
     has_place policy history r k.streams a.user (cut_message o m.shares) places (cancel_tells policy history a r m k o t grants asks found)
 
 -- a granted Cancel
-pub cancel_goes_on : (policy : PolicyData) (history : List RecordData) (a : Asked) (r : RecordData) (m : CancelOrder) (before k : Keepers) (o : LiveOrder) (fewer : ℕ) (named : OpenOrder) (message : Message)
+pub cancel_goes_on : (policy : PolicyData) (history : List RecordData) (a : Asked) (r : RecordData) (m : CancelOrder) (before k : Keepers) (o : LiveOrder) (fewer left : ℕ) (message : Message)
     → Takes policy history a r before → r.verdict ≡ verdicts.Granted → a.request ≡ requests.Cancel m → order_under before.orders.live a.user m.token ≡ Some o
-    → fewer ≡ cut_from o m.shares → named ≡ open_order o → message ≡ canceled_message o fewer cancels.UserRequested
+    → fewer ≡ cut_from o m.shares → left ≡ m.shares - o.done → message ≡ canceled_message o fewer cancels.UserRequested
     → k.people ≡ before.people → k.rules ≡ before.rules → k.day ≡ before.day
-    → k.orders ≡ with_live (cut_at o.number m.shares before.orders.live) before.orders → k.book ≡ on_each_side (reduced o.number fewer) before.book
-    → Cuts named fewer before.ledger k.ledger → k.streams ≡ with_told a.user r.moment (Some message) before.streams
+    → k.orders ≡ with_live (cut_at o.number m.shares before.orders.live) before.orders → k.book ≡ left_with o left before.book
+    → Cuts o fewer before.ledger k.ledger → k.streams ≡ with_told a.user r.moment (Some message) before.streams
     → AreInForceBut policy history r k
-cancel_goes_on policy history a r m before k o fewer named message t grants asks found fewer_is named_is message_is people_are rules_are day_is orders_are book_is cuts streams_are =
+cancel_goes_on policy history a r m before k o fewer left message t grants asks found fewer_is left_is message_is people_are rules_are day_is orders_are book_is cuts streams_are =
     by_grant policy history a r before k (requests.Cancel m) t.in_force grants (step_left policy history (steps.Asked a) r t.left) asks people_are rules_are day_is
     (orders_are ∙ ap (λ (d : OrdersData). with_live (cut_at o.number m.shares d.live) d) t.in_force.orders
     ∙ sym (cuts_one policy history a r m o t.legal t.left asks grants (names_it policy history a r m before o t found)))
-    (book_is ∙ ap (λ (n : ℕ). on_each_side (reduced o.number n) before.book) fewer_is ∙ ap (on_each_side (reduced o.number (cut_from o m.shares))) t.in_force.book
+    (book_is ∙ ap (λ (n : ℕ). left_with o n before.book) left_is ∙ ap (left_with o (m.shares - o.done)) t.in_force.book
     ∙ sym (cancels_take policy history a r m o t.legal t.left asks grants (names_it policy history a r m before o t found)))
-    (cancel_figured policy history a r m before o fewer named k.ledger t grants asks found fewer_is named_is cuts)
+    (cancel_figured policy history a r m before o fewer k.ledger t grants asks found fewer_is cuts)
     (ap shown (streams_are
     ∙ ap (λ (x : Message). with_told a.user r.moment (Some x) before.streams) (message_is ∙ ap (λ (n : ℕ). canceled_message o n cancels.UserRequested) fewer_is))
     ∙ stays_by_one policy history (history ++ r ∷ []) r before.streams a.user (cut_message o m.shares) t.in_force.streams (cancel_tells policy history a r m before o t grants asks found))

@@ -3,6 +3,7 @@ use Rattle.std.proofs.Common.{◌≡◌, ℕ, ◌-◌, ◌≤◌, arith, true, f
 use Rattle.std.proofs.Math.Path.{subst}
 use Rattle.std.proofs.lemmas.Bool.{eqb-true}
 use Rattle.std.proofs.lemmas.List.{append-nil}
+use Rattle.std.proofs.lemmas.List.Elements.{filter-append}
 use Rattle.std.specs.Prelude.{Option, Some, None, nat_eq, option_map}
 use Rattle.std.specs.Option.{option_map_or}
 use Rattle.std.specs.List.{filter, AllByRecursion, IsDistinct}
@@ -28,11 +29,10 @@ use Rattle.gx_history.specs.Effects.{replacement, whole_order}
 use Rattle.gx_history.specs.Executions.{Standing, done, executions, live_orders, standing_numbered, standing_under}
 use Rattle.gx_history.specs.Figures.{Positions}
 use Rattle.gx_history.specs.Matched.{ExpiresOrder}
-use Rattle.gx_history.specs.Orders.{ends_account, total}
+use Rattle.gx_history.specs.Orders.{ends_account}
 use Rattle.gx_history.specs.People.{account_of}
 use Rattle.gx_history.specs.Verdicts.{FitsDay, IsLegal, next}
 use Rattle.gx_history_laws.proofs.NextReports.{legal_next}
-use Rattle.gx_history_laws.proofs.Numbers.{all_weaker}
 use Rattle.gx_history_laws.proofs.Order.{some_same}
 use Rattle.gx_history_laws.proofs.Owners.{filtered, last_such_is}
 use Rattle.gx_history_laws.proofs.Runs.{step_left}
@@ -40,32 +40,30 @@ use Rattle.gx_effects.specs.OneMore as ones
 use Rattle.gx_effects.specs.OneMore.{change_by, change_by_request, change_of}
 use Rattle.gx_effects.proofs.Entered.{all_mapped}
 use Rattle.gx_effects.proofs.Expiries.{end_takes_effect}
-use Rattle.gx_effects.proofs.FairFills.{live_are_found}
 use Rattle.gx_effects.proofs.Fills.{IsFill, is_fill}
 use Rattle.gx_effects.proofs.NewOrders.{found_is}
-use Rattle.gx_effects.proofs.NotLive.{all_and}
 use Rattle.gx_effects.proofs.Orderly.{legal_is_orderly}
-use Rattle.gx_orders.specs.declared.live_order.LiveOrder.{LiveOrder}
-use Rattle.gx_orders.specs.Changes.{is_lasting, keeps_orders, replacement_order, waiting_order}
-use Rattle.gx_orders.specs.InForce.{kept, orders_in_force}
-use Rattle.gx_orders.specs.LiveOrders.{OrdersData, first_waiting, has_number, is_under, order_numbered, order_under}
-use Rattle.gx_orders.proofs.Keeping.{IsKeptOpen, open_is, under_is}
+use Rattle.gx_history.specs.declared.live_order.LiveOrder.{LiveOrder}
+use Rattle.gx_history.specs.LiveOrders.{is_under, kept, replacement_order}
+use Rattle.gx_orders.specs.Changes.{is_lasting, keeps_orders, waiting_order}
+use Rattle.gx_orders.specs.InForce.{orders_in_force}
+use Rattle.gx_orders.specs.LiveOrders.{OrdersData, first_waiting, has_number, order_numbered, order_under}
+use Rattle.gx_orders.proofs.Keeping.{under_is}
 use Rattle.gx_market.specs.Changes.{cut_from}
-use Rattle.gx_market.proofs.Matches.{first_is_kept}
+use Rattle.gx_market.proofs.Crossing.{first_is_kept}
 use Rattle.gx_positions.specs.Changing.{live_positions, nothing, positions_with}
 use Rattle.gx_positions.specs.Sound.{AreSound, MayChange, MayLeave, numbers_of}
 use Rattle.gx_positions.proofs.GoingOn.{days_begin_empty, positions_go_on, records_may_come}
 use Rattle.gx_positions.proofs.Sound.{positions_are_sound}
-use Rattle.gx_ledger.specs.declared.placed.OpenOrder.{OpenOrder}
-use Rattle.gx_ledger.specs.declared.placed.Placed.{Placed}
 use Rattle.gx_ledger.specs.Following.{AreHeld, ClosesAll, Replaces, ended_by, numbers}
 use Rattle.gx_ledger.specs.Keeping.{Kept}
-use Rattle.gx_ledger.specs.StandsFor.{Accepts, Carries, Closes, Cuts, Fills, IsHeld, IsPlaced, StandsFor}
-use Rattle.gx_ledger.proofs.Following.{all_are_ended, none_closes, one_more_closes}
+use Rattle.gx_ledger.specs.StandsFor.{Accepts, Carries, Closes, Cuts, Fills, IsAccepted, IsHeld, StandsFor}
+use Rattle.gx_ledger.proofs.Following.{all_are_ended, distinct_filtered, none_closes, one_more_closes}
+use Rattle.gx_ledger.proofs.Held.{all_held}
 use Rattle.gx_keepers.specs.declared.keepers.Keepers.{Keepers}
 use Rattle.gx_keepers.specs.Keepers.{Takes}
 use Rattle.gx_keepers.specs.Ends.{is_ended}
-use Rattle.gx_keepers.specs.Ledgers.{StandsForDay, ended_orders, open_order, placed}
+use Rattle.gx_keepers.specs.Ledgers.{StandsForDay, ended_orders}
 use Rattle.gx_keepers.specs.Matching.{TakesMatch}
 
 -- the day is legal with the record too
@@ -128,35 +126,9 @@ unchanged policy history step r old new change comes is same new_is =
 pub begins : (policy : PolicyData) (ledger : Kept) → StandsFor policy ledger nothing → StandsForDay policy ledger []
 begins policy ledger stands = subst (StandsFor policy ledger) (sym (days_begin_empty policy)) stands
 
--- what is handed of a live order is what it has
-pub record IsKept (policy : PolicyData) (history : List RecordData) (o : LiveOrder) : Type 0 where
-  pub standing : Standing
-  pub is_it : o ≡ kept policy history standing
-  pub is_found : standing_numbered (live_orders policy history) standing.order.number ≡ Some standing
-  pub is_open : standing.open_shares ≡ total history standing.order - done (executions policy history) standing.order
-
--- so it is with each that is kept
-pub all_kept : (policy : PolicyData) (history : List RecordData) → IsLegal policy history → AllByRecursion (IsKept policy history) (orders_in_force policy history).live
-all_kept policy history legal =
-    let IsFound : Standing → Type 0 = λ (s : Standing). standing_numbered (live_orders policy history) s.order.number ≡ Some s in
-    all_mapped (IsKept policy history) (kept policy history) (live_orders policy history)
-    (all_weaker (λ (s : Standing). IsFound s × IsKeptOpen policy history s) (λ (s : Standing). IsKept policy history (kept policy history s))
-    (λ (s : Standing) h. record { standing = s; is_it = refl; is_found = h.0; is_open = h.1.0 }) (live_orders policy history)
-    (all_and IsFound (IsKeptOpen policy history) (live_orders policy history) (live_are_found policy history legal) (open_is policy history)))
-
--- it is held
-pub is_held : (policy : PolicyData) (history : List RecordData) (o : LiveOrder) (named : OpenOrder) → IsKept policy history o → named ≡ open_order o → IsHeld (live_positions policy history) named
-is_held policy history o named k is =
-    let it : named ≡ open_order (kept policy history k.standing) = is ∙ ap open_order k.is_it in
-    record {
-      standing = k.standing;
-      is_found = ap (λ (x : OpenOrder). standing_numbered (live_orders policy history) x.order) it ∙ k.is_found;
-      account = sym (ap (λ (x : OpenOrder). x.account) it);
-      side = sym (ap (λ (x : OpenOrder). x.side) it);
-      stock = sym (ap (λ (x : OpenOrder). x.stock) it);
-      price = sym (ap (λ (x : OpenOrder). x.price) it);
-      open_shares = k.is_open ∙ sym (ap (λ (x : OpenOrder). x.open_shares) it);
-    }
+-- each live order that is kept is held
+live_held : (policy : PolicyData) (history : List RecordData) → IsLegal policy history → AllByRecursion (IsHeld (live_positions policy history)) (orders_in_force policy history).live
+live_held policy history legal = all_mapped (IsHeld (live_positions policy history)) (kept policy history) (live_orders policy history) (all_held policy history legal)
 
 -- ---- what nothing changes
 
@@ -225,17 +197,17 @@ rest_figured policy history first r before number new t rests same =
 
 -- ---- an Enter
 
-pub enter_figured : (policy : PolicyData) (history : List RecordData) (a : Asked) (r : RecordData) (m : EnterOrder) (account : AccountName) (before : Keepers) (handed : Placed) (new : Kept)
+pub enter_figured : (policy : PolicyData) (history : List RecordData) (a : Asked) (r : RecordData) (m : EnterOrder) (account : AccountName) (before : Keepers) (o : LiveOrder) (new : Kept)
     → Takes policy history a r before → r.verdict ≡ verdicts.Granted → a.request ≡ requests.Enter m → account_of policy a.user ≡ Some account
-    → handed ≡ placed (waiting_order policy r a.user account m) r.moment false → Accepts handed before.ledger new → StandsForDay policy new (history ++ r ∷ [])
-enter_figured policy history a r m account before handed new t grants enters his is accepts =
+    → o ≡ waiting_order policy r a.user account m → Accepts o r.moment false before.ledger new → StandsForDay policy new (history ++ r ∷ [])
+enter_figured policy history a r m account before o new t grants enters his is accepts =
     let s : Standing = whole_order policy r a.user account m in
     let does : change_of policy history r ≡ ones.Adds s =
     request_changes policy history a r (requests.Enter m) before t grants enters
     ∙ ap (λ (found : Option AccountName). option_map_or (λ (x : AccountName). ones.Adds (whole_order policy r a.user x m)) found ones.Nothing) his in
     let comes : ComesNext policy history (steps.Asked a) r before.ledger = asked_next policy history a r before t in
     carried policy history (steps.Asked a) r before.ledger new (ones.Adds s) _ comes does
-    (accepts s (subst (λ (x : Placed). IsPlaced x s) (sym is) (record { number = refl; account = refl; side = refl; stock = refl; price = refl; shares = refl; open_shares = omega arith; moment = refl; replacement = refl })))
+    (accepts s (subst (λ (x : LiveOrder). IsAccepted x r.moment false s) (sym is) (record { number = refl; account = refl; terms = refl; open_shares = omega arith; moment = refl; replacement = refl })))
     (may_come policy history (steps.Asked a) r before.ledger (ones.Adds s) comes does)
 
 -- ---- a Cancel
@@ -250,25 +222,23 @@ cut_by : (policy : PolicyData) (history : List RecordData) (m : CancelOrder) (o 
 cut_by policy history m o None e = cc
 cut_by policy history m o (Some s) e = ap (λ (x : LiveOrder). ones.Leaves x.number (m.shares - x.done)) (some_same e)
 
-pub cancel_figured : (policy : PolicyData) (history : List RecordData) (a : Asked) (r : RecordData) (m : CancelOrder) (before : Keepers) (o : LiveOrder) (fewer : ℕ) (named : OpenOrder) (new : Kept)
+pub cancel_figured : (policy : PolicyData) (history : List RecordData) (a : Asked) (r : RecordData) (m : CancelOrder) (before : Keepers) (o : LiveOrder) (fewer : ℕ) (new : Kept)
     → Takes policy history a r before → r.verdict ≡ verdicts.Granted → a.request ≡ requests.Cancel m → order_under before.orders.live a.user m.token ≡ Some o
-    → fewer ≡ cut_from o m.shares → named ≡ open_order o → Cuts named fewer before.ledger new → StandsForDay policy new (history ++ r ∷ [])
-cancel_figured policy history a r m before o fewer named new t grants asks found fewer_is is cuts =
+    → fewer ≡ cut_from o m.shares → Cuts o fewer before.ledger new → StandsForDay policy new (history ++ r ∷ [])
+cancel_figured policy history a r m before o fewer new t grants asks found fewer_is cuts =
     let under : order_under (orders_in_force policy history).live a.user m.token ≡ Some o = under_kept policy history a r before o m.token t found in
     let does : change_of policy history r ≡ ones.Leaves o.number (m.shares - o.done) =
     request_changes policy history a r (requests.Cancel m) before t grants asks ∙ cut_by policy history m o (standing_under (live_orders policy history) a.user m.token) (under_is policy history a.user m.token ∙ under) in
     let comes : ComesNext policy history (steps.Asked a) r before.ledger = asked_next policy history a r before t in
-    let k : IsKept policy history o = last_such_is (IsKept policy history) (is_under a.user m.token) (orders_in_force policy history).live o (all_kept policy history t.legal) under in
-    let held : IsHeld (live_positions policy history) named = is_held policy history o named k is in
+    let held : IsHeld (live_positions policy history) o =
+    last_such_is (IsHeld (live_positions policy history)) (is_under a.user m.token) (orders_in_force policy history).live o (live_held policy history t.legal) under in
     let may : MayLeave (live_positions policy history) o.number (m.shares - o.done) = may_come policy history (steps.Asked a) r before.ledger (ones.Leaves o.number (m.shares - o.done)) comes does in
-    let same : may.standing ≡ held.standing = some_same (sym may.is_found ∙ sym (ap (λ (x : OpenOrder). standing_numbered (live_orders policy history) x.order) is) ∙ held.is_found) in
-    let opened : named.open_shares ≡ o.total - o.done = ap (λ (x : OpenOrder). x.open_shares) is in
-    let less : m.shares - o.done ≤ o.total - o.done = subst (λ (n : ℕ). m.shares - o.done ≤ n) (ap (λ (s : Standing). s.open_shares) same ∙ held.open_shares ∙ opened) may.is_less in
-    let left_is : named.open_shares - fewer ≡ m.shares - o.done = omega (arith, less, opened, fewer_is) in
-    let does_so : change_of policy history r ≡ ones.Leaves named.order (named.open_shares - fewer) =
-    does ∙ (λ i. ones.Leaves (sym (ap (λ (x : OpenOrder). x.order) is) i) (sym left_is i)) in
-    carried policy history (steps.Asked a) r before.ledger new (ones.Leaves named.order (named.open_shares - fewer)) _ comes does_so cuts
-    (record { is_held = held; enough = omega (arith, opened, fewer_is) })
+    let same : may.standing ≡ held.standing = some_same (sym may.is_found ∙ held.is_found) in
+    let less : m.shares - o.done ≤ o.total - o.done = subst (λ (n : ℕ). m.shares - o.done ≤ n) (ap (λ (s : Standing). s.open_shares) same ∙ held.open_shares) may.is_less in
+    let left_is : (o.total - o.done) - fewer ≡ m.shares - o.done = omega (arith, less, fewer_is) in
+    let does_so : change_of policy history r ≡ ones.Leaves o.number ((o.total - o.done) - fewer) = does ∙ ap (ones.Leaves o.number) (sym left_is) in
+    carried policy history (steps.Asked a) r before.ledger new (ones.Leaves o.number ((o.total - o.done) - fewer)) _ comes does_so cuts
+    (record { is_held = held; enough = omega (arith, fewer_is) })
 
 -- ---- a Replace
 
@@ -276,7 +246,7 @@ cancel_figured policy history a r m before o fewer named new t grants asks found
 record IsReplacement (policy : PolicyData) (history : List RecordData) (r : RecordData) (m : ReplaceOrder) (o : LiveOrder) (change : ones.Change) : Type 0 where
   pub new : Standing
   pub does : change ≡ ones.Replaces o.number new
-  pub is_placed : IsPlaced (placed (replacement_order r m o) r.moment true) new
+  pub is_accepted : IsAccepted (replacement_order r m o) r.moment true new
 
 replaced_by : (policy : PolicyData) (history : List RecordData) (r : RecordData) (m : ReplaceOrder) (o : LiveOrder) (found : Option Standing) → option_map (kept policy history) found ≡ Some o
     → IsReplacement policy history r m o (option_map_or (λ (old : Standing). ones.Replaces old.order.number (replacement policy history r m old.order)) found ones.Nothing)
@@ -286,24 +256,23 @@ replaced_by policy history r m o (Some s) e =
     (record {
       new = replacement policy history r m s.order;
       does = refl;
-      is_placed = record { number = refl; account = refl; side = refl; stock = refl; price = refl; shares = refl; open_shares = refl; moment = refl; replacement = refl };
+      is_accepted = record { number = refl; account = refl; terms = refl; open_shares = refl; moment = refl; replacement = refl };
     })
 
-pub replace_figured : (policy : PolicyData) (history : List RecordData) (a : Asked) (r : RecordData) (m : ReplaceOrder) (before : Keepers) (o : LiveOrder) (gone : OpenOrder) (handed : Placed) (new : Kept)
+pub replace_figured : (policy : PolicyData) (history : List RecordData) (a : Asked) (r : RecordData) (m : ReplaceOrder) (before : Keepers) (o coming : LiveOrder) (new : Kept)
     → Takes policy history a r before → r.verdict ≡ verdicts.Granted → a.request ≡ requests.Replace m → order_under before.orders.live a.user m.existing_token ≡ Some o
-    → gone ≡ open_order o → handed ≡ placed (replacement_order r m o) r.moment true → Replaces gone handed before.ledger new → StandsForDay policy new (history ++ r ∷ [])
-replace_figured policy history a r m before o gone handed new t grants asks found gone_is handed_is replaces =
+    → coming ≡ replacement_order r m o → Replaces o coming r.moment before.ledger new → StandsForDay policy new (history ++ r ∷ [])
+replace_figured policy history a r m before o coming new t grants asks found coming_is replaces =
     let under : order_under (orders_in_force policy history).live a.user m.existing_token ≡ Some o = under_kept policy history a r before o m.existing_token t found in
     let by : IsReplacement policy history r m o (change_by_request policy history r a.user (requests.Replace m)) =
     replaced_by policy history r m o (standing_under (live_orders policy history) a.user m.existing_token) (under_is policy history a.user m.existing_token ∙ under) in
-    let does : change_of policy history r ≡ ones.Replaces gone.order by.new =
-    request_changes policy history a r (requests.Replace m) before t grants asks ∙ by.does ∙ ap (λ (n : ℕ). ones.Replaces n by.new) (sym (ap (λ (x : OpenOrder). x.order) gone_is)) in
+    let does : change_of policy history r ≡ ones.Replaces o.number by.new = request_changes policy history a r (requests.Replace m) before t grants asks ∙ by.does in
     let comes : ComesNext policy history (steps.Asked a) r before.ledger = asked_next policy history a r before t in
-    let k : IsKept policy history o = last_such_is (IsKept policy history) (is_under a.user m.existing_token) (orders_in_force policy history).live o (all_kept policy history t.legal) under in
-    stands_then policy history (steps.Asked a) r before.ledger new (ones.Replaces gone.order by.new) comes does
-    (replaces by.new (subst (λ (x : Placed). IsPlaced x by.new) (sym handed_is) by.is_placed) policy (live_positions policy history) comes.stands (positions_are_sound policy history t.legal)
-    (is_held policy history o gone k gone_is) (may_come policy history (steps.Asked a) r before.ledger (ones.Replaces gone.order by.new) comes does)
-    (sound_then policy history (steps.Asked a) r before.ledger (ones.Replaces gone.order by.new) comes does))
+    stands_then policy history (steps.Asked a) r before.ledger new (ones.Replaces o.number by.new) comes does
+    (replaces by.new (subst (λ (x : LiveOrder). IsAccepted x r.moment true by.new) (sym coming_is) by.is_accepted) policy (live_positions policy history) comes.stands (positions_are_sound policy history t.legal)
+    (last_such_is (IsHeld (live_positions policy history)) (is_under a.user m.existing_token) (orders_in_force policy history).live o (live_held policy history t.legal) under)
+    (may_come policy history (steps.Asked a) r before.ledger (ones.Replaces o.number by.new) comes does)
+    (sound_then policy history (steps.Asked a) r before.ledger (ones.Replaces o.number by.new) comes does))
 
 -- ---- a command
 
@@ -320,25 +289,15 @@ next_left : (gone left rest live : List LiveOrder) (o : LiveOrder) → left ≡ 
 next_left [] left rest live o e all = sym e ∙ all
 next_left (x ∷ gone) left rest live o e all = ap (λ (xs : List LiveOrder). x ∷ xs) (next_left gone left rest (gone ++ left) o e refl) ∙ all
 
-one_more_ended : (action : Action) (gone : List LiveOrder) (o : LiveOrder)
-    → ended_orders action (gone ++ o ∷ []) ≡ ended_orders action gone ++ cond (is_ended action o) (open_order o ∷ []) []
-one_more_ended action [] o = elim (is_ended action o) as (λ b. map open_order (cond b (o ∷ []) []) ≡ cond b (open_order o ∷ []) []) [ true ↦ refl | false ↦ refl ]
-one_more_ended action (x ∷ gone) o =
-    let more : List OpenOrder = cond (is_ended action o) (open_order o ∷ []) [] in
-    let rest : ended_orders action (gone ++ o ∷ []) ≡ ended_orders action gone ++ more = one_more_ended action gone o in
-    elim (is_ended action x) as (λ b. map open_order (cond b (x ∷ filter (is_ended action) (gone ++ o ∷ [])) (filter (is_ended action) (gone ++ o ∷ [])))
-    ≡ map open_order (cond b (x ∷ filter (is_ended action) gone) (filter (is_ended action) gone)) ++ more)
-    [ true ↦ ap (λ (xs : List OpenOrder). open_order x ∷ xs) rest | false ↦ rest ]
-
-pub one_more_closed : (action : Action) (live left rest : List LiveOrder) (o : LiveOrder) (named : OpenOrder) (old now new : Kept)
-    → left ≡ o ∷ rest → is_ended action o ≡ true → named ≡ open_order o → HaveClosed action live left old now → Closes named now new → HaveClosed action live rest old new
-one_more_closed action live left rest o named old now new left_is his is have closes = record {
+pub one_more_closed : (action : Action) (live left rest : List LiveOrder) (o : LiveOrder) (old now new : Kept)
+    → left ≡ o ∷ rest → is_ended action o ≡ true → HaveClosed action live left old now → Closes o now new → HaveClosed action live rest old new
+one_more_closed action live left rest o old now new left_is his have closes = record {
   gone = have.gone ++ o ∷ [];
   are_all = next_left have.gone left rest live o left_is have.are_all;
   closes =
-      subst (λ (xs : List OpenOrder). ClosesAll xs old new)
-      (sym (one_more_ended action have.gone o ∙ ap (λ (b : Bool). ended_orders action have.gone ++ cond b (open_order o ∷ []) []) his))
-      (one_more_closes (ended_orders action have.gone) (open_order o) old now new have.closes (subst (λ (x : OpenOrder). Closes x now new) is closes));
+      subst (λ (xs : List LiveOrder). ClosesAll xs old new)
+      (sym (filter-append (is_ended action) have.gone (o ∷ []) ∙ ap (λ (b : Bool). ended_orders action have.gone ++ cond b (o ∷ []) []) his))
+      (one_more_closes (ended_orders action have.gone) o old now new have.closes closes);
 }
 
 pub one_more_passed : (action : Action) (live left rest : List LiveOrder) (o : LiveOrder) (old now : Kept)
@@ -347,8 +306,8 @@ one_more_passed action live left rest o old now left_is others have = record {
   gone = have.gone ++ o ∷ [];
   are_all = next_left have.gone left rest live o left_is have.are_all;
   closes =
-      subst (λ (xs : List OpenOrder). ClosesAll xs old now)
-      (sym (one_more_ended action have.gone o ∙ ap (λ (b : Bool). ended_orders action have.gone ++ cond b (open_order o ∷ []) []) others ∙ append-nil (ended_orders action have.gone)))
+      subst (λ (xs : List LiveOrder). ClosesAll xs old now)
+      (sym (filter-append (is_ended action) have.gone (o ∷ []) ∙ ap (λ (b : Bool). ended_orders action have.gone ++ cond b (o ∷ []) []) others ∙ append-nil (ended_orders action have.gone)))
       have.closes;
 }
 
@@ -358,30 +317,11 @@ none_end action lasts [] = refl
 none_end action lasts (o ∷ live) = ap (λ (b : Bool). cond b (o ∷ filter (is_ended action) live) (filter (is_ended action) live)) (none_ends action lasts o.account) ∙ none_end action lasts live
 
 pub none_to_close : (action : Action) (live : List LiveOrder) (k : Kept) → is_lasting action ≡ true → ClosesAll (ended_orders action live) k k
-none_to_close action live k lasts = subst (λ (os : List LiveOrder). ClosesAll (map open_order os) k k) (sym (none_end action lasts live)) (none_closes k)
+none_to_close action live k lasts = subst (λ (os : List LiveOrder). ClosesAll os k k) (sym (none_end action lasts live)) (none_closes k)
 
 pub all_have_closed : (action : Action) (live left : List LiveOrder) (old now : Kept) → left ≡ [] → HaveClosed action live left old now → ClosesAll (ended_orders action live) old now
 all_have_closed action live left old now none have =
     subst (λ (xs : List LiveOrder). ClosesAll (ended_orders action xs) old now) (sym (append-nil have.gone) ∙ ap (λ (xs : List LiveOrder). have.gone ++ xs) (sym none) ∙ have.are_all) have.closes
-
--- numbers that differ go on to differ where some are left out
-others_differ : (P : ℕ → Type 0) (p : Standing → Bool) (ss : List Standing) → AllByRecursion P (numbers_of ss) → AllByRecursion P (numbers_of (filter p ss))
-others_differ P p [] h = tt
-others_differ P p (s ∷ ss) h = by (p s) (others_differ P p ss h.1)
-  where
-    by : (b : Bool) → AllByRecursion P (numbers_of (filter p ss)) → AllByRecursion P (numbers_of (cond b (s ∷ filter p ss) (filter p ss)))
-    by true rest = (h.0, rest)
-    by false rest = rest
-
-some_differ : (p : Standing → Bool) (ss : List Standing) → IsDistinct nat_eq (numbers_of ss) → IsDistinct nat_eq (numbers_of (filter p ss))
-unfolding IsDistinct
-some_differ p [] h = tt
-some_differ p (s ∷ ss) h = by (p s) (others_differ (λ (n : ℕ). nat_eq s.order.number n ≡ false) p ss h.0, some_differ p ss h.1)
-  where
-    by : (b : Bool) → AllByRecursion (λ (n : ℕ). nat_eq s.order.number n ≡ false) (numbers_of (filter p ss)) × IsDistinct nat_eq (numbers_of (filter p ss))
-        → IsDistinct nat_eq (numbers_of (cond b (s ∷ filter p ss) (filter p ss)))
-    by true rest = rest
-    by false rest = rest.1
 
 -- those that a command ends have their numbers
 ended_numbers : (policy : PolicyData) (history : List RecordData) (action : Action) (ss : List Standing)
@@ -389,7 +329,7 @@ ended_numbers : (policy : PolicyData) (history : List RecordData) (action : Acti
 ended_numbers policy history action [] = refl
 ended_numbers policy history action (s ∷ ss) =
     let rest = ended_numbers policy history action ss in
-    elim (ends_account s.order.account action) as (λ b. numbers (map open_order (cond b (kept policy history s ∷ filter (is_ended action) (map (kept policy history) ss)) (filter (is_ended action) (map (kept policy history) ss))))
+    elim (ends_account s.order.account action) as (λ b. numbers (cond b (kept policy history s ∷ filter (is_ended action) (map (kept policy history) ss)) (filter (is_ended action) (map (kept policy history) ss)))
     ≡ numbers_of (cond b (s ∷ filter (λ (x : Standing). ends_account x.order.account action) ss) (filter (λ (x : Standing). ends_account x.order.account action) ss)))
     [ true ↦ ap (λ (ns : List ℕ). s.order.number ∷ ns) rest | false ↦ rest ]
 
@@ -403,11 +343,8 @@ command_figured policy history a r c before new t grants asks closes =
     let does : change_of policy history r ≡ ones.EndsAll c.action = request_changes policy history a r (requests.Command c) before t grants asks in
     let theirs : numbers (ended_orders c.action live) ≡ numbers_of (ended_by c.action held) = ended_numbers policy history c.action (live_orders policy history) in
     let are_held : AreHeld held (ended_orders c.action live) = record {
-      all_held =
-          all_mapped (IsHeld held) open_order (filter (is_ended c.action) live)
-          (filtered (λ (o : LiveOrder). IsHeld held (open_order o)) (is_ended c.action) live
-          (all_weaker (IsKept policy history) (λ (o : LiveOrder). IsHeld held (open_order o)) (λ (o : LiveOrder) k. is_held policy history o (open_order o) k refl) live (all_kept policy history t.legal)));
-      differ = subst (IsDistinct nat_eq) (sym theirs) (some_differ (λ (s : Standing). ends_account s.order.account c.action) held.standings sound.numbers_differ);
+      all_held = filtered (IsHeld held) (is_ended c.action) live (live_held policy history t.legal);
+      differ = subst (IsDistinct nat_eq) (sym theirs) (distinct_filtered (λ (s : Standing). ends_account s.order.account c.action) held.standings sound.numbers_differ);
     } in
     stands_then policy history (steps.Asked a) r before.ledger new (ones.EndsAll c.action) (asked_next policy history a r before t) does
     (subst (StandsFor policy new) (all_are_ended policy held c.action (ended_orders c.action live) sound theirs)
@@ -421,11 +358,9 @@ pub waits_first : (policy : PolicyData) (history : List RecordData) (first : Liv
 waits_first policy history first r k t = sym (ap (λ (d : OrdersData). first_waiting d.live) t.in_force.orders) ∙ t.comes_first
 
 -- the first that waits is held
-first_held : (policy : PolicyData) (history : List RecordData) (first : LiveOrder) (r : RecordData) (k : Keepers) (named : OpenOrder)
-    → TakesMatch policy history first r k → named ≡ open_order first → IsHeld (live_positions policy history) named
-first_held policy history first r k named t is =
-    is_held policy history first named
-    (found_is (IsKept policy history) (λ (o : LiveOrder). o.waits) (orders_in_force policy history).live first (all_kept policy history t.legal) (waits_first policy history first r k t)) is
+first_held : (policy : PolicyData) (history : List RecordData) (first : LiveOrder) (r : RecordData) (k : Keepers) → TakesMatch policy history first r k → IsHeld (live_positions policy history) first
+first_held policy history first r k t =
+    found_is (IsHeld (live_positions policy history)) (λ (o : LiveOrder). o.waits) (orders_in_force policy history).live first (live_held policy history t.legal) (waits_first policy history first r k t)
 
 found_number : (n : ℕ) (live : List LiveOrder) (o : LiveOrder) → order_numbered live n ≡ Some o → o.number ≡ n
 found_number n [] o e = cc
@@ -435,38 +370,34 @@ found_number n (x ∷ live) o e = by (has_number n x) refl e (λ later. found_nu
     by true is h deeper = sym (ap (λ (y : LiveOrder). y.number) (some_same h)) ∙ eqb-true x.number n is
     by false is h deeper = deeper h
 
-pub fill_figured : (policy : PolicyData) (history : List RecordData) (first : LiveOrder) (r : RecordData) (before : Keepers) (f : Fill) (maker : LiveOrder) (came rested : OpenOrder) (new : Kept)
+pub fill_figured : (policy : PolicyData) (history : List RecordData) (first : LiveOrder) (r : RecordData) (before : Keepers) (f : Fill) (maker : LiveOrder) (new : Kept)
     → TakesMatch policy history first r before → r.verdict ≡ verdicts.Filled f → order_numbered before.orders.live f.maker ≡ Some maker
-    → came ≡ open_order first → rested ≡ open_order maker → Fills came rested f.shares f.price before.ledger new → StandsForDay policy new (history ++ r ∷ [])
-fill_figured policy history first r before f maker came rested new t fills found came_is rested_is carries =
+    → Fills first maker f.shares f.price before.ledger new → StandsForDay policy new (history ++ r ∷ [])
+fill_figured policy history first r before f maker new t fills found carries =
     let is : IsFill policy history r f = is_fill policy history t.handed r f (legal_is_orderly policy history t.legal) t.left fills in
     let numbered : order_numbered (orders_in_force policy history).live f.maker ≡ Some maker = sym (ap (λ (d : OrdersData). order_numbered d.live f.maker) t.in_force.orders) ∙ found in
-    let taker_is : came.order ≡ f.taker =
-    ap (λ (x : OpenOrder). x.order) came_is
-    ∙ ap (λ (x : LiveOrder). x.number) (first_is_kept policy history is.taker is.waiting first is.comes_first (waits_first policy history first r before t)) ∙ sym is.of_taker in
-    let maker_is : rested.order ≡ f.maker = ap (λ (x : OpenOrder). x.order) rested_is ∙ found_number f.maker (orders_in_force policy history).live maker numbered in
-    let theirs : Fill = record { taker = came.order; maker = rested.order; shares = f.shares; price = f.price } in
+    let taker_is : first.number ≡ f.taker =
+    ap (λ (x : LiveOrder). x.number) (first_is_kept policy history is.taker is.waiting first is.comes_first (waits_first policy history first r before t)) ∙ sym is.of_taker in
+    let maker_is : maker.number ≡ f.maker = found_number f.maker (orders_in_force policy history).live maker numbered in
+    let theirs : Fill = record { taker = first.number; maker = maker.number; shares = f.shares; price = f.price } in
     let same : f ≡ theirs = λ i. record { taker = sym taker_is i; maker = sym maker_is i; shares = f.shares; price = f.price } in
     let does : change_of policy history r ≡ ones.Fills theirs = ap (λ (v : Verdict). change_by policy history r v r.step) fills ∙ ap ones.Fills same in
     let comes : ComesNext policy history (steps.Matching t.handed) r before.ledger = match_next policy history first r before t in
     carried policy history (steps.Matching t.handed) r before.ledger new (ones.Fills theirs) _ comes does carries
     (record {
-      taker_is_held = first_held policy history first r before came t came_is;
-      maker_is_held =
-          is_held policy history maker rested
-          (found_is (IsKept policy history) (has_number f.maker) (orders_in_force policy history).live maker (all_kept policy history t.legal) numbered) rested_is;
+      taker_is_held = first_held policy history first r before t;
+      maker_is_held = found_is (IsHeld (live_positions policy history)) (has_number f.maker) (orders_in_force policy history).live maker (live_held policy history t.legal) numbered;
       may_fill = may_come policy history (steps.Matching t.handed) r before.ledger (ones.Fills theirs) comes does;
     })
 
 -- ---- an order that ends
 
-pub end_figured : (policy : PolicyData) (history : List RecordData) (first : LiveOrder) (r : RecordData) (before : Keepers) (number : ℕ) (ended : OpenOrder) (new : Kept)
-    → TakesMatch policy history first r before → r.verdict ≡ verdicts.Expired number → ended ≡ open_order first → Closes ended before.ledger new → StandsForDay policy new (history ++ r ∷ [])
-end_figured policy history first r before number ended new t ends ended_is closes =
+pub end_figured : (policy : PolicyData) (history : List RecordData) (first : LiveOrder) (r : RecordData) (before : Keepers) (number : ℕ) (new : Kept)
+    → TakesMatch policy history first r before → r.verdict ≡ verdicts.Expired number → Closes first before.ledger new → StandsForDay policy new (history ++ r ∷ [])
+end_figured policy history first r before number new t ends closes =
     let is : ExpiresOrder policy history (history ++ r ∷ []) r number = end_takes_effect policy history t.handed r number (legal_is_orderly policy history t.legal) t.left ends in
-    let number_is : number ≡ ended.order =
-    is.has_number ∙ sym (ap (λ (x : LiveOrder). x.number) (first_is_kept policy history is.first is.waiting first is.comes_first (waits_first policy history first r before t)))
-    ∙ sym (ap (λ (x : OpenOrder). x.order) ended_is) in
-    let does : change_of policy history r ≡ ones.Leaves ended.order 0 = ap (λ (v : Verdict). change_by policy history r v r.step) ends ∙ ap (λ (n : ℕ). ones.Leaves n 0) number_is in
-    carried policy history (steps.Matching t.handed) r before.ledger new (ones.Leaves ended.order 0) _ (match_next policy history first r before t) does closes
-    (first_held policy history first r before ended t ended_is)
+    let number_is : number ≡ first.number =
+    is.has_number ∙ sym (ap (λ (x : LiveOrder). x.number) (first_is_kept policy history is.first is.waiting first is.comes_first (waits_first policy history first r before t))) in
+    let does : change_of policy history r ≡ ones.Leaves first.number 0 = ap (λ (v : Verdict). change_by policy history r v r.step) ends ∙ ap (λ (n : ℕ). ones.Leaves n 0) number_is in
+    carried policy history (steps.Matching t.handed) r before.ledger new (ones.Leaves first.number 0) _ (match_next policy history first r before t) does closes
+    (first_held policy history first r before t)

@@ -3,7 +3,7 @@ use Rattle.std.proofs.Common.{◌≡◌, ℕ, ◌+◌, ◌<◌, ◌≤◌, get_o
 use Rattle.std.proofs.Math.Path.{subst}
 use Rattle.std.proofs.lemmas.List.{append_cancel_left, length-map, take_more}
 use Rattle.std.specs.Prelude.{Option, Some, None, is_some, ◌&&◌}
-use Rattle.std.specs.List.{AllByRecursion, filter}
+use Rattle.std.specs.List.{filter}
 use Rattle.gx_units.specs.Names.{same_user}
 use Rattle.gx_units.specs.declared.names.UserName.{UserName}
 use Rattle.gx_history.specs.declared.policy.PolicyData.{PolicyData}
@@ -17,7 +17,7 @@ use Rattle.gx_history.specs.declared.report.Message.{Message}
 use Rattle.gx_history.specs.Executions.{Standing, live_orders}
 use Rattle.gx_history.specs.People.{is_officer, is_reader, role_in, user_in}
 use Rattle.gx_history.specs.Requests.{is_judged}
-use Rattle.gx_history.specs.Streams.{reported, reports_of, stream, to_user}
+use Rattle.gx_history.specs.Streams.{reported, reports_of, stream}
 use Rattle.gx_history.specs.Verdicts.{IsLegal, day_limit, next}
 use Rattle.gx_history_laws.proofs.Adding.{user_is}
 use Rattle.gx_history_laws.proofs.Granting.{asked_is_judged}
@@ -25,11 +25,10 @@ use Rattle.gx_history_laws.proofs.Judging.{both}
 use Rattle.gx_history_laws.proofs.NextReports.{legal_before, stream_next}
 use Rattle.gx_history_laws.proofs.Numbers.{all_weaker}
 use Rattle.gx_history_laws.proofs.Pushing.{all_next}
-use Rattle.gx_orders.specs.declared.live_order.LiveOrder.{LiveOrder}
-use Rattle.gx_orders.specs.InForce.{kept, orders_in_force}
+use Rattle.gx_history.specs.declared.live_order.LiveOrder.{LiveOrder}
+use Rattle.gx_history.specs.LiveOrders.{kept}
 use Rattle.gx_orders.specs.LiveOrders.{OrdersData, is_of_user}
 use Rattle.gx_orders.proofs.Keeping.{filter_of_map}
-use Rattle.gx_people.specs.Entitled.{people_in_force}
 use Rattle.gx_people.proofs.Keeping.{officers_stay}
 use Rattle.gx_places.specs.Places.{concerns_many, enough_places, has_kept_places, most_kills, orders_held, report_places}
 use Rattle.gx_places.proofs.Asked.{enough_is_more, kept_places_are_enough, matches_want_no_more, others_want_no_more, so_many_are_enough}
@@ -38,7 +37,6 @@ use Rattle.gx_streams.specs.Kept.{places_in, with_places}
 use Rattle.gx_streams.specs.Laws.{TellsOne}
 use Rattle.gx_streams.specs.Sending.{KnowsReaders, is_fill}
 use Rattle.gx_streams.specs.Streams.{AllStreams, is_told, on_told}
-use Rattle.gx_streams.specs.Telling.{shown}
 use Rattle.gx_streams.proofs.Finding.{told_are}
 use Rattle.gx_streams.proofs.OnlyKnown.{copies_alone, none_sent, only_known, readers_are}
 use Rattle.gx_streams.proofs.Places.{others_keep, places_kept}

@@ -1,8 +1,8 @@
 -- What a matching step makes of the keepers.
-use Rattle.std.proofs.Common.{inl, ◌≡◌, ℕ, ◌-◌, ◌<◌, ◌≤◌, arith, Bool, true, false, not, zero, suc, ◌+◌, cond, get_or, if◌then◌else◌, List, [], ◌∷◌, ◌++◌, refl, ◌∙◌, ap, sym, map}
+use Rattle.std.proofs.Common.{inl, ◌≡◌, ℕ, ◌-◌, ◌<◌, arith, Bool, true, false, not, zero, suc, ◌+◌, cond, get_or, if◌then◌else◌, List, [], ◌∷◌, ◌++◌, refl, ◌∙◌, ap, sym, map}
 use Rattle.std.proofs.Math.Path.{subst}
 use Rattle.std.proofs.lemmas.List.{append_cancel_left}
-use Rattle.std.specs.Prelude.{Option, Some, None, IsSomeAnd, is_some, length, find, position, unwrap_or, option_and_then, option_map, ◌&&◌}
+use Rattle.std.specs.Prelude.{Option, Some, None, is_some, length, find, position, unwrap_or, option_and_then, option_map, ◌&&◌}
 use Rattle.std.specs.List.{AllByRecursion, position_from, slice_get}
 use Rattle.std.specs.Option.{option_map_or}
 use Rattle.std.proofs.lemmas.List.Quantifiers.{position-Some}
@@ -49,23 +49,22 @@ use Rattle.gx_effects.proofs.Orderly.{IsOrderly, legal_is_orderly}
 use Rattle.gx_effects.proofs.Rests.{rest_takes_effect}
 use Rattle.gx_effects.proofs.Settling.{not_judged}
 use Rattle.gx_effects.proofs.Ungranted.{match_grants_nothing}
-use Rattle.gx_book.specs.declared.resting.Resting.{Resting}
-use Rattle.gx_book.specs.Books.{HasShares, StockOrders, best_in, on_side, with_rested}
-use Rattle.gx_book.specs.Queue.{best_reduced}
-use Rattle.gx_orders.specs.declared.live_order.LiveOrder.{LiveOrder}
+use Rattle.gx_book.specs.Books.{StockOrders, resting_in}
+use Rattle.gx_book.specs.Queue.{IsLatest}
+use Rattle.gx_history.specs.declared.live_order.LiveOrder.{LiveOrder}
+use Rattle.gx_history.specs.LiveOrders.{kept}
 use Rattle.gx_orders.specs.Changes.{with_live}
-use Rattle.gx_orders.specs.InForce.{kept, orders_in_force}
+use Rattle.gx_orders.specs.InForce.{orders_in_force}
 use Rattle.gx_orders.specs.Laws.{CanFill}
 use Rattle.gx_orders.specs.LiveOrders.{OrdersData, at_rest, changed, filled_at, order_numbered, without}
 use Rattle.gx_orders.proofs.Keeping.{IsKeptOpen}
 use Rattle.gx_orders.proofs.Matching.{ends_one, fills_both, numbered_is, rests_one}
 use Rattle.gx_orders.proofs.Matching as matched
 use Rattle.gx_market.specs.BookInForce.{book_in_force}
-use Rattle.gx_market.specs.Laws.{CanRest, CanTake}
-use Rattle.gx_market.specs.Meeting.{resting_of}
-use Rattle.gx_market.proofs.Crossing.{waiting_open}
-use Rattle.gx_market.proofs.Matches.{expiries_keep, fills_take_from_best, first_can_rest, first_is_kept, rests_are_put}
-use Rattle.gx_market.proofs.Matches as booked
+use Rattle.gx_market.specs.Changes.{left_with, put_to_rest, resting_of}
+use Rattle.gx_market.proofs.Crossing.{first_is_kept, waiting_open}
+use Rattle.gx_market.proofs.Latest.{first_is_latest}
+use Rattle.gx_market.proofs.Matches.{expiries_keep, fills_take, rests_are_put}
 use Rattle.gx_streams.specs.declared.fill.FillSide.{FillSide}
 use Rattle.gx_streams.specs.declared.fill.Party.{Party}
 use Rattle.gx_streams.specs.declared.fill.Party.TheVariants as parties
@@ -80,11 +79,10 @@ use Rattle.gx_streams.proofs.Sending.{sides_are_his, stays_by_fill}
 use Rattle.gx_streams.proofs.Telling.{stays_by_none, stays_by_one}
 use Rattle.gx_people.specs.Entitled.{sees}
 use Rattle.gx_people.proofs.Entitling as entitling
-use Rattle.gx_ledger.specs.declared.placed.OpenOrder.{OpenOrder}
 use Rattle.gx_ledger.specs.StandsFor.{Closes, Fills}
 use Rattle.gx_keepers.specs.declared.keepers.Keepers.{Keepers}
 use Rattle.gx_keepers.specs.Keepers.{AreInForce, AreInForceBut, HasEnough, HaveAllPlaces, HavePlaces, KnowTheSame, with_told}
-use Rattle.gx_keepers.specs.Ledgers.{StandsForDay, open_order}
+use Rattle.gx_keepers.specs.Ledgers.{StandsForDay}
 use Rattle.gx_keepers.specs.Matching.{TakesMatch, place_of, told_side}
 use Rattle.gx_keepers.specs.Messages.{canceled_message}
 use Rattle.gx_keepers.proofs.Carrying.{by_no_grant, has_place}
@@ -139,16 +137,6 @@ can_fill policy history first r k f t fills =
 pub maker_is_there : (policy : PolicyData) (history : List RecordData) (first : LiveOrder) (r : RecordData) (k : Keepers) (f : Fill) (found : Option LiveOrder)
     → TakesMatch policy history first r k → r.verdict ≡ verdicts.Filled f → found ≡ order_numbered k.orders.live f.maker → is_some found ≡ true
 maker_is_there policy history first r k f found t fills is = ap is_some is ∙ (can_fill policy history first r k f t fills).maker_lives
-
--- and the best in the book has the shares
-pub best_has_shares : (policy : PolicyData) (history : List RecordData) (first : LiveOrder) (r : RecordData) (k : Keepers) (f : Fill) (against : Bool)
-    → TakesMatch policy history first r k → r.verdict ≡ verdicts.Filled f → against ≡ not (is_buy first.terms.side)
-    → IsSomeAnd (best_in k.book first.terms.stock against) (HasShares f.shares)
-best_has_shares policy history first r k f against t fills is =
-    let can : CanTake (book_in_force policy history) f first = booked.fills_fit policy history t.handed r f first t.legal t.left fills (waits_first policy history first r k t) in
-    subst (λ (found : Option Resting). IsSomeAnd found (HasShares f.shares))
-    (sym (ap (λ (b : List StockOrders). best_in b first.terms.stock against) t.in_force.book ∙ ap (best_in (book_in_force policy history) first.terms.stock) is ∙ can.is_best))
-    can.maker_has_them
 
 -- the account of an order of its user stands in the file
 slice_there : (accounts : List Account) (i : ℕ) (d : Account) → i < length accounts → slice_get accounts i ≡ Some (get_or accounts i d)
@@ -282,24 +270,23 @@ sent_by_records policy history k sound kept_is user =
     (same_mask (sees k.people user) (is_entitled policy history user)
     (λ account. ap (λ (us : List User). sees us user account) kept_is.people ∙ entitling.kept policy history user account sound) policy.accounts)
 
-pub fill_goes_on : (policy : PolicyData) (history : List RecordData) (first : LiveOrder) (r : RecordData) (before k : Keepers) (f : Fill) (maker : LiveOrder) (came rested : OpenOrder) (against : Bool) (taken kept_side : FillSide) (made : ToldFill)
-    → TakesMatch policy history first r before → r.verdict ≡ verdicts.Filled f → order_numbered before.orders.live f.maker ≡ Some maker → came ≡ open_order first → rested ≡ open_order maker
-    → against ≡ not (is_buy first.terms.side) → is_sound policy ≡ true
+pub fill_goes_on : (policy : PolicyData) (history : List RecordData) (first : LiveOrder) (r : RecordData) (before k : Keepers) (f : Fill) (maker : LiveOrder) (left : ℕ) (taken kept_side : FillSide) (made : ToldFill)
+    → TakesMatch policy history first r before → r.verdict ≡ verdicts.Filled f → order_numbered before.orders.live f.maker ≡ Some maker
+    → left ≡ (maker.total - maker.done) - f.shares → is_sound policy ≡ true
     → taken ≡ told_side policy first → kept_side ≡ told_side policy maker
     → made ≡ record { match_number = r.number; moment = r.moment; shares = f.shares; price = f.price; taker = taken; maker = kept_side }
     → k.people ≡ before.people → k.rules ≡ before.rules → k.day ≡ before.day
     → k.orders ≡ with_live (filled_at f.maker f.shares (filled_at f.taker f.shares before.orders.live)) before.orders
-    → k.book ≡ on_side first.terms.stock against (best_reduced f.shares) before.book → Fills came rested f.shares f.price before.ledger k.ledger
+    → k.book ≡ left_with maker left before.book → Fills first maker f.shares f.price before.ledger k.ledger
     → k.streams ≡ with_fill made before.streams
     → AreInForceBut policy history r k
-fill_goes_on policy history first r before k f maker came rested against taken kept_side made t fills found came_is rested_is side_is sound taken_is kept_is made_is people_are rules_are day_is orders_are book_is carries streams_are =
+fill_goes_on policy history first r before k f maker left taken kept_side made t fills found left_is sound taken_is kept_is made_is people_are rules_are day_is orders_are book_is carries streams_are =
     by_match policy history first r before k t people_are rules_are day_is
     (orders_are ∙ ap (λ (d : OrdersData). with_live (filled_at f.maker f.shares (filled_at f.taker f.shares d.live)) d) t.in_force.orders
     ∙ sym (fills_both policy history t.handed r f t.legal t.left fills))
-    (book_is ∙ ap (λ (b : Bool). on_side first.terms.stock b (best_reduced f.shares) before.book) side_is
-    ∙ ap (on_side first.terms.stock (not (is_buy first.terms.side)) (best_reduced f.shares)) t.in_force.book
-    ∙ sym (fills_take_from_best policy history t.handed r f first t.legal t.left fills (waits_first policy history first r before t)))
-    (fill_figured policy history first r before f maker came rested k.ledger t fills found came_is rested_is carries)
+    (book_is ∙ ap (λ (n : ℕ). left_with maker n before.book) left_is ∙ ap (left_with maker ((maker.total - maker.done) - f.shares)) t.in_force.book
+    ∙ sym (fills_take policy history t.handed r f maker t.legal t.left fills (sym (ap (λ (d : OrdersData). order_numbered d.live f.maker) t.in_force.orders) ∙ found)))
+    (fill_figured policy history first r before f maker k.ledger t fills found carries)
     (ap shown streams_are
     ∙ stays_by_fill policy history r before.streams made (accounts_few policy sound) t.in_force.streams (sent_by_records policy history before sound t.in_force) is_made)
     (ap (λ (s : AllStreams). s.readers) streams_are)
@@ -323,20 +310,22 @@ fill_goes_on policy history first r before k f maker came rested against taken k
 
 -- ---- an order that comes to rest
 
--- it can be put into the book
-pub can_rest : (policy : PolicyData) (history : List RecordData) (first : LiveOrder) (r : RecordData) (k : Keepers) → TakesMatch policy history first r k → CanRest k.book (resting_of first)
-can_rest policy history first r k t =
-    subst (λ (b : List StockOrders). CanRest b (resting_of first)) (sym t.in_force.book) (first_can_rest policy history first t.legal (waits_first policy history first r k t))
+-- its number is above those that rest at its price
+pub comes_last : (policy : PolicyData) (history : List RecordData) (first : LiveOrder) (r : RecordData) (k : Keepers) → TakesMatch policy history first r k
+    → IsLatest (resting_of first) (resting_in k.book first.terms.stock (is_buy first.terms.side))
+comes_last policy history first r k t =
+    subst (λ (b : List StockOrders). IsLatest (resting_of first) (resting_in b first.terms.stock (is_buy first.terms.side))) (sym t.in_force.book)
+    (first_is_latest policy history first t.legal (waits_first policy history first r k t))
 
-pub rest_goes_on : (policy : PolicyData) (history : List RecordData) (first : LiveOrder) (r : RecordData) (before k : Keepers) (number : ℕ) (added : Resting)
-    → TakesMatch policy history first r before → r.verdict ≡ verdicts.Rested number → added ≡ resting_of first
+pub rest_goes_on : (policy : PolicyData) (history : List RecordData) (first : LiveOrder) (r : RecordData) (before k : Keepers) (number : ℕ)
+    → TakesMatch policy history first r before → r.verdict ≡ verdicts.Rested number
     → k.people ≡ before.people → k.rules ≡ before.rules → k.day ≡ before.day
-    → k.orders ≡ with_live (changed at_rest number before.orders.live) before.orders → k.book ≡ with_rested added before.book → k.ledger ≡ before.ledger → k.streams ≡ before.streams
+    → k.orders ≡ with_live (changed at_rest number before.orders.live) before.orders → k.book ≡ put_to_rest first before.book → k.ledger ≡ before.ledger → k.streams ≡ before.streams
     → AreInForceBut policy history r k
-rest_goes_on policy history first r before k number added t rests is people_are rules_are day_is orders_are book_is ledger_is streams_are =
+rest_goes_on policy history first r before k number t rests people_are rules_are day_is orders_are book_is ledger_is streams_are =
     by_match policy history first r before k t people_are rules_are day_is
     (orders_are ∙ ap (λ (d : OrdersData). with_live (changed at_rest number d.live) d) t.in_force.orders ∙ sym (rests_one policy history t.handed r number t.legal t.left rests))
-    (book_is ∙ ap (λ (x : Resting). with_rested x before.book) is ∙ ap (with_rested (resting_of first)) t.in_force.book
+    (book_is ∙ ap (put_to_rest first) t.in_force.book
     ∙ sym (rests_are_put policy history t.handed r number first t.legal t.left rests (waits_first policy history first r before t)))
     (rest_figured policy history first r before number k.ledger t rests ledger_is)
     (ap shown streams_are
@@ -369,16 +358,16 @@ pub end_has_place : (policy : PolicyData) (history : List RecordData) (first : L
 end_has_place policy history first r k number t places ends =
     has_place policy history r k.streams first.user (end_message first) places (end_tells policy history first r k number t ends)
 
-pub end_goes_on : (policy : PolicyData) (history : List RecordData) (first : LiveOrder) (r : RecordData) (before k : Keepers) (number : ℕ) (ended : OpenOrder) (message : Message)
-    → TakesMatch policy history first r before → r.verdict ≡ verdicts.Expired number → ended ≡ open_order first → message ≡ end_message first
+pub end_goes_on : (policy : PolicyData) (history : List RecordData) (first : LiveOrder) (r : RecordData) (before k : Keepers) (number : ℕ) (message : Message)
+    → TakesMatch policy history first r before → r.verdict ≡ verdicts.Expired number → message ≡ end_message first
     → k.people ≡ before.people → k.rules ≡ before.rules → k.day ≡ before.day
-    → k.orders ≡ with_live (without number before.orders.live) before.orders → k.book ≡ before.book → Closes ended before.ledger k.ledger → k.streams ≡ with_told first.user r.moment (Some message) before.streams
+    → k.orders ≡ with_live (without number before.orders.live) before.orders → k.book ≡ before.book → Closes first before.ledger k.ledger → k.streams ≡ with_told first.user r.moment (Some message) before.streams
     → AreInForceBut policy history r k
-end_goes_on policy history first r before k number ended message t ends ended_is is people_are rules_are day_is orders_are book_is closes streams_are =
+end_goes_on policy history first r before k number message t ends is people_are rules_are day_is orders_are book_is closes streams_are =
     by_match policy history first r before k t people_are rules_are day_is
     (orders_are ∙ ap (λ (d : OrdersData). with_live (without number d.live) d) t.in_force.orders ∙ sym (ends_one policy history t.handed r number t.legal t.left ends))
     (book_is ∙ t.in_force.book ∙ sym (expiries_keep policy history t.handed r number t.legal t.left ends))
-    (end_figured policy history first r before number ended k.ledger t ends ended_is closes)
+    (end_figured policy history first r before number k.ledger t ends closes)
     (ap shown (streams_are ∙ ap (λ (m : Message). with_told first.user r.moment (Some m) before.streams) is)
     ∙ stays_by_one policy history (history ++ r ∷ []) r before.streams first.user (end_message first) t.in_force.streams (end_tells policy history first r before number t ends))
     (ap (λ (s : AllStreams). s.readers) streams_are)

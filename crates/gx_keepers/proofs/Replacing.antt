@@ -21,27 +21,24 @@ use Rattle.gx_history_laws.proofs.Numbers.{number_left}
 use Rattle.gx_history_laws.proofs.Order.{some_same}
 use Rattle.gx_history_laws.proofs.Runs.{step_left}
 use Rattle.gx_effects.proofs.Replacing.{replace_takes_effect}
-use Rattle.gx_book.specs.Books.{on_each_side}
-use Rattle.gx_book.specs.Queue.{without_order}
-use Rattle.gx_orders.specs.declared.live_order.LiveOrder.{LiveOrder}
-use Rattle.gx_orders.specs.Changes.{entering, replacement_order, with_live}
-use Rattle.gx_orders.specs.InForce.{kept, orders_in_force}
+use Rattle.gx_history.specs.declared.live_order.LiveOrder.{LiveOrder}
+use Rattle.gx_history.specs.LiveOrders.{is_under, kept, replacement_order}
+use Rattle.gx_orders.specs.Changes.{entering, with_live}
+use Rattle.gx_orders.specs.InForce.{orders_in_force}
 use Rattle.gx_orders.specs.Laws.{CanReplace}
-use Rattle.gx_orders.specs.LiveOrders.{AreBelow, OrdersData, is_under, is_used, order_under, without}
+use Rattle.gx_orders.specs.LiveOrders.{AreBelow, OrdersData, is_used, order_under, without}
 use Rattle.gx_orders.proofs.Cutting.{replaces_new, replaces_one}
 use Rattle.gx_orders.proofs.Keeping.{under_is}
+use Rattle.gx_market.specs.Changes.{taken_out}
 use Rattle.gx_market.proofs.Requested.{replaces_take}
 use Rattle.gx_streams.specs.Kept.{places_in}
 use Rattle.gx_streams.specs.Laws.{TellsOne}
 use Rattle.gx_streams.specs.Streams.{AllStreams}
 use Rattle.gx_streams.specs.Telling.{shown}
 use Rattle.gx_streams.proofs.Telling.{stays_by_one}
-use Rattle.gx_ledger.specs.declared.placed.OpenOrder.{OpenOrder}
-use Rattle.gx_ledger.specs.declared.placed.Placed.{Placed}
 use Rattle.gx_ledger.specs.Following.{Replaces}
 use Rattle.gx_keepers.specs.declared.keepers.Keepers.{Keepers}
 use Rattle.gx_keepers.specs.Keepers.{AreInForceBut, HavePlaces, Takes, with_told}
-use Rattle.gx_keepers.specs.Ledgers.{open_order, placed}
 use Rattle.gx_keepers.specs.Messages.{replaced_message}
 use Rattle.gx_keepers.proofs.Carrying.{by_grant, has_place, still_sent}
 use Rattle.gx_keepers.proofs.Figuring.{replace_figured}
@@ -112,21 +109,21 @@ replace_has_place policy history a r m k o t places grants asks found =
     has_place policy history r k.streams a.user (told_of_replace r m o) places (replace_tells policy history a r m k o t grants asks found)
 
 -- a granted Replace
-pub replace_goes_on : (policy : PolicyData) (history : List RecordData) (a : Asked) (r : RecordData) (m : ReplaceOrder) (before k : Keepers) (o new : LiveOrder) (gone : OpenOrder) (handed : Placed) (message : Message)
+pub replace_goes_on : (policy : PolicyData) (history : List RecordData) (a : Asked) (r : RecordData) (m : ReplaceOrder) (before k : Keepers) (o new : LiveOrder) (message : Message)
     → Takes policy history a r before → r.verdict ≡ verdicts.Granted → a.request ≡ requests.Replace m → order_under before.orders.live a.user m.existing_token ≡ Some o
-    → new ≡ replacement_order r m o → gone ≡ open_order o → handed ≡ placed new r.moment true → message ≡ replaced_message new o.token
+    → new ≡ replacement_order r m o → message ≡ replaced_message new o.token
     → k.people ≡ before.people → k.rules ≡ before.rules → k.day ≡ before.day
-    → k.orders ≡ with_live (without o.number (before.orders.live ++ new ∷ [])) (entering new before.orders) → k.book ≡ on_each_side (without_order o.number) before.book
-    → Replaces gone handed before.ledger k.ledger → k.streams ≡ with_told a.user r.moment (Some message) before.streams
+    → k.orders ≡ with_live (without o.number (before.orders.live ++ new ∷ [])) (entering new before.orders) → k.book ≡ taken_out o before.book
+    → Replaces o new r.moment before.ledger k.ledger → k.streams ≡ with_told a.user r.moment (Some message) before.streams
     → AreInForceBut policy history r k
-replace_goes_on policy history a r m before k o new gone handed message t grants asks found new_is gone_is handed_is message_is people_are rules_are day_is orders_are book_is replaces streams_are =
+replace_goes_on policy history a r m before k o new message t grants asks found new_is message_is people_are rules_are day_is orders_are book_is replaces streams_are =
     by_grant policy history a r before k (requests.Replace m) t.in_force grants (step_left policy history (steps.Asked a) r t.left) asks people_are rules_are day_is
     (orders_are ∙ ap (λ (x : LiveOrder). with_live (without o.number (before.orders.live ++ x ∷ [])) (entering x before.orders)) new_is
     ∙ ap (λ (d : OrdersData). with_live (without o.number (d.live ++ replacement_order r m o ∷ [])) (entering (replacement_order r m o) d)) t.in_force.orders
     ∙ sym (replaces_one policy history a r m o t.legal t.left asks grants (found_so policy history a r m before (Some o) t found)))
-    (book_is ∙ ap (on_each_side (without_order o.number)) t.in_force.book
+    (book_is ∙ ap (taken_out o) t.in_force.book
     ∙ sym (replaces_take policy history a r m o t.legal t.left asks grants (found_so policy history a r m before (Some o) t found)))
-    (replace_figured policy history a r m before o gone handed k.ledger t grants asks found gone_is (handed_is ∙ ap (λ (x : LiveOrder). placed x r.moment true) new_is) replaces)
+    (replace_figured policy history a r m before o new k.ledger t grants asks found new_is replaces)
     (ap shown (streams_are
     ∙ ap (λ (x : Message). with_told a.user r.moment (Some x) before.streams) (message_is ∙ ap (λ (x : LiveOrder). replaced_message x o.token) new_is))
     ∙ stays_by_one policy history (history ++ r ∷ []) r before.streams a.user (told_of_replace r m o) t.in_force.streams (replace_tells policy history a r m before o t grants asks found))

@@ -1,5 +1,5 @@
 -- The room of users: reports that are told take it from places, and nobody loses any.
-use Rattle.std.proofs.Common.{◌≡◌, ℕ, ◌+◌, ◌≤◌, arith, true, false, Bool, List, [], ◌∷◌, ◌++◌, length, length-append, refl, ◌∙◌, ap, sym, cond, map}
+use Rattle.std.proofs.Common.{◌≡◌, ℕ, ◌+◌, ◌≤◌, arith, true, false, Bool, List, [], ◌∷◌, ◌++◌, length, length-append, ◌∙◌, ap, sym, cond, map}
 use Rattle.std.proofs.Math.Path.{subst}
 use Rattle.std.specs.Prelude.{Option, Some, None}
 use Rattle.std.specs.Option.{option_map_or}
@@ -17,11 +17,11 @@ use Rattle.gx_history.specs.Streams.{reports_of, stream}
 use Rattle.gx_history.specs.Verdicts.{IsLegal}
 use Rattle.gx_history_laws.proofs.NextReports.{stream_next}
 use Rattle.gx_streams.specs.declared.fill.ToldFill.{ToldFill}
-use Rattle.gx_streams.specs.Kept.{UserList, items_in, list_of, on_user, places_in, with_kept_last}
+use Rattle.gx_streams.specs.Kept.{UserList, list_of, on_user, with_kept_last}
 use Rattle.gx_streams.specs.Streams.{AllStreams, is_told, on_told, reports_in, with_fill, with_fill_told}
 use Rattle.gx_streams.specs.Telling.{shown, told_after, with_all_owed, with_owed}
 use Rattle.gx_streams.proofs.Finding.{reports_are}
-use Rattle.gx_keepers.specs.Keepers.{HaveAllPlaces, HaveNoFewer, KeepPlaces, KeepRoom, KnowsUsers, room_in, with_told}
+use Rattle.gx_keepers.specs.Keepers.{HaveAllPlaces, HaveNoFewer, KeepPlaces, KeepRoom, KnowsUsers, with_told}
 use Rattle.gx_keepers.specs.Settings.{sent_on, sent_to}
 
 -- the room of a list

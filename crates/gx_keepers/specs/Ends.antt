@@ -15,7 +15,7 @@ use Rattle.gx_history.specs.Orders.{ends_account}
 use Rattle.gx_history.specs.People.{is_trader}
 use Rattle.gx_history.specs.Streams.{lift_code}
 use Rattle.gx_day.specs.DayData.{DayData, killed_in}
-use Rattle.gx_orders.specs.declared.live_order.LiveOrder.{LiveOrder}
+use Rattle.gx_history.specs.declared.live_order.LiveOrder.{LiveOrder}
 use Rattle.gx_orders.specs.Changes.{ended_message}
 use Rattle.gx_orders.specs.LiveOrders.{of_others}
 use Rattle.gx_streams.specs.Kept.{places_in}

@@ -1,19 +1,10 @@
 -- What the keepers hold after these records.
-use Rattle.std.specs.Prelude.{◌≡◌, ℕ, ◌+◌, ◌≤◌, IsTrue, IsFalse, IfSome, List, [], ◌∷◌, ◌++◌, length, Option, Some, None, is_some, option_and_then, ◌&&◌, not, if◌then◌else◌}
+use Rattle.std.specs.Prelude.{◌≡◌, ℕ, ◌+◌, ◌≤◌, IsTrue, List, [], ◌∷◌, ◌++◌, length, Option, Some, None, is_some, ◌&&◌, not, if◌then◌else◌}
 use Rattle.std.specs.List.{filter, AllByRecursion}
-use Rattle.gx_units.specs.Names.{same_account}
-use Rattle.gx_units.specs.declared.names.AccountName.{AccountName}
 use Rattle.gx_units.specs.declared.names.UserName.{UserName}
-use Rattle.gx_desk.specs.declared.Action.{Action}
-use Rattle.gx_desk.specs.declared.Action.TheVariants as actions
-use Rattle.gx_history.specs.declared.policy.Role.{Role}
-use Rattle.gx_history.specs.declared.policy.Role.TheVariants as roles
 use Rattle.gx_history.specs.declared.policy.User.{User}
 use Rattle.gx_history.specs.declared.record.Asked.{Asked}
-use Rattle.gx_history.specs.declared.record.Request.{Request}
 use Rattle.gx_history.specs.declared.record.Step.TheVariants as steps
-use Rattle.gx_history.specs.declared.record.RuleName.{RuleName}
-use Rattle.gx_history.specs.declared.record.Verdict.{Verdict}
 use Rattle.gx_history.specs.declared.report.Message.{Message}
 use Rattle.gx_history.specs.Masks.{mask_by}
 use Rattle.gx_history.specs.People.{is_officer, is_reader, role_in, user_in}
@@ -28,10 +19,8 @@ use Rattle.gx_orders.specs.InForce.{orders_in_force}
 use Rattle.gx_people.specs.Entitled.{people_in_force, sees}
 use Rattle.gx_market.specs.BookInForce.{book_in_force}
 use Rattle.gx_streams.specs.Telling.{shown, told_after}
-use Rattle.gx_orders.specs.declared.live_order.LiveOrder.{LiveOrder}
-use Rattle.gx_orders.specs.declared.live_order.UserToken.{UserToken}
-use Rattle.gx_orders.specs.Changes.{denied_token, marking}
-use Rattle.gx_orders.specs.LiveOrders.{OrdersData, is_of_user, is_used}
+use Rattle.gx_history.specs.declared.live_order.LiveOrder.{LiveOrder}
+use Rattle.gx_orders.specs.LiveOrders.{is_of_user}
 use Rattle.gx_streams.specs.Kept.{places_in, with_kept_last}
 use Rattle.gx_streams.specs.Streams.{AllStreams, ReaderMask, is_told, mask_in, on_told, reports_in}
 use Rattle.gx_places.specs.Places.{has_kept_places, report_places}

@@ -8,7 +8,7 @@ use Rattle.gx_history.specs.declared.record.RecordData.{RecordData}
 use Rattle.gx_history.specs.declared.record.Step.TheVariants as steps
 use Rattle.gx_history.specs.declared.record.Verdict.TheVariants as verdicts
 use Rattle.gx_history.specs.Verdicts.{IsLegal, day_limit, next}
-use Rattle.gx_orders.specs.declared.live_order.LiveOrder.{LiveOrder}
+use Rattle.gx_history.specs.declared.live_order.LiveOrder.{LiveOrder}
 use Rattle.gx_orders.specs.LiveOrders.{first_waiting}
 use Rattle.gx_streams.specs.declared.fill.FillSide.{FillSide}
 use Rattle.gx_keepers.specs.declared.keepers.Keepers.{Keepers}

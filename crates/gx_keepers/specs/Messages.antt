@@ -13,7 +13,7 @@ use Rattle.gx_history.specs.declared.record.RecordData.{RecordData}
 use Rattle.gx_history.specs.declared.report.Message.{Message}
 use Rattle.gx_history.specs.declared.report.Message.TheVariants as messages
 use Rattle.gx_history.specs.Streams.{with_shares}
-use Rattle.gx_orders.specs.declared.live_order.LiveOrder.{LiveOrder}
+use Rattle.gx_history.specs.declared.live_order.LiveOrder.{LiveOrder}
 
 -- Accepted: the order as it was asked for, with the number of its record
 abbrev pub accepted_message : LiveOrder → Message

@@ -13,15 +13,15 @@ ghost use Rattle.gx_keepers.specs.Keepers.{IsPlaced, IsSure, KeepPlacesAfter};
 ghost use Rattle.gx_keepers.specs.Keepers.{KeepPlacesBefore, KeepRoom};
 
 use crate::commands::apply_command;
-use crate::figures::{open_order, placed};
 use crate::keepers::Keepers;
 use crate::listed::firm_of;
 use crate::next_record::NextRecord;
 use crate::places::keep_places;
 use crate::reports::{accepted, canceled, replaced, reports_of_denial, tell};
+use gx_history::live_order::LiveOrder;
 use gx_history::policy::Policy;
 use gx_history::record::{Asked, RecordData, Request, RuleName, Verdict};
-use gx_orders::live_order::LiveOrder;
+use gx_market::standing::{leave, take_out};
 use gx_ouch::{CancelOrder, CancelReason, EnterOrder, OrderTerms, ReplaceOrder};
 use gx_units::{AccountName, Moment, OutOfMemory, UserName};
 
@@ -104,8 +104,7 @@ fn apply_enter(
     };
     let order = order_of(next.policy, next.left, next.asked.user, account, m);
     keepers.orders.enter(order)?;
-    let handed = placed(&order, next.left.moment, false);
-    keepers.ledger.accept(&handed);
+    keepers.ledger.accept(&order, next.left.moment, false);
     tell(
         &mut keepers.streams,
         next.asked.user,
@@ -124,8 +123,8 @@ fn cut_from(order: &LiveOrder, total: u32) -> u32
         .saturating_sub(total.saturating_sub(order.done))
 }
 
-/// A granted Cancel: its order has another size, the book and the ledger so many shares less of it,
-/// and its user is told. An order with nothing open is gone.
+/// A granted Cancel: its order has another size, the ledger so many shares less of it, and its user
+/// is told. An order with nothing open is gone, out of the book too.
 fn apply_cancel(keepers: &mut Keepers, next: NextRecord<'_>, m: &CancelOrder)
     requires takes { IsNext next keepers.old }
     requires places { IsPlaced next keepers.old }
@@ -140,9 +139,12 @@ fn apply_cancel(keepers: &mut Keepers, next: NextRecord<'_>, m: &CancelOrder)
     };
     let fewer = cut_from(&order, m.shares);
     keepers.orders.cut(order.number, m.shares);
-    keepers.book.reduce(order.number, fewer);
-    let named = open_order(&order);
-    keepers.ledger.cut(&named, fewer);
+    leave(
+        &mut keepers.book,
+        &order,
+        m.shares.saturating_sub(order.done),
+    );
+    keepers.ledger.cut(&order, fewer);
     let message = canceled(&order, fewer, CancelReason::UserRequested);
     tell(&mut keepers.streams, user, next.left.moment, Some(message));
 }
@@ -169,11 +171,9 @@ fn apply_replace(
     let new = old.replaced_by(next.left, m);
     keepers.orders.enter(new)?;
     keepers.orders.end(old.number);
-    keepers.book.remove(old.number);
-    let gone = open_order(&old);
-    let handed = placed(&new, next.left.moment, true);
-    keepers.ledger.close(&gone);
-    keepers.ledger.accept(&handed);
+    take_out(&mut keepers.book, &old);
+    keepers.ledger.close(&old);
+    keepers.ledger.accept(&new, next.left.moment, true);
     let message = replaced(&new, old.token);
     tell(&mut keepers.streams, user, next.left.moment, Some(message));
     Ok(())

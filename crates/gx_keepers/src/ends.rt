@@ -8,7 +8,6 @@ ghost use Rattle.gx_orders.specs.Changes.{is_lasting, with_live};
 ghost use Rattle.gx_keepers.specs.Ends.{live_left, owed_by_ends, told_of_ends, HaveOwedPlaces};
 ghost use Rattle.gx_keepers.specs.Ledgers.{ended_orders};
 
-use crate::figures::open_order;
 use crate::reports::ended;
 use gx_book::book::Book;
 use gx_desk::Action;
@@ -66,7 +65,7 @@ fn close_ended(ledger: &mut Ledger, orders: &Orders, action: &Action)
 {
     for order in orders.live() {
         if ends_account(order.account, action) {
-            ledger.close(&open_order(order));
+            ledger.close(order);
         }
     }
 }

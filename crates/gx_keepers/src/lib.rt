@@ -10,7 +10,6 @@
 pub mod apply;
 mod commands;
 mod ends;
-mod figures;
 pub mod keepers;
 pub mod listed;
 pub mod matching;

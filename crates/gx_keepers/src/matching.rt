@@ -9,16 +9,15 @@ ghost use Rattle.gx_keepers.specs.Matching.{AreAfterMatch, AreAfterMatchBut, Are
 ghost use Rattle.gx_keepers.specs.Matching.{told_side, IsMatchPlaced, IsMatchPlacedWhole, IsNextMatch};
 ghost use Rattle.gx_keepers.specs.Matching.{KeepPlacesAfterMatch, KeepPlacesBeforeMatch};
 
-use crate::figures::open_order;
 use crate::keepers::Keepers;
 use crate::listed::place_of;
 use crate::next_record::NextMatch;
 use crate::places::keep_match_places;
 use crate::reports::{canceled, tell};
+use gx_history::live_order::LiveOrder;
 use gx_history::policy::Policy;
 use gx_history::record::{Fill, Verdict};
-use gx_market::meeting::{opposite, resting_of};
-use gx_orders::live_order::LiveOrder;
+use gx_market::standing::{leave, put_to_rest};
 use gx_ouch::CancelReason;
 use gx_streams::fill::{FillSide, ToldFill};
 use gx_units::OutOfMemory;
@@ -37,7 +36,7 @@ fn side_of(policy: &Policy, order: &LiveOrder) -> FillSide
 }
 
 /// A fill: both users are told, and each reader of either account; both orders execute its shares,
-/// the best in the book has so many less, and the ledger counts it.
+/// the one that rested leaves the book where nothing of it is left, and the ledger counts it.
 fn apply_fill(keepers: &mut Keepers, next: NextMatch<'_>, f: Fill) -> Result<(), OutOfMemory>
     requires takes { IsNextMatch next keepers.old }
     requires fills { next.left.now.verdict ≡ verdicts.Filled f }
@@ -63,13 +62,9 @@ fn apply_fill(keepers: &mut Keepers, next: NextMatch<'_>, f: Fill) -> Result<(),
     })?;
     keepers.orders.fill(f.taker, f.shares);
     keepers.orders.fill(f.maker, f.shares);
-    let against = opposite(taker.terms.side);
-    keepers
-        .book
-        .take_from_best(taker.terms.stock, against, f.shares);
-    let came = open_order(taker);
-    let rested = open_order(&maker);
-    keepers.ledger.fill(&came, &rested, f.shares, f.price);
+    let left = maker.open().saturating_sub(f.shares);
+    leave(&mut keepers.book, &maker, left);
+    keepers.ledger.fill(taker, &maker, f.shares, f.price);
     Ok(())
 }
 
@@ -83,7 +78,7 @@ fn apply_rest(keepers: &mut Keepers, next: NextMatch<'_>, number: u64) -> Result
     ensures err { OnErr result (AreBeforeMatch next.entry keepers.new) }
     ensures kept_before { OnErr result (KeepPlacesBeforeMatch next.entry keepers.new) }
 {
-    keepers.book.rest(resting_of(next.first))?;
+    put_to_rest(&mut keepers.book, next.first)?;
     keepers.orders.rest(number);
     Ok(())
 }
@@ -100,8 +95,7 @@ fn apply_expiry(keepers: &mut Keepers, next: NextMatch<'_>, number: u64)
 {
     keepers.orders.end(number);
     let order = next.first;
-    let ended = open_order(order);
-    keepers.ledger.close(&ended);
+    keepers.ledger.close(order);
     let message = canceled(order, order.open(), CancelReason::ImmediateOrCancel);
     tell(
         &mut keepers.streams,

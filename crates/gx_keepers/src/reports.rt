@@ -12,10 +12,10 @@ ghost use Rattle.gx_keepers.specs.Messages.{accepted_message, answer_message, ca
 ghost use Rattle.gx_keepers.specs.Messages.{day_end_message, replaced_message};
 
 use gx_desk::{Answer, AnswerCode, Command};
+use gx_history::live_order::LiveOrder;
 use gx_history::policy::{FileRule, Policy, RuleKind};
 use gx_history::record::{RecordData, Request, RuleName};
 use gx_history::report::{Message, Report};
-use gx_orders::live_order::LiveOrder;
 use gx_orders::request_tokens::new_token;
 use gx_ouch::{
     Accepted, CancelReason, Canceled, EventCode, OrderTerms, Outbound, RejectReason, Rejected,

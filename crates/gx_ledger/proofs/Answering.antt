@@ -9,7 +9,9 @@ use Rattle.gx_units.specs.Money.{value}
 use Rattle.gx_units.specs.Names.{same_account, same_stock}
 use Rattle.gx_units.specs.declared.names.AccountName.{AccountName}
 use Rattle.gx_units.specs.declared.names.Symbol.{Symbol}
-use Rattle.gx_history.specs.declared.facts.NamedOrder.{NamedOrder}
+use Rattle.gx_ouch.specs.declared.outbound.OrderTerms.{OrderTerms}
+use Rattle.gx_history.specs.LiveOrders.{shares_open}
+use Rattle.gx_history.specs.declared.live_order.LiveOrder.{LiveOrder}
 use Rattle.gx_history.specs.declared.facts.RuleFigures.{RuleFigures}
 use Rattle.gx_history.specs.declared.facts.StockSide.{StockSide}
 use Rattle.gx_history.specs.declared.policy.Account.{Account}
@@ -43,8 +45,8 @@ use Rattle.gx_ledger.specs.declared.tally.Tally.{Tally}
 use Rattle.gx_ledger.specs.declared.tally.Wanted.{Wanted}
 use Rattle.gx_ledger.specs.Keeping.{Kept, account_names, account_place, price_of, reference_for, side_wanted, stock_wanted}
 use Rattle.gx_ledger.specs.Running.{capped_signed, net_of, no_sides, on_its_side, sides_at}
-use Rattle.gx_ledger.specs.StandsFor.{GivesFigures, IsMadeIn, IsNamedIfAny, StandsFor, both_sides, group_of, members_of, side_sums_of, sides_of, tally_of, total_of}
-use Rattle.gx_ledger.specs.Tallies.{asks_of, count_of, figures_among, figures_of_group, live_in, net_in, place_in, tally_figures}
+use Rattle.gx_ledger.specs.StandsFor.{GivesFigures, IsMadeIn, IsHeldIfAny, StandsFor, both_sides, group_of, members_of, side_sums_of, sides_of, tally_of, total_of}
+use Rattle.gx_ledger.specs.Tallies.{asks_of, count_of, figures_among, figures_of_group, live_in, net_in, place_in, tally_figures, value_open}
 use Rattle.gx_ledger.specs.Told.{figures_at}
 use Rattle.gx_ledger.proofs.Counted.{alike_is, recent_counted}
 use Rattle.gx_ledger.proofs.Counting.{map_twice, place-cons}
@@ -187,10 +189,10 @@ module _ (policy : PolicyData) (held : Positions) (among : AccountName → Bool)
   live_answers (Some side) = ap (λ (s : SideSums). s.live) (side_answers side.stock side.buys)
 
 -- for one request
-module _ (policy : PolicyData) (held : Positions) (account : AccountName) (q : Request) (replaced : Option NamedOrder) (r : Option Standing) (moment : ℕ) (sound : AreSound policy held) (all_made : AllByRecursion (IsMadeIn policy) held.executions)
+module _ (policy : PolicyData) (held : Positions) (account : AccountName) (q : Request) (replaced : Option LiveOrder) (r : Option Standing) (moment : ℕ) (sound : AreSound policy held) (all_made : AllByRecursion (IsMadeIn policy) held.executions)
     (known : is_some (account_named policy account) ≡ true)
-    (open_is : option_map_or (λ (o : NamedOrder). o.open_shares) replaced 0 ≡ option_map_or (λ (s : Standing). s.open_shares) r 0)
-    (value_is : option_map_or (λ (o : NamedOrder). value o.open_shares o.price) replaced 0 ≡ option_map_or open_value r 0) where
+    (open_is : option_map_or shares_open replaced 0 ≡ option_map_or (λ (s : Standing). s.open_shares) r 0)
+    (value_is : option_map_or value_open replaced 0 ≡ option_map_or open_value r 0) where
   abbrev asking : Wanted
   asking = record {
     account = account;
@@ -257,13 +259,13 @@ price_answers : (policy : PolicyData) (k : Kept) (held : Positions) → StandsFo
 price_answers policy k held stands stock = ap (λ prices. price_of prices stock) stands.prices ∙ value_answers policy (reference policy held.executions) 0 stock (stands.unlisted stock)
 
 -- the order that is named, and the standing of its number
-record Agrees (q : Request) (replaced : Option NamedOrder) (r : Option Standing) : Type 0 where
-  open_is : option_map_or (λ (o : NamedOrder). o.open_shares) replaced 0 ≡ option_map_or (λ (s : Standing). s.open_shares) r 0
-  value_is : option_map_or (λ (o : NamedOrder). value o.open_shares o.price) replaced 0 ≡ option_map_or open_value r 0
+record Agrees (q : Request) (replaced : Option LiveOrder) (r : Option Standing) : Type 0 where
+  open_is : option_map_or shares_open replaced 0 ≡ option_map_or (λ (s : Standing). s.open_shares) r 0
+  value_is : option_map_or value_open replaced 0 ≡ option_map_or open_value r 0
   stock_is : stock_wanted q replaced ≡ stock_asked q r
   side_is : side_wanted q replaced ≡ side_asked q r
 
-same_stock_asked : (q : Request) (replaced : Option NamedOrder) (r : Option Standing) → option_map (λ (o : NamedOrder). o.stock) replaced ≡ option_map (λ (s : Standing). s.order.terms.stock) r → stock_wanted q replaced ≡ stock_asked q r
+same_stock_asked : (q : Request) (replaced : Option LiveOrder) (r : Option Standing) → option_map (λ (o : LiveOrder). o.terms.stock) replaced ≡ option_map (λ (s : Standing). s.order.terms.stock) r → stock_wanted q replaced ≡ stock_asked q r
 same_stock_asked (requests.Enter m) replaced r same = refl
 same_stock_asked (requests.Replace m) replaced r same = same
 same_stock_asked (requests.Cancel m) replaced r same = same
@@ -272,8 +274,8 @@ same_stock_asked requests.Logout replaced r same = same
 same_stock_asked (requests.Unreadable m) replaced r same = same
 same_stock_asked (requests.Command m) replaced r same = same
 
-same_side_asked : (q : Request) (replaced : Option NamedOrder) (r : Option Standing)
-    → option_map {U = StockSide} (λ (o : NamedOrder). record { stock = o.stock; buys = is_buy o.side }) replaced ≡ option_map {U = StockSide} (λ (s : Standing). record { stock = s.order.terms.stock; buys = is_buy s.order.terms.side }) r
+same_side_asked : (q : Request) (replaced : Option LiveOrder) (r : Option Standing)
+    → option_map {U = StockSide} (λ (o : LiveOrder). record { stock = o.terms.stock; buys = is_buy o.terms.side }) replaced ≡ option_map {U = StockSide} (λ (s : Standing). record { stock = s.order.terms.stock; buys = is_buy s.order.terms.side }) r
     → side_wanted q replaced ≡ side_asked q r
 same_side_asked (requests.Enter m) replaced r same = refl
 same_side_asked (requests.Replace m) replaced r same = same
@@ -283,15 +285,15 @@ same_side_asked requests.Logout replaced r same = same
 same_side_asked (requests.Unreadable m) replaced r same = same
 same_side_asked (requests.Command m) replaced r same = same
 
-agree : (held : Positions) (q : Request) (replaced : Option NamedOrder) → IsNamedIfAny held replaced → Agrees q replaced (option_and_then (standing_numbered held.standings) (option_map (λ (o : NamedOrder). o.order) replaced))
+agree : (held : Positions) (q : Request) (replaced : Option LiveOrder) → IsHeldIfAny held replaced → Agrees q replaced (option_and_then (standing_numbered held.standings) (option_map (λ (o : LiveOrder). o.number) replaced))
 agree held q None named = record { open_is = refl; value_is = refl; stock_is = same_stock_asked q None None refl; side_is = same_side_asked q None None refl }
 agree held q (Some o) named =
     record {
       open_is = sym (ap (λ found. option_map_or (λ (s : Standing). s.open_shares) found 0) named.is_found ∙ named.open_shares);
-      value_is = sym (ap (λ found. option_map_or open_value found 0) named.is_found ∙ (λ i. value (named.open_shares i) (named.price i)));
-      stock_is = same_stock_asked q (Some o) (standing_numbered held.standings o.order) (sym (ap (option_map (λ (s : Standing). s.order.terms.stock)) named.is_found ∙ ap Some named.stock));
-      side_is = same_side_asked q (Some o) (standing_numbered held.standings o.order)
-          (sym (ap (option_map {U = StockSide} (λ (s : Standing). record { stock = s.order.terms.stock; buys = is_buy s.order.terms.side })) named.is_found ∙ (λ i. Some (record { stock = named.stock i; buys = is_buy (named.side i) }))));
+      value_is = sym (ap (λ found. option_map_or open_value found 0) named.is_found ∙ (λ i. value (named.open_shares i) (named.terms i).price));
+      stock_is = same_stock_asked q (Some o) (standing_numbered held.standings o.number) (sym (ap (option_map (λ (s : Standing). s.order.terms.stock)) named.is_found ∙ ap (λ (t : OrderTerms). Some t.stock) named.terms));
+      side_is = same_side_asked q (Some o) (standing_numbered held.standings o.number)
+          (sym (ap (option_map {U = StockSide} (λ (s : Standing). record { stock = s.order.terms.stock; buys = is_buy s.order.terms.side })) named.is_found ∙ (λ i. Some (record { stock = (named.terms i).stock; buys = is_buy (named.terms i).side }))));
     }
 
 same_price : (f g : Symbol → ℕ) → ((stock : Symbol) → f stock ≡ g stock) → (o : Option Symbol) → option_map_or f o 0 ≡ option_map_or g o 0
@@ -311,7 +313,7 @@ told_by_rule f t g same (rule ∷ rules) =
     λ i. (rule, same rule i) ∷ (shifted (λ place. option_map_or f (slice_get (t rule ∷ map t rules) place) no_figures) 0 rules ∙ told_by_rule f t g same rules) i
 
 -- the figures of all rules
-pub figures_answer : (k : Kept) (account : AccountName) (q : Request) (replaced : Option NamedOrder) (moment : ℕ)
+pub figures_answer : (k : Kept) (account : AccountName) (q : Request) (replaced : Option LiveOrder) (moment : ℕ)
     → GivesFigures k account q replaced moment (record {
       tallies = k.tallies;
       wanted = record {
@@ -325,7 +327,7 @@ pub figures_answer : (k : Kept) (account : AccountName) (q : Request) (replaced 
       };
     })
 figures_answer k account q replaced moment policy held stands sound known named =
-    let number : Option ℕ = option_map (λ (o : NamedOrder). o.order) replaced in
+    let number : Option ℕ = option_map (λ (o : LiveOrder). o.number) replaced in
     let r : Option Standing = option_and_then (standing_numbered held.standings) number in
     let agrees : Agrees q replaced r = agree held q replaced named in
     let names : List AccountName = account_names policy.accounts in

@@ -10,6 +10,7 @@ use Rattle.gx_units.specs.Names.{same_account, same_stock}
 use Rattle.gx_units.specs.declared.names.AccountName.{AccountName}
 use Rattle.gx_units.specs.declared.names.Symbol.{Symbol}
 use Rattle.std.specs.Cmp.Lexicographic.{nat_list_eq_equiv}
+use Rattle.gx_history.specs.declared.live_order.LiveOrder.{LiveOrder}
 use Rattle.gx_history.specs.declared.policy.Count.{Count}
 use Rattle.gx_history.specs.declared.policy.Count.TheVariants as counts
 use Rattle.gx_history.specs.declared.policy.FileRule.{FileRule}
@@ -19,37 +20,43 @@ use Rattle.gx_history.specs.declared.policy.Stock.{Stock}
 use Rattle.gx_history.specs.Book.{is_buy}
 use Rattle.gx_history.specs.Figures.{is_on}
 use Rattle.gx_history.specs.Lists.{are_distinct}
+use Rattle.gx_history.specs.LiveOrders.{shares_open}
 use Rattle.gx_history.specs.People.{covers}
 use Rattle.gx_history_laws.proofs.Names.{same_account_flip}
 use Rattle.gx_ledger.specs.declared.group.Group.{Group}
-use Rattle.gx_ledger.specs.declared.placed.Change.{Change}
-use Rattle.gx_ledger.specs.declared.placed.Change.TheVariants as changes
+use Rattle.gx_ledger.specs.declared.change.Change.{Change}
+use Rattle.gx_ledger.specs.declared.change.ChangeKind.{ChangeKind}
+use Rattle.gx_ledger.specs.declared.change.ChangeKind.TheVariants as changes
 use Rattle.gx_ledger.specs.declared.sides.SideSums.{SideSums}
 use Rattle.gx_ledger.specs.declared.sides.StockSums.{StockSums}
 use Rattle.gx_ledger.specs.declared.tally.Asks.{Asks}
 use Rattle.gx_ledger.specs.Keeping.{Kept, account_place, kept_noted, noted}
-use Rattle.gx_ledger.specs.Running.{account_changed, changed_group, changed_side, entered_as, noted_sides, open_when_placed, pushed, side_changed, stock_changed, with_done, with_live, without_live}
+use Rattle.gx_ledger.specs.Running.{changed_group, changed_side, changed_so, entered_as, noted_sides, pushed, with_done, with_live, without_live}
 use Rattle.gx_ledger.specs.StandsFor.{Total, group_of, members_of, ring, sides_of, tally_of}
 use Rattle.gx_ledger.specs.Tallies.{asks_of, changed_in, count_of, place_in, room_for_enters, room_for_moments, stocks_for, tally_after}
 
 -- the change is of an order on this side of the stock
 abbrev pub changes_side : Change → Symbol → Bool → Bool
-changes_side change stock buys = same_stock (stock_changed change) stock && is_on buys (side_changed change)
+changes_side change stock buys = same_stock change.order.terms.stock stock && is_on buys change.order.terms.side
 
 -- what counts on each side of each stock, once an order of the accounts has changed
 abbrev pub sides_after : Change → (Symbol → Bool → SideSums) → Symbol → Bool → SideSums
-sides_after change sides stock buys = cond (changes_side change stock buys) (changed_side change (sides stock buys)) (sides stock buys)
+sides_after change sides stock buys = cond (changes_side change stock buys) (changed_side change.order change.kind (sides stock buys)) (sides stock buys)
+
+-- what counts but for the sides, once an order changed so
+abbrev pub total_so : LiveOrder → ChangeKind → Total → Total
+total_so o (changes.Accepted moment replacement) t = record {
+  sums = with_live (shares_open o) o.terms.price t.sums;
+  moments = t.moments ++ moment ∷ [];
+  enters = cond replacement t.enters (t.enters ++ entered_as o ∷ []);
+  sides = t.sides;
+}
+total_so o (changes.Left shares) t = record t { sums = without_live shares o.terms.price t.sums }
+total_so o (changes.Executed shares price) t = record t { sums = with_done shares price t.sums }
 
 -- what counts of the accounts that a change is of
 abbrev pub changed_total : Change → Total → Total
-changed_total (changes.Accepted p) t = record {
-  sums = with_live (open_when_placed p) p.price t.sums;
-  moments = t.moments ++ p.moment ∷ [];
-  enters = cond p.replacement t.enters (t.enters ++ entered_as p ∷ []);
-  sides = sides_after (changes.Accepted p) t.sides;
-}
-changed_total (changes.Left part) t = record { sums = without_live part.shares part.price t.sums; moments = t.moments; enters = t.enters; sides = sides_after (changes.Left part) t.sides }
-changed_total (changes.Executed part) t = record { sums = with_done part.shares part.price t.sums; moments = t.moments; enters = t.enters; sides = sides_after (changes.Executed part) t.sides }
+changed_total change t = total_so change.order change.kind (record t { sides = sides_after change t.sides })
 
 -- what counts of any accounts
 abbrev pub Totals : Type 0
@@ -57,7 +64,7 @@ Totals = (AccountName → Bool) → Total
 
 -- and what does after a change
 abbrev pub totals_after : Change → Totals → Totals
-totals_after change totals among = cond (among (account_changed change)) (changed_total change (totals among)) (totals among)
+totals_after change totals among = cond (among change.order.account) (changed_total change (totals among)) (totals among)
 
 -- the ring of one more item
 pub pushed_ring : {X : Type 0} (n : ℕ) (xs : List X) (x : X) → pushed x (ring n xs) ≡ ring n (xs ++ x ∷ [])
@@ -77,7 +84,7 @@ pushed_ring n xs x =
 -- the sums of each stock follow
 sides_changed : (change : Change) (sides : Symbol → Bool → SideSums) (stocks : List Stock) → noted_sides change (sides_of sides stocks) ≡ sides_of (sides_after change sides) stocks
 sides_changed change sides [] = refl
-sides_changed change sides (s ∷ stocks) = λ i. (s.name, by (same_stock (stock_changed change) s.name) (is_buy (side_changed change)) i) ∷ sides_changed change sides stocks i
+sides_changed change sides (s ∷ stocks) = λ i. (s.name, by (same_stock change.order.terms.stock s.name) (is_buy change.order.terms.side) i) ∷ sides_changed change sides stocks i
   where
     buys : SideSums
     buys = sides s.name true
@@ -86,30 +93,33 @@ sides_changed change sides (s ∷ stocks) = λ i. (s.name, by (same_stock (stock
     sells = sides s.name false
 
     by : (b c : Bool)
-        → cond {A = StockSums} b (cond c (record { buys = changed_side change buys; sells = sells }) (record { buys = buys; sells = changed_side change sells })) (record { buys = buys; sells = sells })
-        ≡ record { buys = cond (b && c) (changed_side change buys) buys; sells = cond (b && not c) (changed_side change sells) sells }
+        → cond {A = StockSums} b (cond c (record { buys = changed_side change.order change.kind buys; sells = sells }) (record { buys = buys; sells = changed_side change.order change.kind sells })) (record { buys = buys; sells = sells })
+        ≡ record { buys = cond (b && c) (changed_side change.order change.kind buys) buys; sells = cond (b && not c) (changed_side change.order change.kind sells) sells }
     by true true = refl
     by true false = refl
     by false c = refl
 
 -- a group follows what counts
 pub group_changed : (stocks : List Stock) (change : Change) (asked : Asks) (t : Total) → changed_group change (group_of stocks asked t) ≡ group_of stocks asked (changed_total change t)
-group_changed stocks (changes.Accepted p) asked t = λ i. record {
-  sums = with_live (open_when_placed p) p.price t.sums;
-  moments = pushed_ring (room_for_moments asked) t.moments p.moment i;
-  enters = by p.replacement i;
-  sides = sides_changed (changes.Accepted p) t.sides (stocks_for asked stocks) i;
-}
+group_changed stocks change asked t =
+    ap (λ sides. changed_so change.order change.kind (record (group_of stocks asked t) { sides = sides })) (sides_changed change t.sides (stocks_for asked stocks))
+    ∙ by change.order change.kind
   where
-    by : (b : Bool) → cond b (ring (room_for_enters asked) t.enters) (pushed (entered_as p) (ring (room_for_enters asked) t.enters)) ≡ ring (room_for_enters asked) (cond b t.enters (t.enters ++ entered_as p ∷ []))
-    by true = refl
-    by false = pushed_ring (room_for_enters asked) t.enters (entered_as p)
-group_changed stocks (changes.Left part) asked t =
-    ap (λ sides. record { sums = without_live part.shares part.price t.sums; moments = ring (room_for_moments asked) t.moments; enters = ring (room_for_enters asked) t.enters; sides = sides })
-    (sides_changed (changes.Left part) t.sides (stocks_for asked stocks))
-group_changed stocks (changes.Executed part) asked t =
-    ap (λ sides. record { sums = with_done part.shares part.price t.sums; moments = ring (room_for_moments asked) t.moments; enters = ring (room_for_enters asked) t.enters; sides = sides })
-    (sides_changed (changes.Executed part) t.sides (stocks_for asked stocks))
+    told : Total
+    told = record t { sides = sides_after change t.sides }
+
+    by : (o : LiveOrder) (kind : ChangeKind) → changed_so o kind (group_of stocks asked told) ≡ group_of stocks asked (total_so o kind told)
+    by o (changes.Accepted moment replacement) = λ i. record (group_of stocks asked told) {
+      sums = with_live (shares_open o) o.terms.price t.sums;
+      moments = pushed_ring (room_for_moments asked) t.moments moment i;
+      enters = entered replacement i;
+    }
+      where
+        entered : (b : Bool) → cond b (ring (room_for_enters asked) t.enters) (pushed (entered_as o) (ring (room_for_enters asked) t.enters)) ≡ ring (room_for_enters asked) (cond b t.enters (t.enters ++ entered_as o ∷ []))
+        entered true = refl
+        entered false = pushed_ring (room_for_enters asked) t.enters (entered_as o)
+    by o (changes.Left shares) = refl
+    by o (changes.Executed shares price) = refl
 
 both_less : (m n : ℕ) → ltb (suc m) (suc n) ≡ ltb m n
 both_less m n = by (ltb m n) refl
@@ -160,7 +170,7 @@ right_true false b h = cc
 
 module _ (stocks : List Stock) (change : Change) (scope : Scope) (asked : Asks) (totals : Totals) where
   abbrev x : AccountName
-  x = account_changed change
+  x = change.order.account
 
   abbrev member : AccountName → AccountName → Bool
   member name account = covers scope account && same_account name account
@@ -206,11 +216,11 @@ module _ (stocks : List Stock) (change : Change) (scope : Scope) (asked : Asks) 
       by false h deeper = changed-cons (account_place names x) (changed_group change) (before n) (map before names) ∙ (λ i. another n h i ∷ deeper i)
 
 -- groups of members that the change is not of
-apart : (stocks : List Stock) (change : Change) (scope : Scope) (asked : Asks) (totals : Totals) (names : List AccountName) → covers scope (account_changed change) ≡ false
+apart : (stocks : List Stock) (change : Change) (scope : Scope) (asked : Asks) (totals : Totals) (names : List AccountName) → covers scope change.order.account ≡ false
     → map (before stocks change scope asked totals) names ≡ map (after stocks change scope asked totals) names
 apart stocks change scope asked totals [] outside = refl
 apart stocks change scope asked totals (n ∷ names) outside =
-    λ i. group_of stocks asked (cond (sym (ap (λ b. b && same_account n (account_changed change)) outside) i) (changed_total change (totals (member stocks change scope asked totals n))) (totals (member stocks change scope asked totals n)))
+    λ i. group_of stocks asked (cond (sym (ap (λ b. b && same_account n change.order.account) outside) i) (changed_total change (totals (member stocks change scope asked totals n))) (totals (member stocks change scope asked totals n)))
     ∷ apart stocks change scope asked totals names outside i
 
 pub map_twice : {X Y Z : Type 0} (g : Y → Z) (f : X → Y) (xs : List X) → map g (map f xs) ≡ map (λ x. g (f x)) xs
@@ -219,38 +229,38 @@ map_twice g f (x ∷ xs) = ap (λ l. g (f x) ∷ l) (map_twice g f xs)
 
 -- the groups of a rule follow
 groups_changed : (stocks : List Stock) (change : Change) (totals : Totals) (names : List AccountName) (count : Option Count) (asked : Asks) (scope : Scope) → are_distinct same_account names ≡ true
-    → cond (covers scope (account_changed change))
-    (changed_in (place_in count (account_place names (account_changed change))) (changed_group change) (map (λ (among : AccountName → Bool). group_of stocks asked (totals among)) (members_of count scope names)))
+    → cond (covers scope change.order.account)
+    (changed_in (place_in count (account_place names change.order.account)) (changed_group change) (map (λ (among : AccountName → Bool). group_of stocks asked (totals among)) (members_of count scope names)))
     (map (λ (among : AccountName → Bool). group_of stocks asked (totals among)) (members_of count scope names))
     ≡ map (λ (among : AccountName → Bool). group_of stocks asked (totals_after change totals among)) (members_of count scope names)
-groups_changed stocks change totals names None asked scope distinct = either (covers scope (account_changed change))
+groups_changed stocks change totals names None asked scope distinct = either (covers scope change.order.account)
   where
     either : (b : Bool) → cond {A = List Group} b [] [] ≡ []
     either true = refl
     either false = refl
-groups_changed stocks change totals names (Some counts.Together) asked scope distinct = by (covers scope (account_changed change))
+groups_changed stocks change totals names (Some counts.Together) asked scope distinct = by (covers scope change.order.account)
   where
     by : (b : Bool) → cond b (changed_group change (group_of stocks asked (totals (covers scope))) ∷ []) (group_of stocks asked (totals (covers scope)) ∷ [])
         ≡ group_of stocks asked (cond b (changed_total change (totals (covers scope))) (totals (covers scope))) ∷ []
     by true = ap (λ g. g ∷ []) (group_changed stocks change asked (totals (covers scope)))
     by false = refl
 groups_changed stocks change totals names (Some counts.Each) asked scope distinct =
-    (λ i. cond (covers scope (account_changed change)) (changed_in (account_place names (account_changed change)) (changed_group change) (first i)) (first i))
-    ∙ by (covers scope (account_changed change)) refl
+    (λ i. cond (covers scope change.order.account) (changed_in (account_place names change.order.account) (changed_group change) (first i)) (first i))
+    ∙ by (covers scope change.order.account) refl
     ∙ sym (map_twice (λ (among : AccountName → Bool). group_of stocks asked (totals_after change totals among)) (λ (name : AccountName). member stocks change scope asked totals name) names)
   where
     first : map (λ (among : AccountName → Bool). group_of stocks asked (totals among)) (members_of (Some counts.Each) scope names) ≡ map (before stocks change scope asked totals) names
     first = map_twice (λ (among : AccountName → Bool). group_of stocks asked (totals among)) (λ (name : AccountName). member stocks change scope asked totals name) names
 
-    by : (b : Bool) → covers scope (account_changed change) ≡ b
-        → cond b (changed_in (account_place names (account_changed change)) (changed_group change) (map (before stocks change scope asked totals) names)) (map (before stocks change scope asked totals) names)
+    by : (b : Bool) → covers scope change.order.account ≡ b
+        → cond b (changed_in (account_place names change.order.account) (changed_group change) (map (before stocks change scope asked totals) names)) (map (before stocks change scope asked totals) names)
         ≡ map (after stocks change scope asked totals) names
     by true h = each_changed stocks change scope asked totals names distinct h
     by false h = apart stocks change scope asked totals names h
 
 -- a rule's tally follows
 pub tally_changed : (stocks : List Stock) (change : Change) (totals : Totals) (names : List AccountName) → are_distinct same_account names ≡ true → (rule : FileRule)
-    → tally_after change (account_place names (account_changed change)) (tally_of stocks names totals rule) ≡ tally_of stocks names (totals_after change totals) rule
+    → tally_after change (account_place names change.order.account) (tally_of stocks names totals rule) ≡ tally_of stocks names (totals_after change totals) rule
 tally_changed stocks change totals names distinct rule = λ i. record {
   scope = rule.scope;
   asks = asks_of rule.kind;
@@ -260,7 +270,7 @@ tally_changed stocks change totals names distinct rule = λ i. record {
 
 -- all tallies follow
 pub tallies_changed : (stocks : List Stock) (change : Change) (totals : Totals) (names : List AccountName) → are_distinct same_account names ≡ true → (rules : List FileRule)
-    → noted change (account_place names (account_changed change)) (map (tally_of stocks names totals) rules) ≡ map (tally_of stocks names (totals_after change totals)) rules
+    → noted change (account_place names change.order.account) (map (tally_of stocks names totals) rules) ≡ map (tally_of stocks names (totals_after change totals)) rules
 tallies_changed stocks change totals names distinct [] = refl
 tallies_changed stocks change totals names distinct (rule ∷ rules) = λ i. tally_changed stocks change totals names distinct rule i ∷ tallies_changed stocks change totals names distinct rules i
 
@@ -268,4 +278,4 @@ tallies_changed stocks change totals names distinct (rule ∷ rules) = λ i. tal
 pub kept_follows : (policy : PolicyData) (k : Kept) (totals : Totals) (change : Change) → are_distinct same_account k.accounts ≡ true → k.tallies ≡ map (tally_of policy.stocks k.accounts totals) policy.rules
     → (kept_noted change k).tallies ≡ map (tally_of policy.stocks k.accounts (totals_after change totals)) policy.rules
 kept_follows policy k totals change distinct is =
-    ap (noted change (account_place k.accounts (account_changed change))) is ∙ tallies_changed policy.stocks change totals k.accounts distinct policy.rules
+    ap (noted change (account_place k.accounts change.order.account)) is ∙ tallies_changed policy.stocks change totals k.accounts distinct policy.rules

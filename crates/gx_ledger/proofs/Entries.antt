@@ -15,7 +15,7 @@ use Rattle.gx_history.specs.declared.policy.Stock.{Stock}
 use Rattle.gx_history.specs.Lists.{are_distinct}
 use Rattle.gx_history_laws.proofs.Names.{stock_is}
 use Rattle.gx_ledger.specs.Keeping.{account_names, priced}
-use Rattle.gx_ledger.specs.declared.placed.Change.{Change}
+use Rattle.gx_ledger.specs.declared.change.Change.{Change}
 use Rattle.gx_ledger.specs.declared.sides.StockSums.{StockSums}
 use Rattle.gx_ledger.specs.Running.{noted_sides}
 use Rattle.gx_ledger.specs.Tables.{accounts_differ, names_differ}

@@ -7,7 +7,9 @@ use Rattle.gx_units.specs.Money.{value}
 use Rattle.gx_units.specs.Names.{same_stock}
 use Rattle.gx_units.specs.declared.names.AccountName.{AccountName}
 use Rattle.gx_units.specs.declared.names.Symbol.{Symbol}
+use Rattle.gx_ouch.specs.declared.outbound.OrderTerms.{OrderTerms}
 use Rattle.gx_history.specs.declared.facts.StockSide.{StockSide}
+use Rattle.gx_history.specs.declared.live_order.LiveOrder.{LiveOrder}
 use Rattle.gx_history.specs.declared.policy.PolicyData.{PolicyData}
 use Rattle.gx_history.specs.declared.policy.Stock.{Stock}
 use Rattle.gx_history.specs.declared.record.Fill.{Fill}
@@ -24,26 +26,16 @@ use Rattle.gx_effects.specs.OneMore as ones
 use Rattle.gx_positions.specs.Changing.{positions_with}
 use Rattle.gx_positions.specs.Sound.{AreSound, IsListed, MayFill, SumsFit, anyone}
 use Rattle.gx_positions.proofs.Sums.{done_shares_filled, done_value_filled, executions_filled, shares_filled, value_filled}
-use Rattle.gx_ledger.specs.declared.placed.Change.{Change}
-use Rattle.gx_ledger.specs.declared.placed.Change.TheVariants as changes
-use Rattle.gx_ledger.specs.declared.placed.OpenOrder.{OpenOrder}
 use Rattle.gx_ledger.specs.declared.sides.SideSums.{SideSums}
-use Rattle.gx_ledger.specs.Keeping.{Kept, kept_executed, kept_noted, part, priced, with_price}
+use Rattle.gx_ledger.specs.Keeping.{Kept, executes, kept_executed, kept_noted, leaves, priced, with_price}
 use Rattle.gx_ledger.specs.Running.{capped}
 use Rattle.gx_ledger.specs.StandsFor.{AreFilled, Fills, IsMadeIn, Total, enters_of, moments_of, prices_of, side_sums_of, total_of}
 use Rattle.gx_ledger.proofs.Carrying.{tallies_same}
 use Rattle.gx_ledger.proofs.Counting.{Totals, changed_total, kept_follows, totals_after}
 use Rattle.gx_ledger.proofs.Totals.{and_again, done_fit, done_value_fit}
 
--- an order executes shares: they are open no more
-abbrev pub leaves : OpenOrder → ℕ → Change
-leaves o shares = changes.Left (part o shares o.price)
-
-abbrev pub executes : OpenOrder → ℕ → ℕ → Change
-executes o shares price = changes.Executed (part o shares price)
-
 -- what counts after both sides
-abbrev pub totals_filled : OpenOrder → OpenOrder → ℕ → ℕ → Totals → Totals
+abbrev pub totals_filled : LiveOrder → LiveOrder → ℕ → ℕ → Totals → Totals
 totals_filled taker maker shares price totals =
     totals_after (executes maker shares price) (totals_after (leaves maker shares) (totals_after (executes taker shares price) (totals_after (leaves taker shares) totals)))
 
@@ -95,9 +87,9 @@ listed_there policy (t ∷ ss) n s all found = by (nat_eq t.order.number n) foun
     by true found deeper = ap (λ (u : Standing). is_some (stock_named policy u.order.terms.stock)) (sym (some_same found)) ∙ all.0
     by false found deeper = deeper found
 
-module _ (held : Positions) (policy : PolicyData) (taker maker : OpenOrder) (shares price : ℕ) (sound : AreSound policy held) where
+module _ (held : Positions) (policy : PolicyData) (taker maker : LiveOrder) (shares price : ℕ) (sound : AreSound policy held) where
   abbrev f : Fill
-  f = record { taker = taker.order; maker = maker.order; shares = shares; price = price }
+  f = record { taker = taker.number; maker = maker.number; shares = shares; price = price }
 
   abbrev after : Positions
   after = positions_with (ones.Fills f) held
@@ -118,23 +110,14 @@ module _ (held : Positions) (policy : PolicyData) (taker maker : OpenOrder) (sha
     pub maker_account : may.maker.order.account ≡ maker.account
     maker_account = ap (λ (s : Standing). s.order.account) (sym maker_same) ∙ are.maker_is_held.account
 
-    taker_price : may.taker.order.terms.price ≡ taker.price
-    taker_price = ap (λ (s : Standing). s.order.terms.price) (sym taker_same) ∙ are.taker_is_held.price
+    taker_terms : may.taker.order.terms ≡ taker.terms
+    taker_terms = ap (λ (s : Standing). s.order.terms) (sym taker_same) ∙ are.taker_is_held.terms
 
-    maker_price : may.maker.order.terms.price ≡ maker.price
-    maker_price = ap (λ (s : Standing). s.order.terms.price) (sym maker_same) ∙ are.maker_is_held.price
+    maker_terms : may.maker.order.terms ≡ maker.terms
+    maker_terms = ap (λ (s : Standing). s.order.terms) (sym maker_same) ∙ are.maker_is_held.terms
 
-    taker_stock_is : may.taker.order.terms.stock ≡ taker.stock
-    taker_stock_is = ap (λ (s : Standing). s.order.terms.stock) (sym taker_same) ∙ are.taker_is_held.stock
-
-    taker_side_is : may.taker.order.terms.side ≡ taker.side
-    taker_side_is = ap (λ (s : Standing). s.order.terms.side) (sym taker_same) ∙ are.taker_is_held.side
-
-    maker_side_is : may.maker.order.terms.side ≡ maker.side
-    maker_side_is = ap (λ (s : Standing). s.order.terms.side) (sym maker_same) ∙ are.maker_is_held.side
-
-    maker_stock : may.maker.order.terms.stock ≡ maker.stock
-    maker_stock = ap (λ (s : Standing). s.order.terms.stock) (sym maker_same) ∙ are.maker_is_held.stock
+    maker_stock : may.maker.order.terms.stock ≡ maker.terms.stock
+    maker_stock = ap (λ (t : OrderTerms). t.stock) maker_terms
 
     module _ (sound_after : AreSound policy after) (among : AccountName → Bool) where
       live : (b c : Bool) → among may.taker.order.account ≡ b → among may.maker.order.account ≡ c
@@ -142,9 +125,9 @@ module _ (held : Positions) (policy : PolicyData) (taker maker : OpenOrder) (sha
       live b c h k = (λ i. live_shares after.standings among + (cond (sym h i) shares 0 + cond (sym k i) shares 0)) ∙ shares_filled (of_accounts among) held f sound.numbers_differ may
 
       worth : (b c : Bool) → among may.taker.order.account ≡ b → among may.maker.order.account ≡ c
-          → live_value after.standings among + (cond b (value shares taker.price) 0 + cond c (value shares maker.price) 0) ≡ live_value held.standings among
+          → live_value after.standings among + (cond b (value shares taker.terms.price) 0 + cond c (value shares maker.terms.price) 0) ≡ live_value held.standings among
       worth b c h k =
-          (λ i. live_value after.standings among + (cond (sym h i) (value shares (sym taker_price i)) 0 + cond (sym k i) (value shares (sym maker_price i)) 0))
+          (λ i. live_value after.standings among + (cond (sym h i) (value shares (sym taker_terms i).price) 0 + cond (sym k i) (value shares (sym maker_terms i).price) 0))
           ∙ value_filled among held f sound.numbers_differ may
 
       done : (b c : Bool) → among may.taker.order.account ≡ b → among may.maker.order.account ≡ c
@@ -159,39 +142,39 @@ module _ (held : Positions) (policy : PolicyData) (taker maker : OpenOrder) (sha
       fit = sound_after.fit
 
       -- what counts after one side
-      abbrev once : OpenOrder → Bool → Total → Total
+      abbrev once : LiveOrder → Bool → Total → Total
       once o b t =
           let left : Total = cond b (changed_total (leaves o shares) t) t in
           cond b (changed_total (executes o shares price) left) left
 
-      sides_once : (o : OpenOrder) (b : Bool) (t : Total) (stock : Symbol) (buys : Bool) → (once o b t).sides stock buys ≡ traded (b && (same_stock o.stock stock && is_on buys o.side)) shares (t.sides stock buys)
-      sides_once o true t stock buys = trades true (same_stock o.stock stock && is_on buys o.side) shares (t.sides stock buys)
+      sides_once : (o : LiveOrder) (b : Bool) (t : Total) (stock : Symbol) (buys : Bool) → (once o b t).sides stock buys ≡ traded (b && (same_stock o.terms.stock stock && is_on buys o.terms.side)) shares (t.sides stock buys)
+      sides_once o true t stock buys = trades true (same_stock o.terms.stock stock && is_on buys o.terms.side) shares (t.sides stock buys)
       sides_once o false t stock buys = refl
 
       -- whether a fill of an order counts on a side
-      counts_on : (o : OpenOrder) (t : Standing) (b : Bool) → t.order.terms.stock ≡ o.stock → t.order.terms.side ≡ o.side → among t.order.account ≡ b → (stock : Symbol) (buys : Bool)
-          → on_side among (record { stock = stock; buys = buys }) t.order ≡ (b && (same_stock o.stock stock && is_on buys o.side))
-      counts_on o t b of_stock of_side h stock buys = (λ i. h i && same_stock (of_stock i) stock && is_on buys (of_side i)) ∙ and_again b (same_stock o.stock stock) (is_on buys o.side)
+      counts_on : (o : LiveOrder) (t : Standing) (b : Bool) → t.order.terms ≡ o.terms → among t.order.account ≡ b → (stock : Symbol) (buys : Bool)
+          → on_side among (record { stock = stock; buys = buys }) t.order ≡ (b && (same_stock o.terms.stock stock && is_on buys o.terms.side))
+      counts_on o t b are_terms h stock buys = (λ i. h i && same_stock (are_terms i).stock stock && is_on buys (are_terms i).side) ∙ and_again b (same_stock o.terms.stock stock) (is_on buys o.terms.side)
 
       module _ (b c : Bool) (h : among may.taker.order.account ≡ b) (k : among may.maker.order.account ≡ c) (stock : Symbol) (buys : Bool) where
         abbrev side : StockSide
         side = record { stock = stock; buys = buys }
 
         abbrev took : Bool
-        took = b && (same_stock taker.stock stock && is_on buys taker.side)
+        took = b && (same_stock taker.terms.stock stock && is_on buys taker.terms.side)
 
         abbrev made : Bool
-        made = c && (same_stock maker.stock stock && is_on buys maker.side)
+        made = c && (same_stock maker.terms.stock stock && is_on buys maker.terms.side)
 
         side_falls : side_live after.standings among side + (cond took shares 0 + cond made shares 0) ≡ side_live held.standings among side
         side_falls =
-            (λ i. side_live after.standings among side + (cond (sym (counts_on taker may.taker b taker_stock_is taker_side_is h stock buys) i) shares 0 + cond (sym (counts_on maker may.maker c maker_stock maker_side_is k stock buys) i) shares 0))
+            (λ i. side_live after.standings among side + (cond (sym (counts_on taker may.taker b taker_terms h stock buys) i) shares 0 + cond (sym (counts_on maker may.maker c maker_terms k stock buys) i) shares 0))
             ∙ shares_filled (on_side among side) held f sound.numbers_differ may
 
         side_rises : side_done after.executions among side ≡ side_done held.executions among side + (cond took shares 0 + cond made shares 0)
         side_rises =
             done_shares_filled (on_side among side) held f may
-            ∙ (λ i. side_done held.executions among side + (cond (counts_on taker may.taker b taker_stock_is taker_side_is h stock buys i) shares 0 + cond (counts_on maker may.maker c maker_stock maker_side_is k stock buys i) shares 0))
+            ∙ (λ i. side_done held.executions among side + (cond (counts_on taker may.taker b taker_terms h stock buys i) shares 0 + cond (counts_on maker may.maker c maker_terms k stock buys i) shares 0))
 
         both_trade : (p q : Bool) → side_live after.standings among side + (cond p shares 0 + cond q shares 0) ≡ side_live held.standings among side
             → side_done after.executions among side ≡ side_done held.executions among side + (cond p shares 0 + cond q shares 0)
@@ -223,7 +206,7 @@ module _ (held : Positions) (policy : PolicyData) (taker maker : OpenOrder) (sha
           by true true h k = λ i. record {
             sums = record {
               live_shares = falls_twice (live_shares held.standings among) (live_shares after.standings among) shares shares (live true true h k) i;
-              live_value = falls_twice (live_value held.standings among) (live_value after.standings among) (value shares taker.price) (value shares maker.price) (worth true true h k) i;
+              live_value = falls_twice (live_value held.standings among) (live_value after.standings among) (value shares taker.terms.price) (value shares maker.terms.price) (worth true true h k) i;
               done_shares = rises_twice (done_shares held.executions among) (done_shares after.executions among) shares (done_shares after.executions anyone) (done true true h k) (done_fit after.executions (of_accounts among)) (wide fit.done_shares) i;
               done_value = rises_twice (done_value held.executions among) (done_value after.executions among) (value shares price) (done_value after.executions anyone) (paid true true h k) (done_value_fit after.executions among) fit.done_value i;
             };
@@ -234,7 +217,7 @@ module _ (held : Positions) (policy : PolicyData) (taker maker : OpenOrder) (sha
           by true false h k = λ i. record {
             sums = record {
               live_shares = falls_first (live_shares held.standings among) (live_shares after.standings among) shares (live true false h k) i;
-              live_value = falls_first (live_value held.standings among) (live_value after.standings among) (value shares taker.price) (worth true false h k) i;
+              live_value = falls_first (live_value held.standings among) (live_value after.standings among) (value shares taker.terms.price) (worth true false h k) i;
               done_shares = rises_first (done_shares held.executions among) (done_shares after.executions among) shares (done_shares after.executions anyone) (done true false h k) (done_fit after.executions (of_accounts among)) (wide fit.done_shares) i;
               done_value = rises_first (done_value held.executions among) (done_value after.executions among) (value shares price) (done_value after.executions anyone) (paid true false h k) (done_value_fit after.executions among) fit.done_value i;
             };
@@ -245,7 +228,7 @@ module _ (held : Positions) (policy : PolicyData) (taker maker : OpenOrder) (sha
           by false true h k = λ i. record {
             sums = record {
               live_shares = falls_second (live_shares held.standings among) (live_shares after.standings among) shares (live false true h k) i;
-              live_value = falls_second (live_value held.standings among) (live_value after.standings among) (value shares maker.price) (worth false true h k) i;
+              live_value = falls_second (live_value held.standings among) (live_value after.standings among) (value shares maker.terms.price) (worth false true h k) i;
               done_shares = rises_second (done_shares held.executions among) (done_shares after.executions among) shares (done_shares after.executions anyone) (done false true h k) (done_fit after.executions (of_accounts among)) (wide fit.done_shares) i;
               done_value = rises_second (done_value held.executions among) (done_value after.executions among) (value shares price) (done_value after.executions anyone) (paid false true h k) (done_value_fit after.executions among) fit.done_value i;
             };
@@ -266,36 +249,36 @@ module _ (held : Positions) (policy : PolicyData) (taker maker : OpenOrder) (sha
           }
 
     -- the last price of any stock
-    price_then : (stock : Symbol) → reference policy after.executions stock ≡ cond (same_stock maker.stock stock) price (reference policy held.executions stock)
+    price_then : (stock : Symbol) → reference policy after.executions stock ≡ cond (same_stock maker.terms.stock stock) price (reference policy held.executions stock)
     price_then stock =
         ap (λ made. reference policy made stock) (executions_filled held f may)
         ∙ reference_more policy held.executions (taker_side f may.taker.order ∷ maker_side f may.maker.order ∷ []) stock
         ∙ (λ i. unwrap_or (last_or None (cons_option (where_true (same_stock (taker_stock i) stock) price) (cons_option (where_true (same_stock (maker_stock i) stock) price) []))) (reference policy held.executions stock))
-        ∙ both (same_stock maker.stock stock)
+        ∙ both (same_stock maker.terms.stock stock)
       where
-        taker_stock : may.taker.order.terms.stock ≡ maker.stock
+        taker_stock : may.taker.order.terms.stock ≡ maker.terms.stock
         taker_stock = sym (stock_is may.maker.order.terms.stock may.taker.order.terms.stock may.of_one_stock) ∙ maker_stock
 
         both : (b : Bool) → unwrap_or (last_or None (cons_option (where_true b price) (cons_option (where_true b price) []))) (reference policy held.executions stock) ≡ cond b price (reference policy held.executions stock)
         both true = refl
         both false = refl
 
-    pub filled_prices : priced maker.stock price (prices_of policy held) ≡ prices_of policy after
+    pub filled_prices : priced maker.terms.stock price (prices_of policy held) ≡ prices_of policy after
     filled_prices = each policy.stocks
       where
-        each : (stocks : List Stock) → priced maker.stock price (map (λ (s : Stock). (s.name, reference policy held.executions s.name)) stocks) ≡ map (λ (s : Stock). (s.name, reference policy after.executions s.name)) stocks
+        each : (stocks : List Stock) → priced maker.terms.stock price (map (λ (s : Stock). (s.name, reference policy held.executions s.name)) stocks) ≡ map (λ (s : Stock). (s.name, reference policy after.executions s.name)) stocks
         each [] = refl
         each (s ∷ stocks) = λ i. (s.name, sym (price_then s.name) i) ∷ each stocks i
 
     -- and no fill was made in a stock that is not listed
     pub filled_unlisted : (stock : Symbol) → is_some (stock_named policy stock) ≡ false → reference policy held.executions stock ≡ 0 → reference policy after.executions stock ≡ 0
-    filled_unlisted stock other before = price_then stock ∙ by (same_stock maker.stock stock) refl
+    filled_unlisted stock other before = price_then stock ∙ by (same_stock maker.terms.stock stock) refl
       where
-        listed : is_some (stock_named policy maker.stock) ≡ true
-        listed = ap (λ name. is_some (stock_named policy name)) (sym maker_stock) ∙ listed_there policy held.standings maker.order may.maker sound.all_listed may.maker_is_found
+        listed : is_some (stock_named policy maker.terms.stock) ≡ true
+        listed = ap (λ name. is_some (stock_named policy name)) (sym maker_stock) ∙ listed_there policy held.standings maker.number may.maker sound.all_listed may.maker_is_found
 
-        by : (b : Bool) → same_stock maker.stock stock ≡ b → cond b price (reference policy held.executions stock) ≡ 0
-        by true h = absurd (true≢false (sym listed ∙ ap (λ name. is_some (stock_named policy name)) (stock_is maker.stock stock h) ∙ other))
+        by : (b : Bool) → same_stock maker.terms.stock stock ≡ b → cond b price (reference policy held.executions stock) ≡ 0
+        by true h = absurd (true≢false (sym listed ∙ ap (λ name. is_some (stock_named policy name)) (stock_is maker.terms.stock stock h) ∙ other))
         by false h = before
 
     -- both sides of the fill are in a listed stock
@@ -303,12 +286,12 @@ module _ (held : Positions) (policy : PolicyData) (taker maker : OpenOrder) (sha
     filled_made all =
         subst (AllByRecursion (IsMadeIn policy)) (sym (executions_filled held f may))
         (all_both (IsMadeIn policy) held.executions (taker_side f may.taker.order ∷ maker_side f may.maker.order ∷ []) all
-        (listed_there policy held.standings taker.order may.taker sound.all_listed may.taker_is_found, (listed_there policy held.standings maker.order may.maker sound.all_listed may.maker_is_found, tt)))
+        (listed_there policy held.standings taker.number may.taker sound.all_listed may.taker_is_found, (listed_there policy held.standings maker.number may.maker sound.all_listed may.maker_is_found, tt)))
 
-pub fill_carries : (taker maker : OpenOrder) (shares price : ℕ) (k : Kept)
-    → Fills taker maker shares price k (with_price maker.stock price (kept_executed maker shares price (kept_executed taker shares price k)))
+pub fill_carries : (taker maker : LiveOrder) (shares price : ℕ) (k : Kept)
+    → Fills taker maker shares price k (with_price maker.terms.stock price (kept_executed maker shares price (kept_executed taker shares price k)))
 fill_carries taker maker shares price k policy held stands sound are after =
-    let f : Fill = record { taker = taker.order; maker = maker.order; shares = shares; price = price } in
+    let f : Fill = record { taker = taker.number; maker = maker.number; shares = shares; price = price } in
     let first : Totals = totals_after (leaves taker shares) (total_of held) in
     let second : Totals = totals_after (executes taker shares price) first in
     let third : Totals = totals_after (leaves maker shares) second in
@@ -325,6 +308,6 @@ fill_carries taker maker shares price k policy held stands sound are after =
       accounts_differ = stands.accounts_differ;
       unlisted = λ stock other. filled_unlisted held policy taker maker shares price sound are stock other (stands.unlisted stock other);
       all_made = filled_made held policy taker maker shares price sound are stands.all_made;
-      prices = ap (priced maker.stock price) stands.prices ∙ filled_prices held policy taker maker shares price sound are;
+      prices = ap (priced maker.terms.stock price) stands.prices ∙ filled_prices held policy taker maker shares price sound are;
       tallies = is4 ∙ tallies_same policy k _ _ (filled_total held policy taker maker shares price sound are after);
     }

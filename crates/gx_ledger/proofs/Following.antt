@@ -6,6 +6,7 @@ use Rattle.std.specs.Cmp.{nat_eq_equiv}
 use Rattle.std.proofs.lemmas.Bool.{eqb-true}
 use Rattle.std.proofs.lemmas.List.Sums.{fold_push}
 use Rattle.gx_units.specs.Money.{value}
+use Rattle.gx_history.specs.declared.live_order.LiveOrder.{LiveOrder}
 use Rattle.gx_history.specs.declared.policy.PolicyData.{PolicyData}
 use Rattle.gx_history.specs.Effects.{with_left, without}
 use Rattle.gx_history.specs.Executions.{Standing, standing_numbered}
@@ -18,7 +19,6 @@ use Rattle.gx_history_laws.proofs.Pushing.{all_before}
 use Rattle.gx_positions.specs.Changing.{positions_with}
 use Rattle.gx_positions.specs.Sound.{AreSound, IsListed, IsLive, MayCome, anyone, numbers_of}
 use Rattle.gx_positions.proofs.Sums.{as_shares, live_value_are, open_are, open_of, sum_filtered}
-use Rattle.gx_ledger.specs.declared.placed.OpenOrder.{OpenOrder}
 use Rattle.gx_ledger.specs.Following.{AllAreEnded, EndedThenAccepted, NoneCloses, OneMoreCloses, all_closed, closed, numbers}
 use Rattle.gx_ledger.specs.StandsFor.{IsHeld, StandsFor}
 
@@ -49,7 +49,7 @@ numbers_filtered n q (s ∷ ss) apart = by (q s) (numbers_filtered n q ss apart.
     by true rest = (apart.0, rest)
     by false rest = rest
 
-distinct_filtered : (q : Standing → Bool) (ss : List Standing) → IsDistinct nat_eq (numbers_of ss) → IsDistinct nat_eq (numbers_of (filter q ss))
+pub distinct_filtered : (q : Standing → Bool) (ss : List Standing) → IsDistinct nat_eq (numbers_of ss) → IsDistinct nat_eq (numbers_of (filter q ss))
 unfolding IsDistinct
 distinct_filtered q [] distinct = tt
 distinct_filtered q (s ∷ ss) distinct = by (q s) (distinct_filtered q ss distinct.1)
@@ -95,13 +95,13 @@ abbrev pub is_other : ℕ → Standing → Bool
 is_other n s = not (nat_eq s.order.number n)
 
 -- an order that has ended is gone
-pub closed_is : (policy : PolicyData) (held : Positions) (o : OpenOrder) → AreSound policy held → closed held o ≡ only (is_other o.order) held
-closed_is policy held o sound = λ i. record { standings = left_nothing o.order held.standings sound.all_live i; executions = held.executions; grants = held.grants }
+pub closed_is : (policy : PolicyData) (held : Positions) (o : LiveOrder) → AreSound policy held → closed held o ≡ only (is_other o.number) held
+closed_is policy held o sound = λ i. record { standings = left_nothing o.number held.standings sound.all_live i; executions = held.executions; grants = held.grants }
 
-pub closed_sound : (policy : PolicyData) (held : Positions) (o : OpenOrder) → AreSound policy held → AreSound policy (closed held o)
-closed_sound policy held o sound = subst (AreSound policy) (sym (closed_is policy held o sound)) (sound_filtered policy held (is_other o.order) sound)
+pub closed_sound : (policy : PolicyData) (held : Positions) (o : LiveOrder) → AreSound policy held → AreSound policy (closed held o)
+closed_sound policy held o sound = subst (AreSound policy) (sym (closed_is policy held o sound)) (sound_filtered policy held (is_other o.number) sound)
 
-pub all_closed_sound : (policy : PolicyData) (held : Positions) (orders : List OpenOrder) → AreSound policy held → AreSound policy (all_closed orders held)
+pub all_closed_sound : (policy : PolicyData) (held : Positions) (orders : List LiveOrder) → AreSound policy held → AreSound policy (all_closed orders held)
 all_closed_sound policy held [] sound = sound
 all_closed_sound policy held (o ∷ orders) sound = all_closed_sound policy (closed held o) orders (closed_sound policy held o sound)
 
@@ -125,19 +125,17 @@ none_found q m (s ∷ ss) none = by (nat_eq s.order.number m) (q s) refl none (n
     by false true h none deeper = ap (λ b. cond b (Some s) (standing_numbered (filter q ss) m)) h ∙ deeper none
     by false false h none deeper = deeper none
 
-still_held : (policy : PolicyData) (held : Positions) (x o : OpenOrder) → AreSound policy held → nat_eq x.order o.order ≡ false → IsHeld held o → IsHeld (closed held x) o
+still_held : (policy : PolicyData) (held : Positions) (x o : LiveOrder) → AreSound policy held → nat_eq x.number o.number ≡ false → IsHeld held o → IsHeld (closed held x) o
 still_held policy held x o sound differ is = record {
   standing = is.standing;
-  is_found = ap (λ (p : Positions). standing_numbered p.standings o.order) (closed_is policy held x sound) ∙ other_found x.order o.order held.standings differ ∙ is.is_found;
+  is_found = ap (λ (p : Positions). standing_numbered p.standings o.number) (closed_is policy held x sound) ∙ other_found x.number o.number held.standings differ ∙ is.is_found;
   account = is.account;
-  side = is.side;
-  stock = is.stock;
-  price = is.price;
+  terms = is.terms;
   open_shares = is.open_shares;
 }
 
 -- the orders before the last have other numbers
-others_before : (orders : List OpenOrder) (o : OpenOrder) → IsDistinct nat_eq (numbers (orders ++ o ∷ [])) → AllByRecursion (λ (x : OpenOrder). nat_eq x.order o.order ≡ false) orders × IsDistinct nat_eq (numbers orders)
+others_before : (orders : List LiveOrder) (o : LiveOrder) → IsDistinct nat_eq (numbers (orders ++ o ∷ [])) → AllByRecursion (λ (x : LiveOrder). nat_eq x.number o.number ≡ false) orders × IsDistinct nat_eq (numbers orders)
 unfolding IsDistinct
 others_before [] o distinct = (tt, tt)
 others_before (x ∷ orders) o distinct =
@@ -145,11 +143,11 @@ others_before (x ∷ orders) o distinct =
     let here = apart orders distinct.0 in
     ((here.1, deeper.0), (here.0, deeper.1))
   where
-    apart : (orders : List OpenOrder) → AllByRecursion (λ k. nat_eq x.order k ≡ false) (numbers (orders ++ o ∷ [])) → AllByRecursion (λ k. nat_eq x.order k ≡ false) (numbers orders) × (nat_eq x.order o.order ≡ false)
+    apart : (orders : List LiveOrder) → AllByRecursion (λ k. nat_eq x.number k ≡ false) (numbers (orders ++ o ∷ [])) → AllByRecursion (λ k. nat_eq x.number k ≡ false) (numbers orders) × (nat_eq x.number o.number ≡ false)
     apart [] all = (tt, all.0)
     apart (y ∷ orders) all = let rest = apart orders all.1 in ((all.0, rest.0), rest.1)
 
-held_to_the_end : (policy : PolicyData) (held : Positions) (orders : List OpenOrder) (o : OpenOrder) → AreSound policy held → AllByRecursion (λ (x : OpenOrder). nat_eq x.order o.order ≡ false) orders
+held_to_the_end : (policy : PolicyData) (held : Positions) (orders : List LiveOrder) (o : LiveOrder) → AreSound policy held → AllByRecursion (λ (x : LiveOrder). nat_eq x.number o.number ≡ false) orders
     → IsHeld held o → IsHeld (all_closed orders held) o
 held_to_the_end policy held [] o sound others is = is
 held_to_the_end policy held (x ∷ orders) o sound others is =
@@ -184,15 +182,15 @@ all_kept : {X : Type 0} (q : X → Bool) → ((x : X) → q x ≡ true) → (xs 
 all_kept q h [] = refl
 all_kept {X} q h (x ∷ xs) = ap (λ l. x ∷ l) (all_kept q h xs) ∙ ap (λ b. cond b (x ∷ filter q xs) (filter q xs)) (sym (h x))
 
-all_closed_are : (policy : PolicyData) (held : Positions) (orders : List OpenOrder) → AreSound policy held → all_closed orders held ≡ only (is_none_of (numbers orders)) held
+all_closed_are : (policy : PolicyData) (held : Positions) (orders : List LiveOrder) → AreSound policy held → all_closed orders held ≡ only (is_none_of (numbers orders)) held
 all_closed_are policy held [] sound = λ i. record { standings = all_kept (is_none_of []) (λ s. refl) held.standings i; executions = held.executions; grants = held.grants }
 all_closed_are policy held (o ∷ orders) sound =
     all_closed_are policy (closed held o) orders (closed_sound policy held o sound)
     ∙ ap (only (is_none_of (numbers orders))) (closed_is policy held o sound)
-    ∙ (λ i. record { standings = filter_both (is_other o.order) (is_none_of (numbers orders)) (is_none_of (numbers (o ∷ orders))) neither held.standings i; executions = held.executions; grants = held.grants })
+    ∙ (λ i. record { standings = filter_both (is_other o.number) (is_none_of (numbers orders)) (is_none_of (numbers (o ∷ orders))) neither held.standings i; executions = held.executions; grants = held.grants })
   where
-    neither : (s : Standing) → (is_other o.order s && is_none_of (numbers orders) s) ≡ is_none_of (numbers (o ∷ orders)) s
-    neither s = by (nat_eq s.order.number o.order)
+    neither : (s : Standing) → (is_other o.number s && is_none_of (numbers orders) s) ≡ is_none_of (numbers (o ∷ orders)) s
+    neither s = by (nat_eq s.order.number o.number)
       where
         by : (b : Bool) → (not b && is_none_of (numbers orders) s) ≡ not (b || list_any (λ n. nat_eq s.order.number n) (numbers orders))
         by true = refl
@@ -242,13 +240,13 @@ all_are_ended policy held action orders sound are =
     })
 
 pub ended_then_accepted : EndedThenAccepted
-ended_then_accepted o placed old between new closes accepts s is policy held stands sound is_held may after =
+ended_then_accepted o new_order moment old between new closes accepts s is policy held stands sound is_held may after =
     let mid : Positions = closed held o in
     let sound_mid = closed_sound policy held o sound in
-    let same : positions_with (ones.Adds s) mid ≡ positions_with (ones.Replaces o.order s) held =
-    (λ i. record { standings = left_nothing o.order held.standings sound.all_live i ++ s ∷ []; executions = held.executions; grants = held.grants ++ s.order ∷ [] }) in
+    let same : positions_with (ones.Adds s) mid ≡ positions_with (ones.Replaces o.number s) held =
+    (λ i. record { standings = left_nothing o.number held.standings sound.all_live i ++ s ∷ []; executions = held.executions; grants = held.grants ++ s.order ∷ [] }) in
     let may_come : MayCome policy mid s = record {
-      is_new = ap (λ (p : Positions). standing_numbered p.standings s.order.number) (closed_is policy held o sound) ∙ none_found (is_other o.order) s.order.number held.standings may.may_come.is_new;
+      is_new = ap (λ (p : Positions). standing_numbered p.standings s.order.number) (closed_is policy held o sound) ∙ none_found (is_other o.number) s.order.number held.standings may.may_come.is_new;
       is_listed = may.may_come.is_listed;
       is_last = may.may_come.is_last;
       is_open = may.may_come.is_open;

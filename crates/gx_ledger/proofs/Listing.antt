@@ -8,11 +8,11 @@ use Rattle.gx_history.specs.declared.policy.Account.{Account}
 use Rattle.gx_history.specs.declared.policy.Count.{Count}
 use Rattle.gx_history.specs.People.{covers}
 use Rattle.gx_history_laws.proofs.Names.{account_is}
-use Rattle.gx_ledger.specs.declared.placed.Change.{Change}
+use Rattle.gx_ledger.specs.declared.change.Change.{Change}
 use Rattle.gx_ledger.specs.declared.tally.Tally.{Tally}
 use Rattle.gx_ledger.specs.Counts.{AreCounted, counting, counting_from, counts, noted_in, tally_inside}
 use Rattle.gx_ledger.specs.Keeping.{Kept, account_names, account_place, kept_noted, noted}
-use Rattle.gx_ledger.specs.Running.{account_changed, changed_group}
+use Rattle.gx_ledger.specs.Running.{changed_group}
 use Rattle.gx_ledger.specs.Tallies.{changed_at, changed_in, place_in, tally_after}
 use Rattle.gx_ledger.proofs.Counting.{place-cons}
 use Rattle.gx_ledger.proofs.Entries.{some_is}
@@ -123,13 +123,13 @@ module _ (change : Change) (place : ℕ) where
   abbrev told : List Tally → ℕ → List Tally
   told ts index = changed_at index (tally_inside change (Some place)) ts
 
-  later : (first : ℕ) (ts : List Tally) → counting_from (account_changed change) (suc first) ts ≡ map suc (counting_from (account_changed change) first ts)
+  later : (first : ℕ) (ts : List Tally) → counting_from change.order.account (suc first) ts ≡ map suc (counting_from change.order.account first ts)
   later first [] = refl
-  later first (t ∷ ts) = by (counts t (account_changed change)) (later (suc first) ts)
+  later first (t ∷ ts) = by (counts t change.order.account) (later (suc first) ts)
     where
-      by : (b : Bool) → counting_from (account_changed change) (suc (suc first)) ts ≡ map suc (counting_from (account_changed change) (suc first) ts)
-          → cond b (suc first ∷ counting_from (account_changed change) (suc (suc first)) ts) (counting_from (account_changed change) (suc (suc first)) ts)
-          ≡ map suc (cond b (first ∷ counting_from (account_changed change) (suc first) ts) (counting_from (account_changed change) (suc first) ts))
+      by : (b : Bool) → counting_from change.order.account (suc (suc first)) ts ≡ map suc (counting_from change.order.account (suc first) ts)
+          → cond b (suc first ∷ counting_from change.order.account (suc (suc first)) ts) (counting_from change.order.account (suc (suc first)) ts)
+          ≡ map suc (cond b (first ∷ counting_from change.order.account (suc first) ts) (counting_from change.order.account (suc first) ts))
       by true deeper = ap (λ l. suc first ∷ l) deeper
       by false deeper = deeper
 
@@ -137,20 +137,20 @@ module _ (change : Change) (place : ℕ) where
   behind t [] ts = refl
   behind t (n ∷ ns) ts = behind t ns (told ts n)
 
-  inside_is : (t : Tally) → counts t (account_changed change) ≡ true → tally_inside change (Some place) t ≡ tally_after change (Some place) t
+  inside_is : (t : Tally) → counts t change.order.account ≡ true → tally_inside change (Some place) t ≡ tally_after change (Some place) t
   inside_is t his = ap (λ b. record {
     scope = t.scope;
     asks = t.asks;
     count = t.count;
     groups = cond b (changed_in (place_in t.count (Some place)) (changed_group change) t.groups) t.groups;
-  }) (sym (right (is_some t.count) (covers t.scope (account_changed change)) his))
+  }) (sym (right (is_some t.count) (covers t.scope change.order.account) his))
     where
       right : (a b : Bool) → (a && b) ≡ true → b ≡ true
       right true b h = h
       right false b h = cc
 
-  outside_is : (t : Tally) → counts t (account_changed change) ≡ false → t ≡ tally_after change (Some place) t
-  outside_is t others = λ i. record { scope = t.scope; asks = t.asks; count = t.count; groups = by t.count (covers t.scope (account_changed change)) others i }
+  outside_is : (t : Tally) → counts t change.order.account ≡ false → t ≡ tally_after change (Some place) t
+  outside_is t others = λ i. record { scope = t.scope; asks = t.asks; count = t.count; groups = by t.count (covers t.scope change.order.account) others i }
     where
       by : (count : Option Count) (b : Bool) → (is_some count && b) ≡ false → t.groups ≡ cond b (changed_in (place_in count (Some place)) (changed_group change) t.groups) t.groups
       by None true h = refl
@@ -159,28 +159,28 @@ module _ (change : Change) (place : ℕ) where
       by (Some count) false h = refl
 
   -- to tell those that count is to tell all
-  pub told_all : (ts : List Tally) → noted_in change (Some place) ts (counting ts (account_changed change)) ≡ noted change (Some place) ts
+  pub told_all : (ts : List Tally) → noted_in change (Some place) ts (counting ts change.order.account) ≡ noted change (Some place) ts
   told_all [] = refl
-  told_all (t ∷ ts) = by (counts t (account_changed change)) refl (told_all ts)
+  told_all (t ∷ ts) = by (counts t change.order.account) refl (told_all ts)
     where
-      by : (b : Bool) → counts t (account_changed change) ≡ b → fold told ts (counting_from (account_changed change) 0 ts) ≡ noted change (Some place) ts
-          → fold told (t ∷ ts) (cond b (0 ∷ counting_from (account_changed change) 1 ts) (counting_from (account_changed change) 1 ts)) ≡ tally_after change (Some place) t ∷ noted change (Some place) ts
+      by : (b : Bool) → counts t change.order.account ≡ b → fold told ts (counting_from change.order.account 0 ts) ≡ noted change (Some place) ts
+          → fold told (t ∷ ts) (cond b (0 ∷ counting_from change.order.account 1 ts) (counting_from change.order.account 1 ts)) ≡ tally_after change (Some place) t ∷ noted change (Some place) ts
       by true his deeper =
           ap (fold told (tally_inside change (Some place) t ∷ ts)) (later 0 ts)
-          ∙ behind (tally_inside change (Some place) t) (counting_from (account_changed change) 0 ts) ts
+          ∙ behind (tally_inside change (Some place) t) (counting_from change.order.account 0 ts) ts
           ∙ (λ i. inside_is t his i ∷ deeper i)
       by false others deeper =
           ap (fold told (t ∷ ts)) (later 0 ts)
-          ∙ behind t (counting_from (account_changed change) 0 ts) ts
+          ∙ behind t (counting_from change.order.account 0 ts) ts
           ∙ (λ i. outside_is t others i ∷ deeper i)
 
 -- the tallies, once those on the account's list were told
 pub told_his : (change : Change) (place : ℕ) (tallies : List Tally) (indexes : List ℕ) (before after : List Tally) → after ≡ noted_in change (Some place) before indexes → before ≡ tallies
-    → indexes ≡ counting tallies (account_changed change) → after ≡ noted change (Some place) tallies
+    → indexes ≡ counting tallies change.order.account → after ≡ noted change (Some place) tallies
 told_his change place tallies indexes before after is same are = is ∙ (λ i. noted_in change (Some place) (same i) (are i)) ∙ told_all change place tallies
 
 -- what is kept then
-pub kept_told : (change : Change) (k : Kept) (of : Option ℕ) (after : List Tally) → account_place k.accounts (account_changed change) ≡ of → after ≡ noted change of k.tallies
+pub kept_told : (change : Change) (k : Kept) (of : Option ℕ) (after : List Tally) → account_place k.accounts change.order.account ≡ of → after ≡ noted change of k.tallies
     → record { accounts = k.accounts; prices = k.prices; tallies = after } ≡ kept_noted change k
 kept_told change k of after at is = λ i. record {
   accounts = k.accounts;

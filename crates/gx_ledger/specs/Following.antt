@@ -1,7 +1,8 @@
 -- How a ledger follows orders that end one after another, and an order that takes the place of another.
-use Rattle.std.specs.Prelude.{ℕ, ◌≡◌, nat_eq, List, [], ◌∷◌, ◌++◌, map, fold}
+use Rattle.std.specs.Prelude.{ℕ, ◌≡◌, true, nat_eq, List, [], ◌∷◌, ◌++◌, map, fold}
 use Rattle.std.specs.List.{filter, AllByRecursion, IsDistinct}
 use Rattle.gx_desk.specs.declared.Action.{Action}
+use Rattle.gx_history.specs.declared.live_order.LiveOrder.{LiveOrder}
 use Rattle.gx_history.specs.declared.policy.PolicyData.{PolicyData}
 use Rattle.gx_history.specs.Executions.{Standing}
 use Rattle.gx_history.specs.Figures.{Positions}
@@ -9,30 +10,28 @@ use Rattle.gx_history.specs.Orders.{ends_account}
 use Rattle.gx_effects.specs.OneMore as ones
 use Rattle.gx_positions.specs.Changing.{positions_with}
 use Rattle.gx_positions.specs.Sound.{AreSound, MayReplace, numbers_of}
-use Rattle.gx_ledger.specs.declared.placed.OpenOrder.{OpenOrder}
-use Rattle.gx_ledger.specs.declared.placed.Placed.{Placed}
 use Rattle.gx_ledger.specs.Keeping.{Kept}
-use Rattle.gx_ledger.specs.StandsFor.{Accepts, Closes, IsHeld, IsPlaced, StandsFor}
+use Rattle.gx_ledger.specs.StandsFor.{Accepts, Closes, IsAccepted, IsHeld, StandsFor}
 
 -- the live orders, fills and grants, once one order has ended
-abbrev pub closed : Positions → OpenOrder → Positions
-closed held o = positions_with (ones.Leaves o.order 0) held
+abbrev pub closed : Positions → LiveOrder → Positions
+closed held o = positions_with (ones.Leaves o.number 0) held
 
 -- the live orders, fills and grants, once these orders have ended
-abbrev pub all_closed : List OpenOrder → Positions → Positions
+abbrev pub all_closed : List LiveOrder → Positions → Positions
 all_closed orders held = fold closed held orders
 
 -- the numbers of these orders
-abbrev pub numbers : List OpenOrder → List ℕ
-numbers orders = map (λ (o : OpenOrder). o.order) orders
+abbrev pub numbers : List LiveOrder → List ℕ
+numbers orders = map (λ (o : LiveOrder). o.number) orders
 
 -- each of these is a live order, and none stands there twice
-pub record AreHeld (held : Positions) (orders : List OpenOrder) : Type 0 where
+pub record AreHeld (held : Positions) (orders : List LiveOrder) : Type 0 where
   pub all_held : AllByRecursion (IsHeld held) orders
   pub differ : IsDistinct nat_eq (numbers orders)
 
 -- these orders end, one after another
-abbrev pub ClosesAll : List OpenOrder → Kept → Kept → Type 0
+abbrev pub ClosesAll : List LiveOrder → Kept → Kept → Type 0
 ClosesAll orders old new = (policy : PolicyData) (held : Positions) → StandsFor policy old held → AreSound policy held → AreHeld held orders
     → StandsFor policy new (all_closed orders held)
 
@@ -42,7 +41,7 @@ NoneCloses = (k : Kept) → ClosesAll [] k k
 
 -- one more ends
 abbrev pub OneMoreCloses : Type 0
-OneMoreCloses = (orders : List OpenOrder) (o : OpenOrder) (old between new : Kept) → ClosesAll orders old between → Closes o between new
+OneMoreCloses = (orders : List LiveOrder) (o : LiveOrder) (old between new : Kept) → ClosesAll orders old between → Closes o between new
     → ClosesAll (orders ++ o ∷ []) old new
 
 -- the live orders of the accounts that the action is for
@@ -51,15 +50,15 @@ ended_by action held = filter (λ (s : Standing). ends_account s.order.account a
 
 -- to end them one after another is to end them all
 abbrev pub AllAreEnded : Type 0
-AllAreEnded = (policy : PolicyData) (held : Positions) (action : Action) (orders : List OpenOrder) → AreSound policy held
+AllAreEnded = (policy : PolicyData) (held : Positions) (action : Action) (orders : List LiveOrder) → AreSound policy held
     → numbers orders ≡ numbers_of (ended_by action held) → all_closed orders held ≡ positions_with (ones.EndsAll action) held
 
--- an order comes in the place of another
-abbrev pub Replaces : OpenOrder → Placed → Kept → Kept → Type 0
-Replaces o placed old new = (s : Standing) → IsPlaced placed s → (policy : PolicyData) (held : Positions) → StandsFor policy old held → AreSound policy held
-    → IsHeld held o → MayReplace policy held o.order s → AreSound policy (positions_with (ones.Replaces o.order s) held)
-    → StandsFor policy new (positions_with (ones.Replaces o.order s) held)
+-- an order that was granted at the moment comes in the place of another
+abbrev pub Replaces : (o new_order : LiveOrder) → ℕ → Kept → Kept → Type 0
+Replaces o new_order moment old new = (s : Standing) → IsAccepted new_order moment true s → (policy : PolicyData) (held : Positions) → StandsFor policy old held → AreSound policy held
+    → IsHeld held o → MayReplace policy held o.number s → AreSound policy (positions_with (ones.Replaces o.number s) held)
+    → StandsFor policy new (positions_with (ones.Replaces o.number s) held)
 
 -- the old order ends, and then the new one comes
 abbrev pub EndedThenAccepted : Type 0
-EndedThenAccepted = (o : OpenOrder) (placed : Placed) (old between new : Kept) → Closes o old between → Accepts placed between new → Replaces o placed old new
+EndedThenAccepted = (o new_order : LiveOrder) (moment : ℕ) (old between new : Kept) → Closes o old between → Accepts new_order moment true between new → Replaces o new_order moment old new

@@ -1,23 +1,20 @@
 -- What the ledger keeps, and what each change makes of it.
 use Rattle.std.specs.Option.{option_map_or}
-use Rattle.std.specs.Prelude.{ℕ, List, map, Option, Some, option_map, unwrap_or, position, if◌then◌else◌}
+use Rattle.std.specs.Prelude.{ℕ, Bool, List, map, Option, Some, option_map, unwrap_or, position, if◌then◌else◌}
 use Rattle.std.specs.Map.{lookup}
 use Rattle.gx_units.specs.Names.{same_account, same_stock}
 use Rattle.gx_units.specs.declared.names.AccountName.{AccountName}
 use Rattle.gx_units.specs.declared.names.Symbol.{Symbol}
-use Rattle.gx_history.specs.declared.facts.NamedOrder.{NamedOrder}
 use Rattle.gx_history.specs.declared.facts.StockSide.{StockSide}
+use Rattle.gx_history.specs.declared.live_order.LiveOrder.{LiveOrder}
 use Rattle.gx_history.specs.declared.policy.Account.{Account}
 use Rattle.gx_history.specs.declared.policy.Stock.{Stock}
 use Rattle.gx_history.specs.declared.record.Request.{Request}
 use Rattle.gx_history.specs.declared.record.Request.TheVariants as requests
 use Rattle.gx_history.specs.Book.{is_buy}
-use Rattle.gx_ledger.specs.declared.placed.Change.{Change}
-use Rattle.gx_ledger.specs.declared.placed.Change.TheVariants as changes
-use Rattle.gx_ledger.specs.declared.placed.OpenOrder.{OpenOrder}
-use Rattle.gx_ledger.specs.declared.placed.Part.{Part}
+use Rattle.gx_ledger.specs.declared.change.Change.{Change}
+use Rattle.gx_ledger.specs.declared.change.ChangeKind.TheVariants as changes
 use Rattle.gx_ledger.specs.declared.tally.Tally.{Tally}
-use Rattle.gx_ledger.specs.Running.{account_changed}
 use Rattle.gx_ledger.specs.Tallies.{tally_after}
 
 -- what a ledger keeps
@@ -58,31 +55,39 @@ abbrev pub kept_noted : Change → Kept → Kept
 kept_noted change k = record {
   accounts = k.accounts;
   prices = k.prices;
-  tallies = noted change (account_place k.accounts (account_changed change)) k.tallies;
+  tallies = noted change (account_place k.accounts change.order.account) k.tallies;
 }
 
--- shares of the order, at this price
-abbrev pub part : OpenOrder → ℕ → ℕ → Part
-part o shares price = record { account = o.account; side = o.side; stock = o.stock; shares = shares; price = price }
+-- the order comes, granted at the moment to a Replace or to an Enter
+abbrev pub comes : LiveOrder → ℕ → Bool → Change
+comes o moment replacement = record { order = o; kind = changes.Accepted moment replacement }
 
--- some shares of the order were executed
-abbrev pub kept_executed : OpenOrder → ℕ → ℕ → Kept → Kept
-kept_executed o shares price k = kept_noted (changes.Executed (part o shares price)) (kept_noted (changes.Left (part o shares o.price)) k)
+-- so many shares of the order are open no more
+abbrev pub leaves : LiveOrder → ℕ → Change
+leaves o shares = record { order = o; kind = changes.Left shares }
+
+-- so many shares of the order were executed at this price
+abbrev pub executes : LiveOrder → ℕ → ℕ → Change
+executes o shares price = record { order = o; kind = changes.Executed shares price }
+
+-- some shares of the order were executed, and are open no more
+abbrev pub kept_executed : LiveOrder → ℕ → ℕ → Kept → Kept
+kept_executed o shares price k = kept_noted (executes o shares price) (kept_noted (leaves o shares) k)
 
 -- the last price of one stock changed
 abbrev pub with_price : Symbol → ℕ → Kept → Kept
 with_price stock price k = record { accounts = k.accounts; prices = priced stock price k.prices; tallies = k.tallies }
 
 -- the stock of an Enter, or of the order that would be replaced
-abbrev pub stock_wanted : Request → Option NamedOrder → Option Symbol
+abbrev pub stock_wanted : Request → Option LiveOrder → Option Symbol
 stock_wanted (requests.Enter m) replaced = Some m.stock
-stock_wanted other replaced = option_map (λ (o : NamedOrder). o.stock) replaced
+stock_wanted other replaced = option_map (λ (o : LiveOrder). o.terms.stock) replaced
 
 -- the side of it that the Enter is for, or that the order is on
-abbrev pub side_wanted : Request → Option NamedOrder → Option StockSide
+abbrev pub side_wanted : Request → Option LiveOrder → Option StockSide
 side_wanted (requests.Enter m) replaced = Some (record { stock = m.stock; buys = is_buy m.side })
-side_wanted other replaced = option_map (λ (o : NamedOrder). record { stock = o.stock; buys = is_buy o.side }) replaced
+side_wanted other replaced = option_map (λ (o : LiveOrder). record { stock = o.terms.stock; buys = is_buy o.terms.side }) replaced
 
 -- the last price of that stock
-abbrev pub reference_for : List (Symbol × ℕ) → Request → Option NamedOrder → ℕ
+abbrev pub reference_for : List (Symbol × ℕ) → Request → Option LiveOrder → ℕ
 reference_for prices q replaced = option_map_or (price_of prices) (stock_wanted q replaced) 0

@@ -6,17 +6,18 @@ use Rattle.std.specs.Map.{lookup}
 use Rattle.circular_buffer.specs.Buffer.{Buffer, buffer, keep_last, last_item}
 use Rattle.gx_units.specs.Money.{value}
 use Rattle.gx_units.specs.Names.{same_stock}
-use Rattle.gx_units.specs.declared.names.AccountName.{AccountName}
 use Rattle.gx_units.specs.declared.names.Symbol.{Symbol}
+use Rattle.gx_history.specs.declared.live_order.LiveOrder.{LiveOrder}
 use Rattle.gx_history.specs.declared.policy.Stock.{Stock}
 use Rattle.gx_history.specs.declared.record.Request.{Request}
 use Rattle.gx_history.specs.declared.record.Request.TheVariants as requests
 use Rattle.gx_history.specs.Book.{is_buy}
+use Rattle.gx_history.specs.LiveOrders.{shares_open}
 use Rattle.gx_ledger.specs.declared.group.Entered.{Entered}
 use Rattle.gx_ledger.specs.declared.group.Group.{Group}
-use Rattle.gx_ledger.specs.declared.placed.Change.{Change}
-use Rattle.gx_ledger.specs.declared.placed.Change.TheVariants as changes
-use Rattle.gx_ledger.specs.declared.placed.Placed.{Placed}
+use Rattle.gx_ledger.specs.declared.change.Change.{Change}
+use Rattle.gx_ledger.specs.declared.change.ChangeKind.{ChangeKind}
+use Rattle.gx_ledger.specs.declared.change.ChangeKind.TheVariants as changes
 use Rattle.gx_ledger.specs.declared.sides.SideSums.{SideSums}
 use Rattle.gx_ledger.specs.declared.sides.StockSums.{StockSums}
 use Rattle.gx_ledger.specs.declared.sums.Sums.{Sums}
@@ -52,61 +53,40 @@ with_done shares price s = record {
   done_value = capped (s.done_value + value shares price);
 }
 
--- the shares that the order has open when it comes
-abbrev pub open_when_placed : Placed → ℕ
-open_when_placed placed = placed.shares - placed.done
-
 -- what the order has in common with like ones
-abbrev pub entered_as : Placed → Entered
-entered_as placed = record { side = placed.side; shares = placed.shares; stock = placed.stock; price = placed.price }
+abbrev pub entered_as : LiveOrder → Entered
+entered_as o = record { side = o.terms.side; shares = o.terms.shares; stock = o.terms.stock; price = o.terms.price }
 
 -- the ring with one more item, and without its oldest where it was full
 abbrev pub pushed : {X : Type 0} → X → Buffer X → Buffer X
 pushed x ring = buffer (keep_last ring.capacity (ring.items ++ x ∷ [])) ring.capacity
 
--- the group with one more order of its accounts
-abbrev pub with_placed : Placed → Group → Group
-with_placed placed g = record {
-  sums = with_live (open_when_placed placed) placed.price g.sums;
-  moments = pushed placed.moment g.moments;
-  enters = if placed.replacement then g.enters else pushed (entered_as placed) g.enters;
+-- the group with one more order of its accounts, granted at the moment to a Replace or to an Enter
+abbrev pub with_accepted : LiveOrder → ℕ → Bool → Group → Group
+with_accepted o moment replacement g = record {
+  sums = with_live (shares_open o) o.terms.price g.sums;
+  moments = pushed moment g.moments;
+  enters = if replacement then g.enters else pushed (entered_as o) g.enters;
   sides = g.sides;
 }
 
--- the account whose order changes
-abbrev pub account_changed : Change → AccountName
-account_changed (changes.Accepted placed) = placed.account
-account_changed (changes.Left part) = part.account
-account_changed (changes.Executed part) = part.account
-
--- its stock
-abbrev pub stock_changed : Change → Symbol
-stock_changed (changes.Accepted placed) = placed.stock
-stock_changed (changes.Left part) = part.stock
-stock_changed (changes.Executed part) = part.stock
-
--- its Buy/Sell Indicator
-abbrev pub side_changed : Change → ℕ
-side_changed (changes.Accepted placed) = placed.side
-side_changed (changes.Left part) = part.side
-side_changed (changes.Executed part) = part.side
-
--- the sums of a side of a stock, once an order there has changed
-abbrev pub changed_side : Change → SideSums → SideSums
-changed_side (changes.Accepted placed) s = record { live = capped (s.live + open_when_placed placed); done = s.done }
-changed_side (changes.Left part) s = record { live = s.live - part.shares; done = s.done }
-changed_side (changes.Executed part) s = record { live = s.live; done = capped (s.done + part.shares) }
+-- the sums of a side of a stock, once an order there has changed so
+abbrev pub changed_side : LiveOrder → ChangeKind → SideSums → SideSums
+changed_side o (changes.Accepted moment replacement) s = record { live = capped (s.live + shares_open o); done = s.done }
+changed_side o (changes.Left shares) s = record { live = s.live - shares; done = s.done }
+changed_side o (changes.Executed shares price) s = record { live = s.live; done = capped (s.done + shares) }
 
 -- the sums of a stock, once an order in it has changed
 abbrev pub changed_sides : Change → StockSums → StockSums
 changed_sides change s =
-    if is_buy (side_changed change)
-    then record { buys = changed_side change s.buys; sells = s.sells }
-    else record { buys = s.buys; sells = changed_side change s.sells }
+    if is_buy change.order.terms.side
+    then record { buys = changed_side change.order change.kind s.buys; sells = s.sells }
+    else record { buys = s.buys; sells = changed_side change.order change.kind s.sells }
 
 -- the sums of each stock then
 abbrev pub noted_sides : Change → List (Symbol × StockSums) → List (Symbol × StockSums)
-noted_sides change sides = map (λ (e : Symbol × StockSums). (e.0, if same_stock (stock_changed change) e.0 then changed_sides change e.1 else e.1)) sides
+noted_sides change sides =
+    map (λ (e : Symbol × StockSums). (e.0, if same_stock change.order.terms.stock e.0 then changed_sides change e.1 else e.1)) sides
 
 -- of no order and no fill
 abbrev pub no_sides : StockSums
@@ -140,11 +120,15 @@ with_sums sums g = record { sums = sums; moments = g.moments; enters = g.enters;
 abbrev pub with_sides : Change → Group → Group
 with_sides change g = record { sums = g.sums; moments = g.moments; enters = g.enters; sides = noted_sides change g.sides }
 
+-- the group but for its sides, once an order of its accounts changed so
+abbrev pub changed_so : LiveOrder → ChangeKind → Group → Group
+changed_so o (changes.Accepted moment replacement) g = with_accepted o moment replacement g
+changed_so o (changes.Left shares) g = with_sums (without_live shares o.terms.price g.sums) g
+changed_so o (changes.Executed shares price) g = with_sums (with_done shares price g.sums) g
+
 -- the group, once an order of its accounts changed
 abbrev pub changed_group : Change → Group → Group
-changed_group (changes.Accepted placed) g = with_placed placed (with_sides (changes.Accepted placed) g)
-changed_group (changes.Left part) g = with_sums (without_live part.shares part.price g.sums) (with_sides (changes.Left part) g)
-changed_group (changes.Executed part) g = with_sums (with_done part.shares part.price g.sums) (with_sides (changes.Executed part) g)
+changed_group change g = changed_so change.order change.kind (with_sides change g)
 
 -- a group before any order, with room for so many moments and Enters, and with sums for these stocks
 abbrev pub new_group : ℕ → ℕ → List Stock → Group

@@ -5,7 +5,7 @@ use Rattle.circular_buffer.specs.Buffer.{Buffer, buffer}
 use Rattle.gx_units.specs.Names.{same_account}
 use Rattle.gx_units.specs.declared.names.AccountName.{AccountName}
 use Rattle.gx_units.specs.declared.names.Symbol.{Symbol}
-use Rattle.gx_history.specs.declared.facts.NamedOrder.{NamedOrder}
+use Rattle.gx_history.specs.declared.live_order.LiveOrder.{LiveOrder}
 use Rattle.gx_history.specs.declared.policy.Count.{Count}
 use Rattle.gx_history.specs.declared.policy.Count.TheVariants as counts
 use Rattle.gx_history.specs.declared.policy.FileRule.{FileRule}
@@ -17,6 +17,7 @@ use Rattle.gx_history.specs.declared.record.Request.{Request}
 use Rattle.gx_history.specs.Executions.{Execution, Standing, standing_numbered}
 use Rattle.gx_history.specs.Figures.{Positions, figures, live_shares, live_value, done_shares, done_value, reference, side_done, side_live}
 use Rattle.gx_history.specs.Lists.{are_distinct, last_few}
+use Rattle.gx_history.specs.LiveOrders.{shares_open}
 use Rattle.gx_history.specs.Orders.{Order}
 use Rattle.gx_history.specs.People.{account_named, covers, stock_named}
 use Rattle.gx_history.specs.Rules.{figured}
@@ -26,8 +27,6 @@ use Rattle.gx_positions.specs.Changing.{positions_with}
 use Rattle.gx_positions.specs.Sound.{AreSound, MayCome, MayFill}
 use Rattle.gx_ledger.specs.declared.group.Entered.{Entered}
 use Rattle.gx_ledger.specs.declared.group.Group.{Group}
-use Rattle.gx_ledger.specs.declared.placed.OpenOrder.{OpenOrder}
-use Rattle.gx_ledger.specs.declared.placed.Placed.{Placed}
 use Rattle.gx_ledger.specs.declared.sides.SideSums.{SideSums}
 use Rattle.gx_ledger.specs.declared.sides.StockSums.{StockSums}
 use Rattle.gx_ledger.specs.declared.sums.Sums.{Sums}
@@ -132,28 +131,28 @@ pub record StandsFor (policy : PolicyData) (k : Kept) (held : Positions) : Type 
   pub all_made : AllByRecursion (IsMadeIn policy) held.executions
   pub tallies : k.tallies ≡ map (tally_of policy.stocks k.accounts (total_of held)) policy.rules
 
--- the order is the one that was handed in
-pub record IsPlaced (placed : Placed) (s : Standing) : Type 0 where
-  pub number : s.order.number ≡ placed.order
-  pub account : s.order.account ≡ placed.account
-  pub side : s.order.terms.side ≡ placed.side
-  pub stock : s.order.terms.stock ≡ placed.stock
-  pub price : s.order.terms.price ≡ placed.price
-  pub shares : s.order.terms.shares ≡ placed.shares
-  pub open_shares : s.open_shares ≡ placed.shares - placed.done
-  pub moment : s.order.moment ≡ placed.moment
+-- the order is the one that was handed in, granted at this time to a Replace or to an Enter
+pub record IsAccepted (o : LiveOrder) (time : ℕ) (replaces : Bool) (s : Standing) : Type 0 where
+  pub number : s.order.number ≡ o.number
+  pub account : s.order.account ≡ o.account
+  pub terms : s.order.terms ≡ o.terms
+  pub open_shares : s.open_shares ≡ shares_open o
+  pub moment : s.order.moment ≡ time
   -- a Replace names the token of the order that it replaces
-  pub replacement : is_some s.order.previous_token ≡ placed.replacement
+  pub replacement : is_some s.order.previous_token ≡ replaces
 
 -- a live order is the one that was handed in
-pub record IsHeld (held : Positions) (o : OpenOrder) : Type 0 where
+pub record IsHeld (held : Positions) (o : LiveOrder) : Type 0 where
   pub standing : Standing
-  pub is_found : standing_numbered held.standings o.order ≡ Some standing
+  pub is_found : standing_numbered held.standings o.number ≡ Some standing
   pub account : standing.order.account ≡ o.account
-  pub side : standing.order.terms.side ≡ o.side
-  pub stock : standing.order.terms.stock ≡ o.stock
-  pub price : standing.order.terms.price ≡ o.price
-  pub open_shares : standing.open_shares ≡ o.open_shares
+  pub terms : standing.order.terms ≡ o.terms
+  pub open_shares : standing.open_shares ≡ shares_open o
+
+-- if an order is handed in, it is a live one
+abbrev pub IsHeldIfAny : Positions → Option LiveOrder → Type 0
+IsHeldIfAny held None = Unit {0}
+IsHeldIfAny held (Some o) = IsHeld held o
 
 -- Over all orders, fills and grants that the old ledger stands for and that may change so, the new one stands for what
 -- the change makes of them.
@@ -162,51 +161,37 @@ Carries old new may change = (policy : PolicyData) (held : Positions) → Stands
     → AreSound policy (positions_with change held) → StandsFor policy new (positions_with change held)
 
 -- one more order: any that has what was handed in
-abbrev pub Accepts : Placed → Kept → Kept → Type 0
-Accepts placed old new = (s : Standing) → IsPlaced placed s → Carries old new (λ policy held. MayCome policy held s) (ones.Adds s)
+abbrev pub Accepts : LiveOrder → ℕ → Bool → Kept → Kept → Type 0
+Accepts o moment replacement old new = (s : Standing) → IsAccepted o moment replacement s → Carries old new (λ policy held. MayCome policy held s) (ones.Adds s)
 
 -- the live order has these shares open, at least
-pub record HasOpen (held : Positions) (o : OpenOrder) (shares : ℕ) : Type 0 where
+pub record HasOpen (held : Positions) (o : LiveOrder) (shares : ℕ) : Type 0 where
   pub is_held : IsHeld held o
-  pub enough : shares ≤ o.open_shares
+  pub enough : shares ≤ shares_open o
 
 -- so many of a live order's open shares are open no more
-abbrev pub Cuts : OpenOrder → ℕ → Kept → Kept → Type 0
-Cuts o shares old new = Carries old new (λ policy held. HasOpen held o shares) (ones.Leaves o.order (o.open_shares - shares))
+abbrev pub Cuts : LiveOrder → ℕ → Kept → Kept → Type 0
+Cuts o shares old new = Carries old new (λ policy held. HasOpen held o shares) (ones.Leaves o.number (shares_open o - shares))
 
 -- a live order ends
-abbrev pub Closes : OpenOrder → Kept → Kept → Type 0
-Closes o old new = Carries old new (λ policy held. IsHeld held o) (ones.Leaves o.order 0)
+abbrev pub Closes : LiveOrder → Kept → Kept → Type 0
+Closes o old new = Carries old new (λ policy held. IsHeld held o) (ones.Leaves o.number 0)
 
 -- both orders are live, and the fill between them may be
-pub record AreFilled (held : Positions) (taker maker : OpenOrder) (f : Fill) : Type 0 where
+pub record AreFilled (held : Positions) (taker maker : LiveOrder) (f : Fill) : Type 0 where
   pub taker_is_held : IsHeld held taker
   pub maker_is_held : IsHeld held maker
   pub may_fill : MayFill held f
 
 -- a fill between two live orders
-abbrev pub Fills : OpenOrder → OpenOrder → ℕ → ℕ → Kept → Kept → Type 0
+abbrev pub Fills : LiveOrder → LiveOrder → ℕ → ℕ → Kept → Kept → Type 0
 Fills taker maker shares price old new =
-    let f : Fill = record { taker = taker.order; maker = maker.order; shares = shares; price = price } in
+    let f : Fill = record { taker = taker.number; maker = maker.number; shares = shares; price = price } in
     Carries old new (λ policy held. AreFilled held taker maker f) (ones.Fills f)
-
--- the live order that is named has this side, this stock, this price and these open shares
-pub record IsNamed (held : Positions) (o : NamedOrder) : Type 0 where
-  pub standing : Standing
-  pub is_found : standing_numbered held.standings o.order ≡ Some standing
-  pub side : standing.order.terms.side ≡ o.side
-  pub stock : standing.order.terms.stock ≡ o.stock
-  pub price : standing.order.terms.price ≡ o.price
-  pub open_shares : standing.open_shares ≡ o.open_shares
-
--- if an order is named, it is a live one
-abbrev pub IsNamedIfAny : Positions → Option NamedOrder → Type 0
-IsNamedIfAny held None = Unit {0}
-IsNamedIfAny held (Some o) = IsNamed held o
 
 -- For an account of the policy, what is told are the figures of the policy's rules, over all orders, fills and grants that
 -- the ledger stands for.
-abbrev pub GivesFigures : Kept → AccountName → Request → Option NamedOrder → ℕ → Asking → Type 0
+abbrev pub GivesFigures : Kept → AccountName → Request → Option LiveOrder → ℕ → Asking → Type 0
 GivesFigures k account q replaced moment asked = (policy : PolicyData) (held : Positions) → StandsFor policy k held → AreSound policy held
-    → IsTrue (is_some (account_named policy account)) → IsNamedIfAny held replaced
-    → figured (figures_at asked) policy.rules ≡ with_figures (figures policy held account q (option_map (λ (o : NamedOrder). o.order) replaced) moment) policy.rules
+    → IsTrue (is_some (account_named policy account)) → IsHeldIfAny held replaced
+    → figured (figures_at asked) policy.rules ≡ with_figures (figures policy held account q (option_map (λ (o : LiveOrder). o.number) replaced) moment) policy.rules

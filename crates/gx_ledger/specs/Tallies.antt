@@ -3,9 +3,9 @@ use Rattle.std.specs.Option.{option_map_or}
 use Rattle.std.specs.Prelude.{ℕ, zero, suc, ℤ, pos, not, List, [], ◌∷◌, map, slice_get, Option, Some, None, option_and_then, if◌then◌else◌}
 use Rattle.gx_units.specs.Money.{value}
 use Rattle.gx_units.specs.declared.names.Symbol.{Symbol}
-use Rattle.gx_history.specs.declared.facts.NamedOrder.{NamedOrder}
 use Rattle.gx_history.specs.declared.facts.RuleFigures.{RuleFigures}
 use Rattle.gx_history.specs.declared.facts.StockSide.{StockSide}
+use Rattle.gx_history.specs.declared.live_order.LiveOrder.{LiveOrder}
 use Rattle.gx_history.specs.declared.policy.Account.{Account}
 use Rattle.gx_history.specs.declared.policy.Count.{Count}
 use Rattle.gx_history.specs.declared.policy.Count.TheVariants as counts
@@ -14,15 +14,16 @@ use Rattle.gx_history.specs.declared.policy.RuleKind.{RuleKind}
 use Rattle.gx_history.specs.declared.policy.RuleKind.TheVariants as kinds
 use Rattle.gx_history.specs.declared.policy.Stock.{Stock}
 use Rattle.gx_history.specs.Figures.{no_figures}
+use Rattle.gx_history.specs.LiveOrders.{shares_open}
 use Rattle.gx_history.specs.People.{covers}
 use Rattle.gx_ledger.specs.declared.group.Group.{Group}
-use Rattle.gx_ledger.specs.declared.placed.Change.{Change}
+use Rattle.gx_ledger.specs.declared.change.Change.{Change}
 use Rattle.gx_ledger.specs.declared.sides.StockSums.{StockSums}
 use Rattle.gx_ledger.specs.declared.tally.Asks.{Asks}
 use Rattle.gx_ledger.specs.declared.tally.Asks.TheVariants as asks
 use Rattle.gx_ledger.specs.declared.tally.Tally.{Tally}
 use Rattle.gx_ledger.specs.declared.tally.Wanted.{Wanted}
-use Rattle.gx_ledger.specs.Running.{account_changed, alike_in, changed_group, net_of, new_group, on_its_side, recent_in, sides_at}
+use Rattle.gx_ledger.specs.Running.{alike_in, changed_group, net_of, new_group, on_its_side, recent_in, sides_at}
 
 -- what a rule of this kind asks for
 abbrev pub asks_of : RuleKind → Asks
@@ -32,7 +33,13 @@ asks_of (kinds.GrossValue limit count) = asks.Values
 asks_of (kinds.NetShares limit count) = asks.Sides
 asks_of (kinds.Rate rate count) = asks.Recent rate
 asks_of (kinds.Repeat repeat count) = asks.Alike repeat
-asks_of other = asks.Nothing
+asks_of (kinds.Halt stocks) = asks.Nothing
+asks_of (kinds.Restricted stocks) = asks.Nothing
+asks_of kinds.NoShort = asks.Nothing
+asks_of kinds.NoIso = asks.Nothing
+asks_of kinds.OddLot = asks.Nothing
+asks_of (kinds.OrderShares limit) = asks.Nothing
+asks_of (kinds.OrderValue limit) = asks.Nothing
 
 -- whose orders count together
 abbrev pub count_of : RuleKind → Option Count
@@ -41,7 +48,14 @@ count_of (kinds.GrossValue limit count) = Some count
 count_of (kinds.NetShares limit count) = Some count
 count_of (kinds.Rate rate count) = Some count
 count_of (kinds.Repeat repeat count) = Some count
-count_of other = None
+count_of (kinds.Halt stocks) = None
+count_of (kinds.Restricted stocks) = None
+count_of kinds.NoShort = None
+count_of kinds.NoIso = None
+count_of kinds.OddLot = None
+count_of (kinds.OrderShares limit) = None
+count_of (kinds.OrderValue limit) = None
+count_of (kinds.Collar limit) = None
 
 -- a rate looks back on as many moments as its limit
 abbrev pub room_for_moments : Asks → ℕ
@@ -100,7 +114,7 @@ tally_after change place t = record {
   scope = t.scope;
   asks = t.asks;
   count = t.count;
-  groups = if covers t.scope (account_changed change) then changed_in (place_in t.count place) (changed_group change) t.groups else t.groups;
+  groups = if covers t.scope change.order.account then changed_in (place_in t.count place) (changed_group change) t.groups else t.groups;
 }
 
 -- the group of an account in scope, which has this place in the policy
@@ -115,25 +129,29 @@ net_in sides side = net_of (on_its_side side.buys (sides_at sides side.stock)).d
 abbrev pub live_in : List (Symbol × StockSums) → StockSide → ℕ
 live_in sides side = (on_its_side side.buys (sides_at sides side.stock)).live
 
+-- what is open of the order, at its price
+abbrev pub value_open : LiveOrder → ℕ
+value_open o = value (shares_open o) o.terms.price
+
 -- the figures of a group that the rule asks for
 abbrev pub figures_of_group : Asks → Wanted → Group → RuleFigures
 figures_of_group asks.Shares w g =
     record no_figures {
       live_shares = g.sums.live_shares;
       done_shares = g.sums.done_shares;
-      replaced_shares = option_map_or (λ (o : NamedOrder). o.open_shares) w.replaced 0;
+      replaced_shares = option_map_or shares_open w.replaced 0;
     }
 figures_of_group asks.Values w g =
     record no_figures {
       live_value = g.sums.live_value;
       done_value = g.sums.done_value;
-      replaced_value = option_map_or (λ (o : NamedOrder). value o.open_shares o.price) w.replaced 0;
+      replaced_value = option_map_or value_open w.replaced 0;
     }
 figures_of_group asks.Sides w g =
     record no_figures {
       net_done = option_map_or (net_in g.sides) w.side (pos 0);
       side_live = option_map_or (live_in g.sides) w.side 0;
-      replaced_shares = option_map_or (λ (o : NamedOrder). o.open_shares) w.replaced 0;
+      replaced_shares = option_map_or shares_open w.replaced 0;
     }
 figures_of_group (asks.Recent rate) w g = record no_figures { recent = recent_in g.moments.items rate.window w.moment }
 figures_of_group (asks.Alike repeat) w g = record no_figures { equal_recent = alike_in g.enters.items w.request }

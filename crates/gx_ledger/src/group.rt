@@ -2,18 +2,19 @@
 
 ghost use Rattle.std.specs.Prelude.{◌≡◌, count_by, IfOk, IsTrue};
 ghost use Rattle.gx_ledger.specs.Running.{alike_in, are_alike, asked_as, changed_group, entered_as};
-ghost use Rattle.gx_ledger.specs.Running.{new_group, with_placed};
+ghost use Rattle.gx_ledger.specs.Running.{new_group, with_accepted};
 ghost use Rattle.gx_ledger.specs.Tables.{names_differ};
 
 use crate::alike::alike_among;
+use crate::change::{Change, ChangeKind};
 use crate::moments::Moments;
-use crate::placed::{Change, Placed};
 use crate::sides::Sides;
 use crate::sums::Sums;
 use circular_buffer::HeapCircularBuffer;
+use gx_history::live_order::LiveOrder;
 use gx_history::policy::Stock;
 use gx_history::record::Request;
-use gx_units::{OutOfMemory, Symbol};
+use gx_units::{Moment, OutOfMemory, Symbol};
 use std::alloc::Global;
 
 /// What like Enters have in common.
@@ -39,14 +40,14 @@ pub struct Group {
     pub sides: Sides,
 }
 
-fn entered_as(placed: &Placed) -> Entered
-    ensures { result ≡ entered_as placed.now }
+fn entered_as(order: &LiveOrder) -> Entered
+    ensures { result ≡ entered_as order.now }
 {
     Entered {
-        side: placed.side,
-        shares: placed.shares,
-        stock: placed.stock,
-        price: placed.price,
+        side: order.terms.side,
+        shares: order.terms.shares,
+        stock: order.terms.stock,
+        price: order.terms.price,
     }
 }
 
@@ -97,13 +98,13 @@ impl Group {
         })
     }
 
-    fn accept(&mut self, placed: &Placed)
-        ensures { self.new ≡ with_placed placed.now self.old }
+    fn accept(&mut self, order: &LiveOrder, moment: Moment, replacement: bool)
+        ensures { self.new ≡ with_accepted order.now moment replacement self.old }
     {
-        self.sums = self.sums.with_live(placed.open_shares(), placed.price);
-        self.moments.push(placed.moment);
-        if !placed.replacement {
-            self.enters.push_back(entered_as(placed));
+        self.sums = self.sums.with_live(order.open(), order.terms.price);
+        self.moments.push(moment);
+        if !replacement {
+            self.enters.push_back(entered_as(order));
         }
     }
 
@@ -112,10 +113,18 @@ impl Group {
         ensures { self.new ≡ changed_group change.now self.old }
     {
         self.sides.note(change);
-        match change {
-            Change::Accepted(placed) => self.accept(placed),
-            Change::Left(part) => self.sums = self.sums.without_live(part.shares, part.price),
-            Change::Executed(part) => self.sums = self.sums.with_done(part.shares, part.price),
+        let order = &change.order;
+        match change.kind {
+            ChangeKind::Accepted {
+                moment,
+                replacement,
+            } => self.accept(order, moment, replacement),
+            ChangeKind::Left(shares) => {
+                self.sums = self.sums.without_live(shares, order.terms.price)
+            }
+            ChangeKind::Executed { shares, price } => {
+                self.sums = self.sums.with_done(shares, price)
+            }
         }
     }
 

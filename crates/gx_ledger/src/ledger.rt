@@ -2,20 +2,20 @@
 
 ghost use Rattle.std.specs.Prelude.{◌≡◌, IfOk};
 ghost use Rattle.gx_positions.specs.Changing.{nothing};
-ghost use Rattle.gx_ledger.specs.Keeping.{account_place, kept_executed, kept_noted, part, price_of};
+ghost use Rattle.gx_ledger.specs.Keeping.{account_place, kept_executed, kept_noted, price_of};
 ghost use Rattle.gx_ledger.specs.Keeping.{reference_for, side_wanted, with_price};
-ghost use Rattle.gx_ledger.specs.Running.{account_changed};
 ghost use Rattle.gx_ledger.specs.StandsFor.{Accepts, Closes, Cuts, Fills, GivesFigures, StandsFor};
 ghost use Rattle.gx_ledger.specs.Told.{figures_at};
 
-use crate::placed::{Change, OpenOrder, Part, Placed};
+use crate::change::{Change, ChangeKind};
 use crate::tables::{first_prices, first_tallies, names_of, note_in, note_in_all, set_price};
 use crate::tally::{Tally, Wanted};
 use crate::tally_places::{TallyPlaces, counting_by_account};
-use gx_history::facts::{NO_FIGURES, NamedOrder, RuleFigures, StockSide, TellsFigures};
+use gx_history::facts::{NO_FIGURES, RuleFigures, StockSide, TellsFigures};
+use gx_history::live_order::LiveOrder;
 use gx_history::policy::Policy;
 use gx_history::record::Request;
-use gx_units::{AccountName, OutOfMemory, Symbol};
+use gx_units::{AccountName, Moment, OutOfMemory, Symbol};
 use indexmap::{IndexMap, IndexSet};
 use std::alloc::Global;
 use std::marker::Model;
@@ -94,34 +94,40 @@ impl Ledger {
         })
     }
 
-    /// Takes note of a granted order.
-    pub fn accept(&mut self, placed: &Placed)
-        ensures accepted { Accepts placed.now self.old self.new }
+    /// Takes note of an order that was granted at the moment, to a Replace or to an Enter.
+    pub fn accept(&mut self, order: &LiveOrder, moment: Moment, replacement: bool)
+        ensures accepted { Accepts order.now moment replacement self.old self.new }
     {
-        self.note(&Change::Accepted(*placed));
+        self.note(
+            order,
+            ChangeKind::Accepted {
+                moment,
+                replacement,
+            },
+        );
     }
 
     /// Takes note of a fill between two live orders, at this price.
-    pub fn fill(&mut self, taker: &OpenOrder, maker: &OpenOrder, shares: u32, price: u32)
+    pub fn fill(&mut self, taker: &LiveOrder, maker: &LiveOrder, shares: u32, price: u32)
         ensures filled { Fills taker.now maker.now shares price self.old self.new }
     {
         self.execute(taker, shares, price);
         self.execute(maker, shares, price);
-        self.set_price(maker.stock, price);
+        self.set_price(maker.terms.stock, price);
     }
 
     /// Takes note that so many of a live order's open shares are open no more.
-    pub fn cut(&mut self, order: &OpenOrder, shares: u32)
+    pub fn cut(&mut self, order: &LiveOrder, shares: u32)
         ensures cut { Cuts order.now shares self.old self.new }
     {
-        self.note(&Change::Left(part_of(order, shares)));
+        self.note(order, ChangeKind::Left(shares));
     }
 
     /// Takes note that a live order ended: none of its shares is open.
-    pub fn close(&mut self, order: &OpenOrder)
+    pub fn close(&mut self, order: &LiveOrder)
         ensures closed { Closes order.now self.old self.new }
     {
-        self.note(&Change::Left(part_of(order, order.open_shares)));
+        self.note(order, ChangeKind::Left(order.open()));
     }
 
     /// The figures for a request of the account at the moment, which may replace a live order.
@@ -129,7 +135,7 @@ impl Ledger {
         &self,
         account: AccountName,
         request: &Request,
-        replaced: Option<NamedOrder>,
+        replaced: Option<LiveOrder>,
         moment: u64,
     ) -> AskedFigures<'_>
         ensures figures { GivesFigures self.now account request.now replaced moment result }
@@ -156,16 +162,22 @@ impl Ledger {
         self.accounts.get_index_of(&account)
     }
 
-    fn note(&mut self, change: &Change)
-        ensures { self.new ≡ kept_noted change.now self.old }
+    fn note(&mut self, order: &LiveOrder, kind: ChangeKind)
+        ensures { self.new ≡ kept_noted (record { order = order.now; kind = kind }) self.old }
     {
-        let place = self.place(change.account());
-        self.note_at(place, change);
+        let place = self.place(order.account);
+        self.note_at(
+            place,
+            &Change {
+                order: *order,
+                kind,
+            },
+        );
     }
 
     /// Takes note of a change of an order of the account that has this place in the policy.
     fn note_at(&mut self, place: Option<usize>, change: &Change)
-        requires { place ≡ account_place self.old.accounts (account_changed change.now) }
+        requires { place ≡ account_place self.old.accounts change.now.order.account }
         ensures { self.new ≡ kept_noted change.now self.old }
     {
         let Some(place) = place else {
@@ -175,13 +187,20 @@ impl Ledger {
         note_in(&mut self.tallies, counting, change, place);
     }
 
-    fn execute(&mut self, order: &OpenOrder, shares: u32, price: u32)
+    fn execute(&mut self, order: &LiveOrder, shares: u32, price: u32)
         ensures { self.new ≡ kept_executed order.now shares price self.old }
     {
         let place = self.place(order.account);
-        let left = part_of(order, shares);
-        self.note_at(place, &Change::Left(left));
-        self.note_at(place, &Change::Executed(Part { price, ..left }));
+        let left = Change {
+            order: *order,
+            kind: ChangeKind::Left(shares),
+        };
+        self.note_at(place, &left);
+        let executed = Change {
+            order: *order,
+            kind: ChangeKind::Executed { shares, price },
+        };
+        self.note_at(place, &executed);
     }
 
     fn set_price(&mut self, stock: Symbol, price: u32)
@@ -197,12 +216,12 @@ impl Ledger {
     }
 
     /// The last price of the stock of the order that is asked for.
-    fn reference(&self, request: &Request, replaced: Option<NamedOrder>) -> u32
+    fn reference(&self, request: &Request, replaced: Option<LiveOrder>) -> u32
         ensures { result ≡ reference_for self.now.prices request.now replaced }
     {
         let stock = match request {
             Request::Enter(m) => Some(m.stock),
-            _ => replaced.map(|order| order.stock),
+            _ => replaced.map(|order| order.terms.stock),
         };
         match stock {
             Some(stock) => self.price(stock),
@@ -215,7 +234,7 @@ impl Ledger {
 }
 
 /// The side of the stock that an Enter is for, or that the order is on that would be replaced.
-fn side_of(request: &Request, replaced: Option<NamedOrder>) -> Option<StockSide>
+fn side_of(request: &Request, replaced: Option<LiveOrder>) -> Option<StockSide>
     ensures { result ≡ side_wanted request.now replaced }
 {
     match request {
@@ -224,21 +243,8 @@ fn side_of(request: &Request, replaced: Option<NamedOrder>) -> Option<StockSide>
             buys: m.side == b'B',
         }),
         _ => replaced.map(|order| StockSide {
-            stock: order.stock,
-            buys: order.side == b'B',
+            stock: order.terms.stock,
+            buys: order.terms.side == b'B',
         }),
-    }
-}
-
-/// So many shares of the order, at its price.
-fn part_of(order: &OpenOrder, shares: u32) -> Part
-    ensures { result ≡ part order.now shares order.now.price }
-{
-    Part {
-        account: order.account,
-        side: order.side,
-        stock: order.stock,
-        shares,
-        price: order.price,
     }
 }

@@ -1,15 +1,15 @@
 //! What the file's rules count: open and executed shares and values, recent orders, last prices.
 //!
-//! A [`ledger::Ledger`] keeps no orders: its calls are handed what they need of an order. All its
+//! A [`ledger::Ledger`] keeps no orders: its calls are handed the order. All its
 //! memory is taken as it is opened.
 #![tactic(auto)]
 
 mod alike;
+mod change;
 mod group;
 pub mod laws;
 pub mod ledger;
 mod moments;
-pub mod placed;
 mod sides;
 mod sums;
 mod tables;

@@ -5,7 +5,7 @@ ghost use Rattle.gx_ledger.specs.Running.{changed_side, changed_sides, first_sid
 ghost use Rattle.gx_ledger.specs.Running.{noted_sides, on_its_side, sides_at};
 ghost use Rattle.gx_ledger.specs.Tables.{names_differ};
 
-use crate::placed::Change;
+use crate::change::{Change, ChangeKind};
 use gx_history::policy::Stock;
 use gx_units::{OutOfMemory, Symbol};
 use indexmap::IndexMap;
@@ -57,20 +57,20 @@ const NO_SIDES: StockSums = StockSums {
 impl SideSums {
     /// Once an order of the side has changed.
     fn changed(self, change: &Change) -> SideSums
-        ensures { result ≡ changed_side change.now self }
+        ensures { result ≡ changed_side change.now.order change.now.kind self }
     {
-        match change {
-            Change::Accepted(placed) => SideSums {
-                live: self.live.saturating_add(u128::from(placed.open_shares())),
+        match change.kind {
+            ChangeKind::Accepted { .. } => SideSums {
+                live: self.live.saturating_add(u128::from(change.order.open())),
                 done: self.done,
             },
-            Change::Left(part) => SideSums {
-                live: self.live.saturating_sub(u128::from(part.shares)),
+            ChangeKind::Left(shares) => SideSums {
+                live: self.live.saturating_sub(u128::from(shares)),
                 done: self.done,
             },
-            Change::Executed(part) => SideSums {
+            ChangeKind::Executed { shares, .. } => SideSums {
                 live: self.live,
-                done: self.done.saturating_add(u128::from(part.shares)),
+                done: self.done.saturating_add(u128::from(shares)),
             },
         }
     }
@@ -81,7 +81,7 @@ impl StockSums {
     fn changed(self, change: &Change) -> StockSums
         ensures { result ≡ changed_sides change.now self }
     {
-        if change.buys() {
+        if change.order.terms.side == b'B' {
             StockSums {
                 buys: self.buys.changed(change),
                 sells: self.sells,
@@ -119,7 +119,7 @@ fn note_change(sums: &mut IndexMap<Symbol, StockSums>, change: &Change)
     if sums.is_empty() {
         return;
     }
-    if let Some(found) = sums.get_mut(&change.stock()) {
+    if let Some(found) = sums.get_mut(&change.order.terms.stock) {
         *found = found.changed(change);
     }
 }

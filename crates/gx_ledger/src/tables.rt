@@ -6,7 +6,7 @@ ghost use Rattle.gx_ledger.specs.Keeping.{account_names, noted, priced, referenc
 ghost use Rattle.gx_ledger.specs.Tables.{accounts_differ, names_differ};
 ghost use Rattle.gx_ledger.specs.Tallies.{changed_at, new_tally};
 
-use crate::placed::Change;
+use crate::change::Change;
 use crate::tally::Tally;
 use gx_history::policy::{Account, FileRule, Stock};
 use gx_units::{AccountName, OutOfMemory, Symbol};

@@ -2,7 +2,7 @@
 
 ghost use Rattle.std.specs.Prelude.{◌≡◌, [], ◌∷◌, map, option_copied, pos, slice_get, IfOk, IsTrue};
 ghost use Rattle.std.specs.Option.{option_map_or};
-ghost use Rattle.gx_units.specs.Money.{value};
+ghost use Rattle.gx_history.specs.LiveOrders.{shares_open};
 ghost use Rattle.gx_ledger.specs.Counts.{counts, tally_inside};
 ghost use Rattle.gx_ledger.specs.Running.{changed_group};
 ghost use Rattle.gx_ledger.specs.Tables.{names_differ};
@@ -11,12 +11,13 @@ ghost use Rattle.gx_ledger.specs.Tallies.{figures_of_group};
 ghost use Rattle.gx_ledger.specs.Tallies.{group_in, live_in, net_in, new_groups, new_tally};
 ghost use Rattle.gx_ledger.specs.Tallies.{place_in, stocks_for};
 ghost use Rattle.gx_ledger.specs.Tallies.{room_for_enters, room_for_moments, tally_after};
-ghost use Rattle.gx_ledger.specs.Tallies.{tally_figures};
+ghost use Rattle.gx_ledger.specs.Tallies.{tally_figures, value_open};
 
+use crate::change::Change;
 use crate::group::Group;
-use crate::placed::Change;
 use crate::sides::{Sides, net_of};
-use gx_history::facts::{NO_FIGURES, NamedOrder, RuleFigures, StockSide};
+use gx_history::facts::{NO_FIGURES, RuleFigures, StockSide};
+use gx_history::live_order::LiveOrder;
 use gx_history::policy::{Account, Count, FileRule, Rate, Repeat, RuleKind, Scope, Stock};
 use gx_history::record::Request;
 use gx_units::{AccountName, OutOfMemory, value_of};
@@ -52,7 +53,13 @@ impl Asks {
             RuleKind::NetShares(_, _) => Asks::Sides,
             RuleKind::Rate(rate, _) => Asks::Recent(*rate),
             RuleKind::Repeat(repeat, _) => Asks::Alike(*repeat),
-            _ => Asks::Nothing,
+            RuleKind::Halt(_)
+            | RuleKind::Restricted(_)
+            | RuleKind::NoShort
+            | RuleKind::NoIso
+            | RuleKind::OddLot
+            | RuleKind::OrderShares(_)
+            | RuleKind::OrderValue(_) => Asks::Nothing,
         }
     }
 
@@ -99,7 +106,14 @@ fn count_of(kind: &RuleKind) -> Option<Count>
         RuleKind::NetShares(_, count) => Some(*count),
         RuleKind::Rate(_, count) => Some(*count),
         RuleKind::Repeat(_, count) => Some(*count),
-        _ => None,
+        RuleKind::Halt(_)
+        | RuleKind::Restricted(_)
+        | RuleKind::NoShort
+        | RuleKind::NoIso
+        | RuleKind::OddLot
+        | RuleKind::OrderShares(_)
+        | RuleKind::OrderValue(_)
+        | RuleKind::Collar(_) => None,
     }
 }
 
@@ -213,7 +227,7 @@ pub struct Wanted {
     pub place: Option<usize>,
     pub request: Request,
     /// The order that would be replaced.
-    pub replaced: Option<NamedOrder>,
+    pub replaced: Option<LiveOrder>,
     /// The side of the stock that the order is for.
     pub side: Option<StockSide>,
     /// The price of the last fill in the order's stock, or the policy's.
@@ -221,20 +235,20 @@ pub struct Wanted {
     pub moment: u64,
 }
 
-fn open_of(order: Option<NamedOrder>) -> u128
-    ensures { result ≡ option_map_or (λ o. o.open_shares) order 0 }
+fn open_of(order: Option<LiveOrder>) -> u128
+    ensures { result ≡ option_map_or shares_open order 0 }
 {
     match order {
-        Some(order) => u128::from(order.open_shares),
+        Some(order) => u128::from(order.open()),
         None => 0,
     }
 }
 
-fn open_value_of(order: Option<NamedOrder>) -> u128
-    ensures { result ≡ option_map_or (λ o. value o.open_shares o.price) order 0 }
+fn open_value_of(order: Option<LiveOrder>) -> u128
+    ensures { result ≡ option_map_or value_open order 0 }
 {
     match order {
-        Some(order) => value_of(order.open_shares, order.price),
+        Some(order) => value_of(order.open(), order.terms.price),
         None => 0,
     }
 }
@@ -339,7 +353,7 @@ impl Tally {
     pub fn note(&mut self, change: &Change, place: Option<usize>)
         ensures { self.new ≡ tally_after change.now place self.old }
     {
-        if self.scope.covers(change.account()) {
+        if self.scope.covers(change.order.account) {
             self.note_inside(change, place);
         }
     }

@@ -15,7 +15,7 @@ use Rattle.gx_book.specs.Books.{StockOrders, empty_book, without_orders, on_each
 use Rattle.gx_history.specs.Book.{resting}
 use Rattle.gx_history.specs.Executions.{Standing}
 use Rattle.gx_market.proofs.Lists.{stock_is, stock_is_itself}
-use Rattle.gx_market.specs.BookInForce.{book_in_force, rested_as, rested_in, stock_in_force, is_listed}
+use Rattle.gx_market.specs.BookInForce.{book_in_force, rested_as, rested_in, stock_in_force}
 
 -- under another name it is not found
 other_name : (stock : Symbol) (s : Stock) (rest : Option Stock) → same_stock stock s.name ≡ false → is_some (cond (same_stock s.name stock) (Some s) rest) ≡ true → is_some rest ≡ true
@@ -50,22 +50,6 @@ pub resting_found : (policy : PolicyData) (history : List RecordData) (stock : S
     → resting_in (book_in_force policy history) stock buy ≡ rested_in policy history stock buy
 unfolding book_in_force
 resting_found policy history stock buy h = found_in policy history stock buy policy.stocks h
-
-listed_in : (policy : PolicyData) (history : List RecordData) (stock : Symbol) (ss : List Stock) → is_some (find (λ (s : Stock). same_stock s.name stock) ss) ≡ true
-    → is_some (find (λ (s : StockOrders). same_stock stock s.stock) (map (stock_in_force policy history) ss)) ≡ true
-listed_in policy history stock [] h = cc
-listed_in policy history stock (s ∷ ss) h = at (same_stock stock s.name) refl (listed_in policy history stock ss)
-  where
-    at : (b : Bool) → same_stock stock s.name ≡ b
-        → (is_some (find (λ (x : Stock). same_stock x.name stock) ss) ≡ true → is_some (find (λ (x : StockOrders). same_stock stock x.stock) (map (stock_in_force policy history) ss)) ≡ true)
-        → is_some (cond b (Some (stock_in_force policy history s)) (find (λ (x : StockOrders). same_stock stock x.stock) (map (stock_in_force policy history) ss))) ≡ true
-    at true e deeper = refl
-    at false e deeper = deeper (other_name stock s (find (λ (x : Stock). same_stock x.name stock) ss) e h)
-
--- and the book has it
-pub stock_listed : (policy : PolicyData) (history : List RecordData) (stock : Symbol) → is_some (stock_named policy stock) ≡ true → is_listed (book_in_force policy history) stock ≡ true
-unfolding book_in_force
-stock_listed policy history stock h = listed_in policy history stock policy.stocks h
 
 abbrev made : Symbol → List Resting → List Resting → StockOrders
 made stock buys sells = record { stock = stock; buys = buys; sells = sells }

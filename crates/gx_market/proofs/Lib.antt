@@ -1,11 +1,12 @@
 pub mod Lists
 pub mod Listed
 pub mod Booked
-pub mod Sides
 pub mod Homes
+pub mod Sides
 pub mod Changing
 pub mod Requested
 pub mod Crossing
+pub mod Latest
 pub mod Matches
 pub mod Uncrossed
 pub mod Sound

@@ -27,16 +27,16 @@ use Rattle.gx_effects.proofs.Orderly.{IsOrderly, legal_is_orderly}
 use Rattle.gx_book.specs.declared.resting.Resting.{Resting}
 use Rattle.gx_book.specs.Books.{all_orders, order_in}
 use Rattle.gx_book.specs.Queue.{is_numbered}
-use Rattle.gx_orders.specs.declared.live_order.LiveOrder.{LiveOrder}
-use Rattle.gx_orders.specs.InForce.{kept, orders_in_force}
+use Rattle.gx_history.specs.declared.live_order.LiveOrder.{LiveOrder}
+use Rattle.gx_history.specs.LiveOrders.{kept}
+use Rattle.gx_orders.specs.InForce.{orders_in_force}
 use Rattle.gx_orders.specs.LiveOrders.{order_numbered}
-use Rattle.gx_orders.proofs.Keeping.{IsKeptOpen, open_is}
-use Rattle.gx_orders.proofs.Matching.{numbered_is}
 use Rattle.gx_market.specs.BookInForce.{book_in_force, rested_as}
-use Rattle.gx_market.specs.Meeting.{resting_of}
+use Rattle.gx_market.specs.Changes.{resting_of}
+use Rattle.gx_market.proofs.Crossing.{rests_open}
 use Rattle.gx_market.proofs.Homes.{HasNone, HasOther, IsHome, all_home, buys, none_of_number, own_side, own_stock, same_order}
 use Rattle.gx_market.proofs.Lists.{stock_is, stock_is_itself}
-use Rattle.gx_market.proofs.Matches.{absent, rested_is}
+use Rattle.gx_market.proofs.Matches.{absent}
 
 live_are_listed : (policy : PolicyData) (history : List RecordData) → IsLegal policy history → AllByRecursion (λ (s : Standing). IsListed policy s.order) (live_orders policy history)
 unfolding live_orders standings
@@ -61,7 +61,6 @@ clash h k = cc
 record IsLiving (policy : PolicyData) (history : List RecordData) (s : Standing) : Type 0 where
   known : IsKnown policy history s
   lives : is_live s ≡ true
-  opened : IsKeptOpen policy history s
   listed : IsListed policy s.order
   found : has_rested history s ≡ true → standing_numbered (resting policy history (own_stock s) (buys s)) s.order.number ≡ Some s
 
@@ -83,37 +82,28 @@ rests_in_book policy history s orderly is has_come = at (order_in (book_in_force
         let such : IsFirstSuch (is_numbered s.order.number) (all_orders (book_in_force policy history)) r = first_such (is_numbered s.order.number) (all_orders (book_in_force policy history)) r e in
         ap (λ (x : Resting). Some x) home.is
         ∙ ap (λ (x : Standing). Some (rested_as x))
-        (same_order policy history s home.order is.known.is_found home.there.known.is_found (sym (ap (λ (x : Resting). x.order) home.is) ∙ eqb-true r.order s.order.number such.3))
+        (same_order policy history s home.order is.known.is_found home.there.known.is_found (sym (ap (λ (x : Resting). x.number) home.is) ∙ eqb-true r.number s.order.number such.3))
 
 waits_or_rests : (policy : PolicyData) (history : List RecordData) (s : Standing) → IsOrderly policy history → IsLiving policy history s
     → order_in (book_in_force policy history) s.order.number ≡ cond (not (has_rested history s)) None (Some (resting_of (kept policy history s)))
 waits_or_rests policy history s orderly is = at (has_rested history s) refl
   where
     at : (b : Bool) → has_rested history s ≡ b → order_in (book_in_force policy history) s.order.number ≡ cond (not b) None (Some (resting_of (kept policy history s)))
-    at true e = rests_in_book policy history s orderly is e ∙ ap (λ (x : Resting). Some x) (sym (rested_is policy history s is.opened.0))
+    at true e = rests_in_book policy history s orderly is e
     at false e = absent policy history s orderly (record { known = is.known; lives = is.lives; has_not_rested = e })
 
 all_living : (policy : PolicyData) (history : List RecordData) → IsLegal policy history → AllByRecursion (IsLiving policy history) (live_orders policy history)
 all_living policy history legal =
     all_weaker (λ (s : Standing). (IsHere s × IsListed policy s.order) × IsFound s) (IsLiving policy history)
-    (λ (s : Standing) h. record {
-      known = h.0.0.0.0;
-      lives = h.0.0.0.1;
-      opened = h.0.0.1;
-      listed = h.0.1;
-      found = λ has_come. h.1 has_come;
-    }) (live_orders policy history)
+    (λ s h. record { known = h.0.0.0; lives = h.0.0.1; listed = h.0.1; found = λ has_come. h.1 has_come }) (live_orders policy history)
     (all_and (λ (s : Standing). IsHere s × IsListed policy s.order) IsFound (live_orders policy history)
-    (all_and IsHere (λ (s : Standing). IsListed policy s.order) (live_orders policy history)
-    (all_and (λ (s : Standing). IsKnown policy history s × (is_live s ≡ true)) (IsKeptOpen policy history) (live_orders policy history) (live_known policy history orderly) (open_is policy history))
-    (live_are_listed policy history legal))
-    found_there)
+    (all_and IsHere (λ (s : Standing). IsListed policy s.order) (live_orders policy history) (live_known policy history orderly) (live_are_listed policy history legal)) found_there)
   where
     orderly : IsOrderly policy history
     orderly = legal_is_orderly policy history legal
 
     IsHere : Standing → Type 0
-    IsHere s = (IsKnown policy history s × (is_live s ≡ true)) × IsKeptOpen policy history s
+    IsHere s = IsKnown policy history s × (is_live s ≡ true)
 
     IsFound : Standing → Type 0
     IsFound s = has_rested history s ≡ true → standing_numbered (resting policy history (own_stock s) (buys s)) s.order.number ≡ Some s
@@ -137,21 +127,14 @@ live_wait_or_rest policy history legal =
     (λ (s : Standing) is. waits_or_rests policy history s (legal_is_orderly policy history legal) is) (live_orders policy history) (all_living policy history legal))
 
 resting_is_live : (policy : PolicyData) (history : List RecordData) (r : Resting) → IsHome policy history r
-    → option_map resting_of (order_numbered (orders_in_force policy history).live r.order) ≡ Some r
+    → option_map resting_of (order_numbered (orders_in_force policy history).live r.number) ≡ Some r
 resting_is_live policy history r home =
-    ap (λ (n : ℕ). option_map resting_of (order_numbered (orders_in_force policy history).live n)) (ap (λ (x : Resting). x.order) home.is)
-    ∙ ap (option_map resting_of) (numbered_is policy history home.order.order.number (live_orders policy history))
-    ∙ ap (λ (found : Option Standing). option_map resting_of (option_map (kept policy history) found)) lives
-    ∙ ap (λ (x : Resting). Some x) (rested_is policy history home.order opened.0 ∙ sym home.is)
-  where
-    lives : standing_numbered (live_orders policy history) home.order.order.number ≡ Some home.order
-    lives = live_found policy history home.order home.there.known home.there.there.lives
-
-    opened : IsKeptOpen policy history home.order
-    opened = found_is (IsKeptOpen policy history) (λ (x : Standing). x.order.number == home.order.order.number) (live_orders policy history) home.order (open_is policy history) lives
+    ap (λ (n : ℕ). option_map resting_of (order_numbered (orders_in_force policy history).live n)) (ap (λ (x : Resting). x.number) home.is)
+    ∙ ap (option_map resting_of) (rests_open policy history (own_stock home.order) (buys home.order) home.order home.there).0
+    ∙ ap (λ (x : Resting). Some x) (sym home.is)
 
 pub resting_are_live : (policy : PolicyData) (history : List RecordData) → IsLegal policy history
-    → AllByRecursion (λ (r : Resting). option_map resting_of (order_numbered (orders_in_force policy history).live r.order) ≡ Some r) (all_orders (book_in_force policy history))
+    → AllByRecursion (λ (r : Resting). option_map resting_of (order_numbered (orders_in_force policy history).live r.number) ≡ Some r) (all_orders (book_in_force policy history))
 resting_are_live policy history legal =
-    all_weaker (IsHome policy history) (λ (r : Resting). option_map resting_of (order_numbered (orders_in_force policy history).live r.order) ≡ Some r) (resting_is_live policy history)
+    all_weaker (IsHome policy history) (λ (r : Resting). option_map resting_of (order_numbered (orders_in_force policy history).live r.number) ≡ Some r) (resting_is_live policy history)
     (all_orders (book_in_force policy history)) (all_home policy history (legal_is_orderly policy history legal))

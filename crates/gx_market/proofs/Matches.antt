@@ -1,140 +1,85 @@
 -- What a matching step makes of the book, and what it asks of it.
-use Rattle.std.proofs.Common.{◌≡◌, ℕ, ◌-◌, ◌≤◌, Bool, true, false, not, List, [], ◌∷◌, ◌++◌, refl, ◌∙◌, ap, sym, map, arith}
+use Rattle.std.proofs.Common.{◌≡◌, ℕ, ◌-◌, Bool, true, false, not, List, [], ◌∷◌, ◌++◌, refl, ◌∙◌, ap, sym, map, cond, arith}
 use Rattle.std.proofs.Math.Path.{subst}
-use Rattle.std.specs.Prelude.{Option, Some, None, ◌&&◌, min, option_map, slice_get}
+use Rattle.std.specs.Prelude.{Option, Some, None, ◌==◌, ◌||◌}
 use Rattle.std.specs.Option.{option_map_or}
-use Rattle.std.specs.List.{AllByRecursion}
-use Rattle.std.proofs.lemmas.Bool.{eqb-true}
-use Rattle.gx_units.specs.Names.{same_stock}
+use Rattle.std.proofs.lemmas.Bool.{eqb-true, ne_eqb}
 use Rattle.gx_units.specs.declared.names.Symbol.{Symbol}
 use Rattle.gx_history.specs.declared.policy.PolicyData.{PolicyData}
 use Rattle.gx_history.specs.declared.record.Fill.{Fill}
 use Rattle.gx_history.specs.declared.record.RecordData.{RecordData}
 use Rattle.gx_history.specs.declared.record.Step.TheVariants as steps
 use Rattle.gx_history.specs.declared.record.Verdict.TheVariants as verdicts
-use Rattle.gx_history.specs.Book.{has_rested, incoming, is_buy, is_on_side}
-use Rattle.gx_history.specs.Executions.{Standing, done, executions, live_orders, standing_numbered}
-use Rattle.gx_history.specs.Matched.{ExpiresOrder, FillsOrders}
-use Rattle.gx_history.specs.Orders.{total}
+use Rattle.gx_history.specs.Book.{has_rested, is_buy_order}
+use Rattle.gx_history.specs.Executions.{Standing, live_orders, standing_numbered}
+use Rattle.gx_history.specs.Matched.{ExpiresOrder, left_by_fill}
 use Rattle.gx_history.specs.Verdicts.{next, IsLegal}
-use Rattle.gx_history_laws.proofs.Listed.{IsListed}
 use Rattle.gx_history_laws.proofs.Order.{IsFirstSuch, first_such, some_same}
-use Rattle.gx_effects.specs.OneMore.{Change, Nothing, Rests}
+use Rattle.gx_effects.specs.OneMore.{Nothing, Rests}
 use Rattle.gx_effects.proofs.Expiries.{end_takes_effect}
 use Rattle.gx_effects.proofs.FairFills.{live_found}
-use Rattle.gx_effects.proofs.Fills.{IsFill, fill_takes_effect, is_fill, same_fill}
-use Rattle.gx_effects.proofs.Known.{IsWaiting, RestsThere, all_resting, all_waiting}
+use Rattle.gx_effects.proofs.Fills.{IsFill, is_fill, taker_is_not_maker}
+use Rattle.gx_effects.proofs.Known.{IsKnown, IsWaiting}
 use Rattle.gx_effects.proofs.NewOrders.{found_is}
 use Rattle.gx_effects.proofs.Orderly.{IsOrderly, legal_is_orderly}
 use Rattle.gx_effects.proofs.Rests.{IsRest, is_rest}
 use Rattle.gx_book.specs.declared.resting.Resting.{Resting}
-use Rattle.gx_book.specs.Books.{all_orders, on_side, order_in, with_rested}
-use Rattle.gx_book.specs.Queue.{best_reduced, is_numbered}
-use Rattle.gx_orders.specs.declared.live_order.LiveOrder.{LiveOrder}
-use Rattle.gx_orders.specs.InForce.{kept, orders_in_force}
-use Rattle.gx_orders.specs.LiveOrders.{first_waiting}
-use Rattle.gx_orders.proofs.Keeping.{IsKeptOpen, first_is}
+use Rattle.gx_book.specs.Books.{all_orders, order_in}
+use Rattle.gx_book.specs.Queue.{is_numbered}
+use Rattle.gx_history.specs.declared.live_order.LiveOrder.{LiveOrder}
+use Rattle.gx_history.specs.LiveOrders.{kept}
+use Rattle.gx_orders.specs.InForce.{orders_in_force}
+use Rattle.gx_orders.specs.LiveOrders.{first_waiting, order_numbered}
+use Rattle.gx_orders.proofs.Keeping.{IsKeptOpen}
 use Rattle.gx_market.specs.BookInForce.{book_in_force, rested_as}
-use Rattle.gx_market.specs.Changes.{book_with, lessened}
-use Rattle.gx_market.specs.Laws.{CanRest, CanTake}
-use Rattle.gx_market.specs.Meeting.{resting_of}
-use Rattle.gx_market.proofs.Booked.{book_kept, side_changed, stock_listed}
-use Rattle.gx_market.proofs.Crossing.{best_is, waiting_open}
-use Rattle.gx_market.proofs.Homes.{IsHome, all_home, not_both, other_way, same_order}
-use Rattle.gx_market.proofs.Listed.{waiting_are_listed}
-use Rattle.gx_market.proofs.Lists.{append_mapped, stock_is}
-use Rattle.gx_market.proofs.Requested.{book_by}
-use Rattle.gx_market.proofs.Sides.{lowered_is, still}
-
--- the first that waits, as it is kept
-pub first_is_kept : (policy : PolicyData) (history : List RecordData) (s : Standing) (others : List Standing) (o : LiveOrder) → incoming policy history ≡ s ∷ others
-    → first_waiting (orders_in_force policy history).live ≡ Some o → o ≡ kept policy history s
-first_is_kept policy history s others o comes waits =
-    some_same (sym waits ∙ first_is policy history ∙ ap (λ (ss : List Standing). option_map (kept policy history) (slice_get ss 0)) comes)
-
-pub rested_is : (policy : PolicyData) (history : List RecordData) (s : Standing) → s.open_shares ≡ total history s.order - done (executions policy history) s.order → resting_of (kept policy history s) ≡ rested_as s
-rested_is policy history s e = ap (λ (n : ℕ). rested_as (record { order = s.order; open_shares = n })) (sym e)
+use Rattle.gx_market.specs.Changes.{left_with, put_to_rest}
+use Rattle.gx_market.proofs.Booked.{book_kept}
+use Rattle.gx_market.proofs.Changing.{SidesChange, left_now, rests}
+use Rattle.gx_market.proofs.Crossing.{first_is_kept, rests_open}
+use Rattle.gx_market.proofs.Homes.{IsHome, all_home, same_order}
+use Rattle.gx_market.proofs.Requested.{sides_by}
 
 -- ---- a fill
 
-pub fills_take : (policy : PolicyData) (history : List RecordData) (handed : ℕ) (r : RecordData) (f : Fill) → IsLegal policy history → next policy history (steps.Matching handed) ≡ Some r
-    → r.verdict ≡ verdicts.Filled f → book_in_force policy (history ++ r ∷ []) ≡ lessened f.maker f.shares (book_in_force policy history)
-fills_take policy history handed r f legal left fills = book_by policy history (steps.Matching handed) r (verdicts.Filled f) legal left fills
-
--- a fill takes its shares off the best on the side against the taker
-book_filled : (policy : PolicyData) (history : List RecordData) (r : RecordData) (f : Fill) → IsOrderly policy history → (is : FillsOrders policy history (history ++ r ∷ []) r f)
-    → on_side is.taker.order.terms.stock (not (is_buy is.taker.order.terms.side)) (best_reduced f.shares) (book_in_force policy history) ≡ book_in_force policy (history ++ r ∷ [])
-book_filled policy history r f orderly is =
-    side_changed policy history (history ++ r ∷ []) stock buy (best_reduced f.shares)
-    (record {
-      here =
-          ap (λ (ss : List Standing). best_reduced f.shares (map rested_as ss)) is.is_best
-          ∙ ap (λ xs. xs ++ map rested_as is.behind) (lowered_is f.shares is.maker)
-          ∙ append_mapped rested_as (still is.maker (is.maker.open_shares - f.shares)) is.behind
-          ∙ ap (map rested_as) (sym is.resting_left);
-      other_side = ap (map rested_as) (is.resting_kept stock (not buy) (not_both (same_stock is.maker.order.terms.stock stock) (is_on_side (not buy) is.maker.order) (other_way buy is.maker.order there.there.of_side)));
-      elsewhere = λ (other : Symbol) (side : Bool) differs.
-          ap (map rested_as) (is.resting_kept other side
-          (ap (λ (x : Symbol). same_stock x other && is_on_side side is.maker.order) (stock_is is.maker.order.terms.stock stock there.there.of_stock)
-          ∙ ap (λ (b : Bool). b && is_on_side side is.maker.order) differs));
-    })
+pub fills_take : (policy : PolicyData) (history : List RecordData) (handed : ℕ) (r : RecordData) (f : Fill) (maker : LiveOrder) → IsLegal policy history
+    → next policy history (steps.Matching handed) ≡ Some r → r.verdict ≡ verdicts.Filled f → order_numbered (orders_in_force policy history).live f.maker ≡ Some maker
+    → book_in_force policy (history ++ r ∷ []) ≡ left_with maker ((maker.total - maker.done) - f.shares) (book_in_force policy history)
+fills_take policy history handed r f maker legal left fills found = taken (is_fill policy history handed r f orderly left fills)
   where
-    stock : Symbol
-    stock = is.taker.order.terms.stock
+    orderly : IsOrderly policy history
+    orderly = legal_is_orderly policy history legal
 
-    buy : Bool
-    buy = not (is_buy is.taker.order.terms.side)
-
-    there : RestsThere policy history stock buy is.maker
-    there = (subst (AllByRecursion (RestsThere policy history stock buy)) is.is_best (all_resting policy history stock buy orderly)).0
-
-pub fills_take_from_best : (policy : PolicyData) (history : List RecordData) (handed : ℕ) (r : RecordData) (f : Fill) (o : LiveOrder) → IsLegal policy history
-    → next policy history (steps.Matching handed) ≡ Some r → r.verdict ≡ verdicts.Filled f → first_waiting (orders_in_force policy history).live ≡ Some o
-    → book_in_force policy (history ++ r ∷ []) ≡ on_side o.terms.stock (not (is_buy o.terms.side)) (best_reduced f.shares) (book_in_force policy history)
-fills_take_from_best policy history handed r f o legal left fills waits =
-    from_best (fill_takes_effect policy history handed r f (legal_is_orderly policy history legal) left fills)
-  where
-    from_best : FillsOrders policy history (history ++ r ∷ []) r f
-        → book_in_force policy (history ++ r ∷ []) ≡ on_side o.terms.stock (not (is_buy o.terms.side)) (best_reduced f.shares) (book_in_force policy history)
-    from_best is =
-        sym (book_filled policy history r f (legal_is_orderly policy history legal) is)
-        ∙ ap (λ (x : LiveOrder). on_side x.terms.stock (not (is_buy x.terms.side)) (best_reduced f.shares) (book_in_force policy history))
-        (sym (first_is_kept policy history is.taker is.waiting o is.comes_first waits))
-
-pub fills_fit : (policy : PolicyData) (history : List RecordData) (handed : ℕ) (r : RecordData) (f : Fill) (o : LiveOrder) → IsLegal policy history
-    → next policy history (steps.Matching handed) ≡ Some r → r.verdict ≡ verdicts.Filled f → first_waiting (orders_in_force policy history).live ≡ Some o
-    → CanTake (book_in_force policy history) f o
-fills_fit policy history handed r f o legal left fills waits = can_take (is_fill policy history handed r f (legal_is_orderly policy history legal) left fills)
-  where
-    can_take : IsFill policy history r f → CanTake (book_in_force policy history) f o
-    can_take is =
-        subst (CanTake (book_in_force policy history) f) (sym (first_is_kept policy history is.taker is.waiting o is.comes_first waits))
-        (record {
-          best = rested_as is.maker;
-          is_best = best_is policy history is.taker listed ∙ ap (λ (ss : List Standing). option_map rested_as (slice_get ss 0)) is.is_best;
-          is_taker = is.of_taker;
-          is_maker = is.of_maker;
-          taker_has_them = few_of_taker f.shares is.taker.open_shares is.maker.open_shares (total history is.taker.order - done (executions policy history) is.taker.order) shares_are opened.0;
-          maker_has_them = few_of_maker f.shares is.taker.open_shares is.maker.open_shares shares_are;
-        })
+    taken : IsFill policy history r f → book_in_force policy (history ++ r ∷ []) ≡ left_with maker ((maker.total - maker.done) - f.shares) (book_in_force policy history)
+    taken is =
+        sym (left_now policy history (history ++ r ∷ []) is.maker (left_by_fill f) (is.maker.open_shares - f.shares) orderly is.maker_rests.known one
+        (sides_by policy history (steps.Matching handed) r (verdicts.Filled f) legal left fills))
+        ∙ ap (λ (n : ℕ). left_with (kept policy history is.maker) (n - f.shares) (book_in_force policy history)) there.1.0
+        ∙ ap (λ (x : LiveOrder). left_with x ((x.total - x.done) - f.shares) (book_in_force policy history))
+        (some_same (sym there.0 ∙ ap (order_numbered (orders_in_force policy history).live) (sym is.of_maker) ∙ found))
       where
-        listed : IsListed policy is.taker.order
-        listed = (subst (AllByRecursion (λ (s : Standing). IsListed policy s.order)) is.comes_first (waiting_are_listed policy history legal)).0
+        there : (order_numbered (orders_in_force policy history).live is.maker.order.number ≡ Some (kept policy history is.maker)) × IsKeptOpen policy history is.maker
+        there = rests_open policy history is.taker.order.terms.stock (not (is_buy_order is.taker.order)) is.maker is.maker_rests
 
-        opened : IsKeptOpen policy history is.taker
-        opened = (subst (AllByRecursion (IsKeptOpen policy history)) is.comes_first (waiting_open policy history)).0
+        open_now : Standing → Bool → Bool → ℕ
+        open_now x takes makes = x.open_shares - cond (takes || makes) f.shares 0
 
-        theirs : Fill
-        theirs = record { taker = is.taker.order.number; maker = is.maker.order.number; shares = min is.taker.open_shares is.maker.open_shares; price = is.maker.order.terms.price }
+        less_none : (n : ℕ) → n - 0 ≡ n
+        less_none n = omega arith
 
-        shares_are : f.shares ≡ min is.taker.open_shares is.maker.open_shares
-        shares_are = ap (λ (x : Fill). x.shares) (same_fill f theirs (sym is.is_fill ∙ is.is_theirs))
+        one : (x : Standing) → IsKnown policy history x → has_rested history x ≡ true → left_by_fill f x ≡ cond (x.order.number == is.maker.order.number) (is.maker.open_shares - f.shares) x.open_shares
+        one x known rested =
+            ap (λ (b : Bool). open_now x b (x.order.number == f.maker)) not_taker
+            ∙ ap (λ (n : ℕ). open_now x false (x.order.number == n)) is.of_maker
+            ∙ at (x.order.number == is.maker.order.number) refl
+          where
+            not_taker : (x.order.number == f.taker) ≡ false
+            not_taker =
+                ne_eqb x.order.number f.taker (λ same. taker_is_not_maker policy history is.taker x is.taker_waits.has_not_rested rested (sym is.of_taker ∙ sym same))
 
-        few_of_taker : (n taker maker its : ℕ) → n ≡ min taker maker → taker ≡ its → n ≤ its
-        few_of_taker n taker maker its e k = omega arith
-
-        few_of_maker : (n taker maker : ℕ) → n ≡ min taker maker → n ≤ maker
-        few_of_maker n taker maker e = omega arith
+            at : (b : Bool) → (x.order.number == is.maker.order.number) ≡ b → open_now x false b ≡ cond b (is.maker.open_shares - f.shares) x.open_shares
+            at true e =
+                ap (λ (y : Standing). y.open_shares - f.shares) (same_order policy history is.maker x is.maker_rests.known.is_found known.is_found (eqb-true x.order.number is.maker.order.number e))
+            at false e = less_none x.open_shares
 
 -- ---- an order that comes to rest
 
@@ -150,26 +95,8 @@ absent policy history s orderly waits = at (order_in (book_in_force policy histo
     at (Some r) e =
         let home : IsHome policy history r = found_is (IsHome policy history) (is_numbered s.order.number) (all_orders (book_in_force policy history)) r (all_home policy history orderly) e in
         let such : IsFirstSuch (is_numbered s.order.number) (all_orders (book_in_force policy history)) r = first_such (is_numbered s.order.number) (all_orders (book_in_force policy history)) r e in
-        let is : home.order ≡ s = same_order policy history s home.order waits.known.is_found home.there.known.is_found (sym (ap (λ (x : Resting). x.order) home.is) ∙ eqb-true r.order s.order.number such.3) in
+        let is : home.order ≡ s = same_order policy history s home.order waits.known.is_found home.there.known.is_found (sym (ap (λ (x : Resting). x.number) home.is) ∙ eqb-true r.number s.order.number such.3) in
         absurd (clash home.there.has_come_to_rest (ap (has_rested history) is ∙ waits.has_not_rested))
-
-pub first_can_rest : (policy : PolicyData) (history : List RecordData) (o : LiveOrder) → IsLegal policy history → first_waiting (orders_in_force policy history).live ≡ Some o
-    → CanRest (book_in_force policy history) (resting_of o)
-first_can_rest policy history o legal waits = at (incoming policy history) refl
-  where
-    orderly : IsOrderly policy history
-    orderly = legal_is_orderly policy history legal
-
-    at : (found : List Standing) → incoming policy history ≡ found → CanRest (book_in_force policy history) (resting_of o)
-    at [] e =
-        let none : None ≡ Some o = sym (first_is policy history ∙ ap (λ (ss : List Standing). option_map (kept policy history) (slice_get ss 0)) e) ∙ waits in
-        cc
-    at (s ∷ others) e =
-        let listed : IsListed policy s.order = (subst (AllByRecursion (λ (x : Standing). IsListed policy x.order)) e (waiting_are_listed policy history legal)).0 in
-        let opened : IsKeptOpen policy history s = (subst (AllByRecursion (IsKeptOpen policy history)) e (waiting_open policy history)).0 in
-        let waiting : IsWaiting policy history s = (subst (AllByRecursion (IsWaiting policy history)) e (all_waiting policy history orderly)).0 in
-        subst (CanRest (book_in_force policy history)) (sym (ap resting_of (first_is_kept policy history s others o e waits) ∙ rested_is policy history s opened.0))
-        (record { is_absent = absent policy history s orderly waiting; has_shares = opened.1; is_in_listed = stock_listed policy history s.order.terms.stock listed })
 
 pub rests_are_of_first : (policy : PolicyData) (history : List RecordData) (handed : ℕ) (r : RecordData) (number : ℕ) (o : LiveOrder) → IsLegal policy history
     → next policy history (steps.Matching handed) ≡ Some r → r.verdict ≡ verdicts.Rested number → first_waiting (orders_in_force policy history).live ≡ Some o → number ≡ o.number
@@ -181,21 +108,18 @@ rests_are_of_first policy history handed r number o legal left rests waits =
 
 pub rests_are_put : (policy : PolicyData) (history : List RecordData) (handed : ℕ) (r : RecordData) (number : ℕ) (o : LiveOrder) → IsLegal policy history
     → next policy history (steps.Matching handed) ≡ Some r → r.verdict ≡ verdicts.Rested number → first_waiting (orders_in_force policy history).live ≡ Some o
-    → book_in_force policy (history ++ r ∷ []) ≡ with_rested (resting_of o) (book_in_force policy history)
-rests_are_put policy history handed r number o legal left rests waits =
-    put (is_rest policy history handed r number (legal_is_orderly policy history legal) left rests)
+    → book_in_force policy (history ++ r ∷ []) ≡ put_to_rest o (book_in_force policy history)
+rests_are_put policy history handed r number o legal left to_rest waits =
+    put (is_rest policy history handed r number (legal_is_orderly policy history legal) left to_rest)
   where
-    put : IsRest policy history r number → book_in_force policy (history ++ r ∷ []) ≡ with_rested (resting_of o) (book_in_force policy history)
+    put : IsRest policy history r number → book_in_force policy (history ++ r ∷ []) ≡ put_to_rest o (book_in_force policy history)
     put is =
-        book_by policy history (steps.Matching handed) r (verdicts.Rested number) legal left rests
-        ∙ ap (λ (c : Change). book_with c (book_in_force policy history))
+        sym (rests policy history (history ++ r ∷ []) is.first
+        (subst (SidesChange policy history (history ++ r ∷ []))
         (ap (λ (n : ℕ). option_map_or Rests (standing_numbered (live_orders policy history) n) Nothing) is.has_number
         ∙ ap (λ (found : Option Standing). option_map_or Rests found Nothing) (live_found policy history is.first is.first_waits.known is.first_waits.lives))
-        ∙ ap (λ (x : Resting). with_rested x (book_in_force policy history))
-        (sym (ap resting_of (first_is_kept policy history is.first is.waiting o is.comes_first waits) ∙ rested_is policy history is.first opened.0))
-      where
-        opened : IsKeptOpen policy history is.first
-        opened = (subst (AllByRecursion (IsKeptOpen policy history)) is.comes_first (waiting_open policy history)).0
+        (sides_by policy history (steps.Matching handed) r (verdicts.Rested number) legal left to_rest)))
+        ∙ ap (λ (x : LiveOrder). put_to_rest x (book_in_force policy history)) (sym (first_is_kept policy history is.first is.waiting o is.comes_first waits))
 
 -- ---- an order that ends
 

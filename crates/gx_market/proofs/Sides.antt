@@ -1,109 +1,118 @@
--- One side of a stock as the book holds it: an order has fewer shares, or is gone.
-use Rattle.std.proofs.Common.{◌≡◌, ℕ, ◌-◌, ◌<◌, ◌≤◌, Bool, true, false, not, List, [], ◌∷◌, ◌++◌, refl, ◌∙◌, ap, sym, map, cond, arith}
-use Rattle.std.specs.Prelude.{◌==◌, nat_lt, nat_le}
-use Rattle.std.specs.List.{AllByRecursion}
-use Rattle.std.proofs.lemmas.Bool.{leb-true, leb-false, ltb-true, ltb-false, eqb-true, ne_eqb}
-use Rattle.gx_history.specs.Effects.{still_open, with_open, without}
+-- One side of a stock as the book holds it, where an order goes.
+use Rattle.std.proofs.Common.{◌≡◌, ℕ, Bool, true, false, not, List, [], ◌∷◌, refl, ◌∙◌, ap, sym, map, cond}
+use Rattle.std.proofs.Math.Path.{subst}
+use Rattle.std.specs.Prelude.{◌==◌, ◌&&◌, nat_lt}
+use Rattle.std.specs.List.{filter, AllByRecursion}
+use Rattle.std.proofs.lemmas.Bool.{eqb-true, ne_eqb, eq-eqb}
+use Rattle.gx_units.specs.Names.{same_stock}
+use Rattle.gx_units.specs.declared.names.Symbol.{Symbol}
+use Rattle.gx_history.specs.declared.policy.PolicyData.{PolicyData}
+use Rattle.gx_history.specs.declared.record.RecordData.{RecordData}
+use Rattle.gx_history.specs.Book.{has_rested, is_on_side, resting}
+use Rattle.gx_history.specs.Effects.{still_open, with_open}
 use Rattle.gx_history.specs.Executions.{Standing, is_live}
 use Rattle.gx_history_laws.proofs.Numbers.{all_weaker}
-use Rattle.gx_effects.proofs.Apart.{AreApart, IsApartFrom, all_pass_filter}
-use Rattle.gx_effects.proofs.Known.{number_in}
-use Rattle.gx_effects.proofs.Lessening.{untouched}
-use Rattle.gx_effects.proofs.NotLive.{all_and}
+use Rattle.gx_effects.proofs.Known.{IsKnown, RestsThere, all_resting}
+use Rattle.gx_effects.proofs.Orderly.{IsOrderly}
 use Rattle.gx_book.specs.declared.resting.Resting.{Resting}
-use Rattle.gx_book.specs.Queue.{at_first, is_numbered, lowered, without_order}
-use Rattle.gx_market.specs.BookInForce.{rested_as}
-use Rattle.gx_market.specs.Changes.{left_with}
-use Rattle.gx_market.proofs.Lists.{append_mapped}
+use Rattle.gx_book.specs.Books.{on_side}
+use Rattle.gx_book.specs.Queue.{is_same, without_order}
+use Rattle.gx_market.specs.BookInForce.{book_in_force, rested_as, rested_in}
+use Rattle.gx_market.proofs.Booked.{side_changed}
+use Rattle.gx_market.proofs.Homes.{both_are, buys, not_both, other_way, own_side, own_stock, same_order}
 
-abbrev pub with_shares : Standing → ℕ → Standing
-with_shares s shares = record { order = s.order; open_shares = shares }
-
--- the order with so many shares open, if there are any
-abbrev pub still : Standing → ℕ → List Standing
-still s shares = cond (nat_lt 0 shares) (with_shares s shares ∷ []) []
-
--- of a live order so many shares are open now: as the change says where it has this number, and as many as before where it has not
-pub record IsChanged (open_now : Standing → ℕ) (number : ℕ) (change : Resting → List Resting) (s : Standing) : Type 0 where
-  pub lives : is_live s ≡ true
-  pub here : (s.order.number == number) ≡ true → change (rested_as s) ≡ map rested_as (still s (open_now s))
-  pub others : (s.order.number == number) ≡ false → open_now s ≡ s.open_shares
-
--- the others have another number
-pub others_differ : (number : ℕ) (x : Standing) (xs : List Standing) → (x.order.number == number) ≡ true → AllByRecursion (IsApartFrom number_in x) xs
-    → AllByRecursion (λ (s : Standing). (s.order.number == number) ≡ false) xs
-others_differ number x xs here apart =
-    all_weaker (IsApartFrom number_in x) (λ (s : Standing). (s.order.number == number) ≡ false)
-    (λ (s : Standing) differs. ne_eqb s.order.number number (λ same. differs (same ∙ sym (eqb-true x.order.number number here)))) xs apart
-
--- where none has the number, nothing changes
-none_changed : (open_now : Standing → ℕ) (number : ℕ) (change : Resting → List Resting) (side : List Standing) → AllByRecursion (IsChanged open_now number change) side
-    → AllByRecursion (λ (s : Standing). (s.order.number == number) ≡ false) side → still_open open_now side ≡ side
-none_changed open_now number change side are none =
-    untouched open_now side
-    (all_weaker (λ (s : Standing). IsChanged open_now number change s × ((s.order.number == number) ≡ false)) (λ (s : Standing). (open_now s ≡ s.open_shares) × (is_live s ≡ true))
-    (λ (s : Standing) h. (h.0.others h.1, h.0.lives)) side
-    (all_and (IsChanged open_now number change) (λ (s : Standing). (s.order.number == number) ≡ false) side are none))
-
--- so many shares less are so many left, or the order is gone
-pub lowered_is : (shares : ℕ) (s : Standing) → lowered shares (rested_as s) ≡ map rested_as (still s (s.open_shares - shares))
-lowered_is shares s = at (nat_le s.open_shares shares) (nat_lt 0 (s.open_shares - shares)) refl refl
+-- the book has the orders that stay open, however many shares
+pub side_opened : (open_now : Standing → ℕ) (side : List Standing) → map rested_as (still_open open_now side) ≡ map rested_as (filter (λ (s : Standing). nat_lt 0 (open_now s)) side)
+side_opened open_now [] = refl
+side_opened open_now (s ∷ ss) = at (nat_lt 0 (open_now s)) (side_opened open_now ss)
   where
-    gone : (open_now : ℕ) → open_now ≤ shares → 0 < open_now - shares → ⊥
-    gone open_now h k = absurd (omega arith)
+    chosen : List Standing
+    chosen = filter (λ (x : Standing). nat_lt 0 (open_now x)) ss
 
-    stays : (open_now : ℕ) → shares < open_now → open_now - shares ≤ 0 → ⊥
-    stays open_now h k = absurd (omega arith)
+    at : (b : Bool) → map rested_as (still_open open_now ss) ≡ map rested_as chosen
+        → map rested_as (cond b (with_open open_now s ∷ still_open open_now ss) (still_open open_now ss)) ≡ map rested_as (cond b (s ∷ chosen) chosen)
+    at true later = ap (λ rs. rested_as s ∷ rs) later
+    at false later = later
 
-    at : (b c : Bool) → nat_le s.open_shares shares ≡ b → nat_lt 0 (s.open_shares - shares) ≡ c
-        → cond b [] (rested_as (with_shares s (s.open_shares - shares)) ∷ []) ≡ map rested_as (cond c (with_shares s (s.open_shares - shares) ∷ []) [])
-    at true true e k = absurd (gone s.open_shares (leb-true s.open_shares shares e) (ltb-true 0 (s.open_shares - shares) k))
-    at true false e k = refl
-    at false true e k = refl
-    at false false e k = absurd (stays s.open_shares (leb-false s.open_shares shares e) (ltb-false 0 (s.open_shares - shares) k))
+-- all pass
+pub side_stays : (p : Standing → Bool) (side : List Standing) → AllByRecursion (λ (s : Standing). p s ≡ true) side → filter p side ≡ side
+side_stays p [] h = refl
+side_stays p (s ∷ ss) h = ap (λ (b : Bool). cond b (s ∷ filter p ss) (filter p ss)) h.0 ∙ ap (λ rs. s ∷ rs) (side_stays p ss h.1)
 
-pub left_is : (shares : ℕ) (s : Standing) → left_with shares (rested_as s) ≡ map rested_as (still s shares)
-left_is shares s = at (nat_lt 0 shares)
+-- all pass but this order
+side_without : (gone : Resting) (p : Standing → Bool) (side : List Standing) → AllByRecursion (λ (s : Standing). is_same gone (rested_as s) ≡ not (p s)) side
+    → without_order gone (map rested_as side) ≡ map rested_as (filter p side)
+side_without gone p [] h = refl
+side_without gone p (s ∷ ss) h =
+    ap (λ (b : Bool). cond (not b) (rested_as s ∷ without_order gone (map rested_as ss)) (without_order gone (map rested_as ss))) h.0
+    ∙ at (p s) (side_without gone p ss h.1)
   where
-    at : (b : Bool) → cond b (rested_as (with_shares s shares) ∷ []) [] ≡ map rested_as (cond b (with_shares s shares ∷ []) [])
-    at true = refl
-    at false = refl
+    at : (b : Bool) → without_order gone (map rested_as ss) ≡ map rested_as (filter p ss)
+        → cond (not (not b)) (rested_as s ∷ without_order gone (map rested_as ss)) (without_order gone (map rested_as ss)) ≡ map rested_as (cond b (s ∷ filter p ss) (filter p ss))
+    at true later = ap (λ rs. rested_as s ∷ rs) later
+    at false later = later
 
-front : {X : Type 0} (b : Bool) (x : X) (xs : List X) → cond b (x ∷ []) [] ++ xs ≡ cond b (x ∷ xs) xs
-front true x xs = refl
-front false x xs = refl
-
--- a change of the order of this number, as the book makes it
-pub side_changed_at : (open_now : Standing → ℕ) (number : ℕ) (change : Resting → List Resting) (side : List Standing) → AllByRecursion (IsChanged open_now number change) side → AreApart number_in side
-    → at_first (is_numbered number) change (map rested_as side) ≡ map rested_as (still_open open_now side)
-side_changed_at open_now number change [] are apart = refl
-side_changed_at open_now number change (x ∷ xs) are apart = at (x.order.number == number) refl (side_changed_at open_now number change xs are.1 apart.1)
+-- an order that is known is told from others by its number
+pub same_by_number : (policy : PolicyData) (history : List RecordData) (s x : Standing) → IsKnown policy history s → IsKnown policy history x
+    → is_same (rested_as s) (rested_as x) ≡ (x.order.number == s.order.number)
+same_by_number policy history s x its others = at (x.order.number == s.order.number) refl
   where
-    at : (b : Bool) → (x.order.number == number) ≡ b → at_first (is_numbered number) change (map rested_as xs) ≡ map rested_as (still_open open_now xs)
-        → cond b (change (rested_as x) ++ map rested_as xs) (rested_as x ∷ at_first (is_numbered number) change (map rested_as xs))
-        ≡ map rested_as (cond (nat_lt 0 (open_now x)) (with_open open_now x ∷ still_open open_now xs) (still_open open_now xs))
-    at true e later =
-        ap (λ ys. ys ++ map rested_as xs) (are.0.here e)
-        ∙ append_mapped rested_as (still x (open_now x)) xs
-        ∙ ap (map rested_as) (front (nat_lt 0 (open_now x)) (with_open open_now x) xs)
-        ∙ ap (λ (ys : List Standing). map rested_as (cond (nat_lt 0 (open_now x)) (with_open open_now x ∷ ys) ys))
-        (sym (none_changed open_now number change xs are.1 (others_differ number x xs e apart.0)))
-    at false e later =
-        ap (λ ys. rested_as x ∷ ys) later
-        ∙ ap (λ (b : Bool). map rested_as (cond b (x ∷ still_open open_now xs) (still_open open_now xs))) (sym are.0.lives)
-        ∙ ap (λ (n : ℕ). map rested_as (cond (nat_lt 0 n) (with_shares x n ∷ still_open open_now xs) (still_open open_now xs))) (sym (are.0.others e))
+    at : (b : Bool) → (x.order.number == s.order.number) ≡ b → is_same (rested_as s) (rested_as x) ≡ b
+    at true e =
+        let same : x ≡ s = same_order policy history s x its.is_found others.is_found (eqb-true x.order.number s.order.number e) in
+        ap (λ (y : Standing). is_same (rested_as s) (rested_as y)) same
+        ∙ both_are (s.order.number == s.order.number) (s.order.terms.price == s.order.terms.price) (eq-eqb s.order.number s.order.number refl) (eq-eqb s.order.terms.price s.order.terms.price refl)
+    at false e =
+        let differ : (s.order.number == x.order.number) ≡ false =
+        ne_eqb s.order.number x.order.number (λ same. clash (eq-eqb x.order.number s.order.number (sym same)) e)
+        in
+        ap (λ (b : Bool). b && (s.order.terms.price == x.order.terms.price)) differ
+      where
+        clash : {b : Bool} → b ≡ true → b ≡ false → ⊥
+        clash h k = cc
 
--- where none has the number, none is taken out
-none_without : (number : ℕ) (side : List Standing) → AllByRecursion (λ (s : Standing). (s.order.number == number) ≡ false) side → without number side ≡ side
-none_without number side none =
-    all_pass_filter (λ (s : Standing). not (s.order.number == number)) side
-    (all_weaker (λ (s : Standing). (s.order.number == number) ≡ false) (λ (s : Standing). not (s.order.number == number) ≡ true) (λ (s : Standing) h. ap not h) side none)
-
-pub side_without : (number : ℕ) (side : List Standing) → AreApart number_in side → without_order number (map rested_as side) ≡ map rested_as (without number side)
-side_without number [] apart = refl
-side_without number (x ∷ xs) apart = at (x.order.number == number) refl (side_without number xs apart.1)
+-- an order taken out of the book goes from its side of its stock alone
+pub taken_from_home : (policy : PolicyData) (before after : List RecordData) (s : Standing) (p : Standing → Bool) → IsOrderly policy before → IsKnown policy before s
+    → ((x : Standing) → IsKnown policy before x → has_rested before x ≡ true → is_live x ≡ true → p x ≡ not (x.order.number == s.order.number))
+    → ((stock : Symbol) (buy : Bool) → rested_in policy after stock buy ≡ map rested_as (filter p (resting policy before stock buy)))
+    → on_side (own_stock s) (buys s) (without_order (rested_as s)) (book_in_force policy before) ≡ book_in_force policy after
+taken_from_home policy before after s p orderly known passes sides =
+    side_changed policy before after (own_stock s) (buys s) (without_order (rested_as s))
+    (record {
+      here = goes (own_stock s) (buys s);
+      other_side = stays (own_stock s) (not (buys s)) (not_both (same_stock (own_stock s) (own_stock s)) (is_on_side (not (buys s)) s.order) (other_way (buys s) s.order (own_side s.order (buys s) refl)));
+      elsewhere = λ (stock : Symbol) (buy : Bool) differs. stays stock buy (ap (λ (b : Bool). b && is_on_side buy s.order) differs);
+    })
   where
-    at : (b : Bool) → (x.order.number == number) ≡ b → without_order number (map rested_as xs) ≡ map rested_as (without number xs)
-        → cond b (map rested_as xs) (rested_as x ∷ without_order number (map rested_as xs)) ≡ map rested_as (cond (not b) (x ∷ without number xs) (without number xs))
-    at true e later = ap (map rested_as) (sym (none_without number xs (others_differ number x xs e apart.0)))
-    at false e later = ap (λ ys. rested_as x ∷ ys) later
+    twice : (b : Bool) → not (not b) ≡ b
+    twice true = refl
+    twice false = refl
+
+    goes : (stock : Symbol) (buy : Bool) → without_order (rested_as s) (rested_in policy before stock buy) ≡ rested_in policy after stock buy
+    goes stock buy =
+        side_without (rested_as s) p (resting policy before stock buy)
+        (all_weaker (RestsThere policy before stock buy) (λ (x : Standing). is_same (rested_as s) (rested_as x) ≡ not (p x))
+        (λ (x : Standing) k.
+        same_by_number policy before s x known k.known
+        ∙ sym (ap not (passes x k.known k.has_come_to_rest k.there.lives) ∙ twice (x.order.number == s.order.number)))
+        (resting policy before stock buy) (all_resting policy before stock buy orderly))
+        ∙ sym (sides stock buy)
+
+    stays : (stock : Symbol) (buy : Bool) → (same_stock (own_stock s) stock && is_on_side buy s.order) ≡ false → rested_in policy after stock buy ≡ rested_in policy before stock buy
+    stays stock buy apart =
+        sides stock buy
+        ∙ ap (map rested_as) (side_stays p (resting policy before stock buy)
+        (all_weaker (RestsThere policy before stock buy) (λ (x : Standing). p x ≡ true)
+        (λ (x : Standing) k. passes x k.known k.has_come_to_rest k.there.lives ∙ ap not (other x k)) (resting policy before stock buy) (all_resting policy before stock buy orderly)))
+      where
+        other : (x : Standing) → RestsThere policy before stock buy x → (x.order.number == s.order.number) ≡ false
+        other x k =
+            ne_eqb x.order.number s.order.number (λ same.
+            clash
+            (both_are (same_stock (own_stock s) stock) (is_on_side buy s.order)
+            (subst (λ (y : Standing). same_stock (own_stock y) stock ≡ true) (same_order policy before s x known.is_found k.known.is_found same) k.there.of_stock)
+            (subst (λ (y : Standing). is_on_side buy y.order ≡ true) (same_order policy before s x known.is_found k.known.is_found same) k.there.of_side))
+            apart)
+          where
+            clash : {b : Bool} → b ≡ true → b ≡ false → ⊥
+            clash h j = cc

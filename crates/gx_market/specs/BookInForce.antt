@@ -1,5 +1,5 @@
 -- The book after the records of a day: for each listed stock, the orders that rest on either side.
-use Rattle.std.specs.Prelude.{Bool, true, false, is_some, List, map}
+use Rattle.std.specs.Prelude.{Bool, true, false, List, map}
 use Rattle.gx_units.specs.declared.names.Symbol.{Symbol}
 use Rattle.gx_history.specs.declared.policy.PolicyData.{PolicyData}
 use Rattle.gx_history.specs.declared.policy.Stock.{Stock}
@@ -7,19 +7,11 @@ use Rattle.gx_history.specs.declared.record.RecordData.{RecordData}
 use Rattle.gx_history.specs.Book.{resting}
 use Rattle.gx_history.specs.Executions.{Standing}
 use Rattle.gx_book.specs.declared.resting.Resting.{Resting}
-use Rattle.gx_book.specs.Books.{StockOrders, stock_in}
+use Rattle.gx_book.specs.Books.{StockOrders}
 
 -- what the book holds of an order that rests
 abbrev pub rested_as : Standing → Resting
-rested_as s = record {
-  order = s.order.number;
-  account = s.order.account;
-  user = s.order.user;
-  side = s.order.terms.side;
-  stock = s.order.terms.stock;
-  price = s.order.terms.price;
-  shares = s.open_shares;
-}
+rested_as s = record { number = s.order.number; account = s.order.account; price = s.order.terms.price }
 
 -- what it holds on one side of a stock, true for buys
 abbrev pub rested_in : PolicyData → List RecordData → Symbol → Bool → List Resting
@@ -32,7 +24,3 @@ stock_in_force policy history s = record { stock = s.name; buys = rested_in poli
 -- the orders that rest after these records, for each listed stock
 unfoldable pub book_in_force : PolicyData → List RecordData → List StockOrders
 book_in_force policy history = map (stock_in_force policy history) policy.stocks
-
--- the book has the stock
-abbrev pub is_listed : List StockOrders → Symbol → Bool
-is_listed book stock = is_some (stock_in book stock)

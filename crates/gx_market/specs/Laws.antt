@@ -1,5 +1,5 @@
 -- What the definitions say of every legal history, in the words of the orders and the book that are kept.
-use Rattle.std.specs.Prelude.{◌≡◌, ℕ, ◌-◌, ◌<◌, ◌≤◌, not, IsTrue, List, [], ◌∷◌, ◌++◌, Some, None, option_map, if◌then◌else◌}
+use Rattle.std.specs.Prelude.{◌≡◌, ℕ, ◌-◌, ◌<◌, IsTrue, List, [], ◌∷◌, ◌++◌, Some, None, option_map, if◌then◌else◌}
 use Rattle.std.specs.List.{AllByRecursion}
 use Rattle.gx_units.specs.declared.names.AccountName.{AccountName}
 use Rattle.gx_ouch.specs.declared.inbound.CancelOrder.{CancelOrder}
@@ -18,26 +18,19 @@ use Rattle.gx_history.specs.Book.{is_buy}
 use Rattle.gx_history.specs.Matching.{matching}
 use Rattle.gx_history.specs.Requests.{action_of}
 use Rattle.gx_history.specs.Verdicts.{IsLegal, next}
-use Rattle.gx_effects.specs.OneMore.{change_of}
 use Rattle.gx_book.specs.declared.resting.Resting.{Resting}
-use Rattle.gx_book.specs.Books.{StockOrders, all_orders, empty_book, is_sound_book, on_each_side, on_side, order_in, with_rested}
-use Rattle.gx_book.specs.Queue.{best_reduced, no_orders, without_account}
-use Rattle.gx_orders.specs.declared.live_order.LiveOrder.{LiveOrder}
+use Rattle.gx_book.specs.Books.{StockOrders, all_orders, empty_book, is_sound_book, on_each_side, order_in, resting_in}
+use Rattle.gx_book.specs.Queue.{IsLatest, no_orders, without_account}
+use Rattle.gx_history.specs.declared.live_order.LiveOrder.{LiveOrder}
 use Rattle.gx_orders.specs.InForce.{orders_in_force}
 use Rattle.gx_orders.specs.LiveOrders.{first_waiting, order_numbered, order_under}
-use Rattle.gx_market.specs.BookInForce.{book_in_force, is_listed}
-use Rattle.gx_market.specs.Changes.{book_with, cut_from, keeps_book, lessened, removed}
-use Rattle.gx_market.specs.Meeting.{best_against, match_record, next_met, resting_of}
+use Rattle.gx_market.specs.BookInForce.{book_in_force}
+use Rattle.gx_market.specs.Changes.{keeps_book, left_with, put_to_rest, resting_of, taken_out}
+use Rattle.gx_market.specs.Meeting.{match_record, next_met}
 
 -- before any record nothing rests
 abbrev pub NoneRestsAtFirst : Type 0
 NoneRestsAtFirst = (policy : PolicyData) → book_in_force policy [] ≡ empty_book policy
-
--- one more record changes the book by the word for what it does
-abbrev pub BookGoesOn : Type 0
-BookGoesOn = (policy : PolicyData) (history : List RecordData) (step : Step) (r : RecordData)
-    → IsLegal policy history → next policy history step ≡ Some r
-    → book_in_force policy (history ++ r ∷ []) ≡ book_with (change_of policy history r) (book_in_force policy history)
 
 -- a denial changes nothing that rests
 abbrev pub DenialsKeepBook : Type 0
@@ -51,19 +44,19 @@ OthersKeepBook = (policy : PolicyData) (history : List RecordData) (a : Asked) (
     → IsLegal policy history → next policy history (steps.Asked a) ≡ Some r → IsTrue (keeps_book a.request) → r.verdict ≡ verdicts.Granted
     → book_in_force policy (history ++ r ∷ []) ≡ book_in_force policy history
 
--- a granted Cancel takes off the order that it names what is open beyond the new size, if it rests
+-- a granted Cancel leaves the order that it names in its place, or takes it out where nothing of it is left
 abbrev pub CancelsTakeShares : Type 0
 CancelsTakeShares = (policy : PolicyData) (history : List RecordData) (a : Asked) (r : RecordData) (m : CancelOrder) (o : LiveOrder)
     → IsLegal policy history → next policy history (steps.Asked a) ≡ Some r → a.request ≡ requests.Cancel m → r.verdict ≡ verdicts.Granted
     → order_under (orders_in_force policy history).live a.user m.token ≡ Some o
-    → book_in_force policy (history ++ r ∷ []) ≡ lessened o.number (cut_from o m.shares) (book_in_force policy history)
+    → book_in_force policy (history ++ r ∷ []) ≡ left_with o (m.shares - o.done) (book_in_force policy history)
 
 -- a granted Replace takes out the order that it names, if it rests
 abbrev pub ReplacesTakeOut : Type 0
 ReplacesTakeOut = (policy : PolicyData) (history : List RecordData) (a : Asked) (r : RecordData) (m : ReplaceOrder) (o : LiveOrder)
     → IsLegal policy history → next policy history (steps.Asked a) ≡ Some r → a.request ≡ requests.Replace m → r.verdict ≡ verdicts.Granted
     → order_under (orders_in_force policy history).live a.user m.existing_token ≡ Some o
-    → book_in_force policy (history ++ r ∷ []) ≡ removed o.number (book_in_force policy history)
+    → book_in_force policy (history ++ r ∷ []) ≡ taken_out o (book_in_force policy history)
 
 -- a granted Kill takes out the orders of its account
 abbrev pub KillsTakeOut : Type 0
@@ -77,53 +70,27 @@ ClosesTakeOut = (policy : PolicyData) (history : List RecordData) (a : Asked) (r
     → IsLegal policy history → next policy history (steps.Asked a) ≡ Some r → action_of a.request ≡ Some actions.CloseDay → r.verdict ≡ verdicts.Granted
     → book_in_force policy (history ++ r ∷ []) ≡ on_each_side no_orders (book_in_force policy history)
 
--- a fill takes its shares off the maker
-abbrev pub FillsTakeShares : Type 0
-FillsTakeShares = (policy : PolicyData) (history : List RecordData) (handed : ℕ) (r : RecordData) (f : Fill)
+-- a fill leaves its maker in its place, or takes it out where nothing of it is left
+abbrev pub FillsTakeOut : Type 0
+FillsTakeOut = (policy : PolicyData) (history : List RecordData) (handed : ℕ) (r : RecordData) (f : Fill) (maker : LiveOrder)
     → IsLegal policy history → next policy history (steps.Matching handed) ≡ Some r → r.verdict ≡ verdicts.Filled f
-    → book_in_force policy (history ++ r ∷ []) ≡ lessened f.maker f.shares (book_in_force policy history)
-
--- who is the best on the other side of the stock of the first that waits
-abbrev pub FillsTakeFromBest : Type 0
-FillsTakeFromBest = (policy : PolicyData) (history : List RecordData) (handed : ℕ) (r : RecordData) (f : Fill) (o : LiveOrder)
-    → IsLegal policy history → next policy history (steps.Matching handed) ≡ Some r → r.verdict ≡ verdicts.Filled f
-    → first_waiting (orders_in_force policy history).live ≡ Some o
-    → book_in_force policy (history ++ r ∷ [])
-    ≡ on_side o.terms.stock (not (is_buy o.terms.side)) (best_reduced f.shares) (book_in_force policy history)
-
--- the fill is of the first that waits and the best against it, for shares that both have open
-pub record CanTake (book : List StockOrders) (f : Fill) (o : LiveOrder) : Type 0 where
-  pub best : Resting
-  pub is_best : best_against book o ≡ Some best
-  pub is_taker : f.taker ≡ o.number
-  pub is_maker : f.maker ≡ best.order
-  pub taker_has_them : f.shares ≤ o.total - o.done
-  pub maker_has_them : f.shares ≤ best.shares
-
-abbrev pub FillsFitBook : Type 0
-FillsFitBook = (policy : PolicyData) (history : List RecordData) (handed : ℕ) (r : RecordData) (f : Fill) (o : LiveOrder)
-    → IsLegal policy history → next policy history (steps.Matching handed) ≡ Some r → r.verdict ≡ verdicts.Filled f
-    → first_waiting (orders_in_force policy history).live ≡ Some o
-    → CanTake (book_in_force policy history) f o
+    → order_numbered (orders_in_force policy history).live f.maker ≡ Some maker
+    → book_in_force policy (history ++ r ∷ []) ≡ left_with maker ((maker.total - maker.done) - f.shares) (book_in_force policy history)
 
 -- the first that waits comes to rest on its side
 abbrev pub RestsArePut : Type 0
 RestsArePut = (policy : PolicyData) (history : List RecordData) (handed : ℕ) (r : RecordData) (number : ℕ) (o : LiveOrder)
     → IsLegal policy history → next policy history (steps.Matching handed) ≡ Some r → r.verdict ≡ verdicts.Rested number
     → first_waiting (orders_in_force policy history).live ≡ Some o
-    → book_in_force policy (history ++ r ∷ []) ≡ with_rested (resting_of o) (book_in_force policy history)
+    → book_in_force policy (history ++ r ∷ []) ≡ put_to_rest o (book_in_force policy history)
 
--- an order can be put to rest: it does not rest yet, has shares, and is in a listed stock
-pub record CanRest (book : List StockOrders) (added : Resting) : Type 0 where
-  pub is_absent : order_in book added.order ≡ None
-  pub has_shares : 0 < added.shares
-  pub is_in_listed : IsTrue (is_listed book added.stock)
+-- its number is above those that rest there at its price: orders come to rest in the order of their numbers
+abbrev pub FirstIsLatest : Type 0
+FirstIsLatest = (policy : PolicyData) (history : List RecordData) (o : LiveOrder)
+    → IsLegal policy history → first_waiting (orders_in_force policy history).live ≡ Some o
+    → IsLatest (resting_of o) (resting_in (book_in_force policy history) o.terms.stock (is_buy o.terms.side))
 
--- the first that waits can, whatever becomes of it, and it is the one of a record of rest
-abbrev pub FirstCanRest : Type 0
-FirstCanRest = (policy : PolicyData) (history : List RecordData) (o : LiveOrder)
-    → IsLegal policy history → first_waiting (orders_in_force policy history).live ≡ Some o → CanRest (book_in_force policy history) (resting_of o)
-
+-- and it is the one of a record of rest
 abbrev pub RestsAreOfFirst : Type 0
 RestsAreOfFirst = (policy : PolicyData) (history : List RecordData) (handed : ℕ) (r : RecordData) (number : ℕ) (o : LiveOrder)
     → IsLegal policy history → next policy history (steps.Matching handed) ≡ Some r → r.verdict ≡ verdicts.Rested number
@@ -155,11 +122,11 @@ IsUncrossed s = AllByRecursion (λ (buy : Resting). AllByRecursion (λ (sell : R
 abbrev pub BooksAreUncrossed : Type 0
 BooksAreUncrossed = (policy : PolicyData) (history : List RecordData) → IsLegal policy history → AllByRecursion IsUncrossed (book_in_force policy history)
 
--- each side has orders of its own stock and side, with shares, the better price first
+-- each side has the better price first
 abbrev pub BooksAreSound : Type 0
 BooksAreSound = (policy : PolicyData) (history : List RecordData) → IsLegal policy history → IsTrue (is_sound_book (book_in_force policy history))
 
--- each live order waits, or rests with what is open of it
+-- each live order waits, or rests
 abbrev pub LiveWaitOrRest : Type 0
 LiveWaitOrRest = (policy : PolicyData) (history : List RecordData)
     → IsLegal policy history
@@ -170,5 +137,5 @@ LiveWaitOrRest = (policy : PolicyData) (history : List RecordData)
 abbrev pub RestingAreLive : Type 0
 RestingAreLive = (policy : PolicyData) (history : List RecordData)
     → IsLegal policy history
-    → AllByRecursion (λ (r : Resting). option_map resting_of (order_numbered (orders_in_force policy history).live r.order) ≡ Some r)
+    → AllByRecursion (λ (r : Resting). option_map resting_of (order_numbered (orders_in_force policy history).live r.number) ≡ Some r)
     (all_orders (book_in_force policy history))

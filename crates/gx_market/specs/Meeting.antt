@@ -1,5 +1,5 @@
 -- The next execution, by what is kept: the first that waits, against the best that rests on the other side of its stock.
-use Rattle.std.specs.Prelude.{ℕ, ◌+◌, length, ◌-◌, ◌==◌, Bool, true, false, not, nat_le, min, List, Option, Some, None, option_map, slice_get}
+use Rattle.std.specs.Prelude.{ℕ, ◌+◌, length, ◌-◌, ◌==◌, Bool, true, false, not, nat_le, min, List, Option, Some, None, option_and_then, option_map}
 use Rattle.gx_history.specs.declared.record.Fill.{Fill}
 use Rattle.gx_history.specs.declared.record.RecordData.{RecordData}
 use Rattle.gx_history.specs.declared.record.Step.TheVariants as steps
@@ -9,34 +9,34 @@ use Rattle.gx_history.specs.Book.{is_buy}
 use Rattle.gx_history.specs.OuchValues.{immediate_or_cancel}
 use Rattle.gx_history.specs.Verdicts.{moment_of}
 use Rattle.gx_book.specs.declared.resting.Resting.{Resting}
-use Rattle.gx_book.specs.Books.{StockOrders, resting_in}
-use Rattle.gx_orders.specs.declared.live_order.LiveOrder.{LiveOrder}
-use Rattle.gx_orders.specs.LiveOrders.{OrdersData, first_waiting}
+use Rattle.gx_book.specs.Books.{StockOrders, best_in}
+use Rattle.gx_history.specs.declared.live_order.LiveOrder.{LiveOrder}
+use Rattle.gx_orders.specs.LiveOrders.{OrdersData, first_waiting, order_numbered}
 
 -- the buy is at or above the sell
-abbrev pub meets : LiveOrder → Resting → Bool
-meets o best = elim (is_buy o.terms.side) [ true ↦ nat_le best.price o.terms.price | false ↦ nat_le o.terms.price best.price ]
+abbrev pub meets : LiveOrder → LiveOrder → Bool
+meets o best = elim (is_buy o.terms.side) [ true ↦ nat_le best.terms.price o.terms.price | false ↦ nat_le o.terms.price best.terms.price ]
 
 -- an order that meets nothing rests, or ends where it is immediate-or-cancel
 abbrev pub unmet : LiveOrder → Verdict
 unmet o = elim (o.terms.time_in_force == immediate_or_cancel) [ true ↦ verdicts.Expired o.number | false ↦ verdicts.Rested o.number ]
 
 -- both trade the lesser of their open shares, at the price of the one that rests
-abbrev pub fill_with : LiveOrder → Resting → Fill
-fill_with o best = record { taker = o.number; maker = best.order; shares = min (o.total - o.done) best.shares; price = best.price }
+abbrev pub fill_with : LiveOrder → LiveOrder → Fill
+fill_with o best = record { taker = o.number; maker = best.number; shares = min (o.total - o.done) (best.total - best.done); price = best.terms.price }
 
 -- what becomes of an order, over the best on the other side
-abbrev pub met : LiveOrder → Option Resting → Verdict
+abbrev pub met : LiveOrder → Option LiveOrder → Verdict
 met o None = unmet o
 met o (Some best) = elim (meets o best) [ true ↦ verdicts.Filled (fill_with o best) | false ↦ unmet o ]
 
 -- the best that rests on the other side of its stock
-abbrev pub best_against : List StockOrders → LiveOrder → Option Resting
-best_against book o = slice_get (resting_in book o.terms.stock (not (is_buy o.terms.side))) 0
+abbrev pub best_against : List StockOrders → List LiveOrder → LiveOrder → Option LiveOrder
+best_against book live o = option_and_then (λ (r : Resting). order_numbered live r.number) (best_in book o.terms.stock (not (is_buy o.terms.side)))
 
 -- the next execution, if an order waits for one
 abbrev pub next_met : OrdersData → List StockOrders → Option Verdict
-next_met orders book = option_map (λ (o : LiveOrder). met o (best_against book o)) (first_waiting orders.live)
+next_met orders book = option_map (λ (o : LiveOrder). met o (best_against book orders.live o)) (first_waiting orders.live)
 
 -- the record that a matching step of this verdict leaves
 abbrev pub match_record : List RecordData → ℕ → Verdict → RecordData
@@ -45,16 +45,4 @@ match_record history handed v = record {
   moment = moment_of history (steps.Matching handed);
   step = steps.Matching handed;
   verdict = v;
-}
-
--- what the book holds of a live order
-abbrev pub resting_of : LiveOrder → Resting
-resting_of o = record {
-  order = o.number;
-  account = o.account;
-  user = o.user;
-  side = o.terms.side;
-  stock = o.terms.stock;
-  price = o.terms.price;
-  shares = o.total - o.done;
 }

@@ -2,68 +2,55 @@
 
 ghost use Rattle.std.specs.Prelude.{◌≡◌, not};
 ghost use Rattle.gx_history.specs.Book.{is_buy};
-ghost use Rattle.gx_market.specs.Meeting.{best_against, meets, met, resting_of, unmet};
+ghost use Rattle.gx_market.specs.Meeting.{best_against, meets, met, unmet};
 
 use gx_book::book::Book;
-use gx_book::resting::{Resting, is_buy};
+use gx_book::resting::is_buy;
+use gx_history::live_order::LiveOrder;
 use gx_history::record::{Fill, Verdict};
-use gx_orders::live_order::LiveOrder;
+use gx_orders::orders::Orders;
 
 /// The time in force of an order that does not rest.
 const IMMEDIATE_OR_CANCEL: u32 = 0;
 
 /// The best that rests on the other side of the order's stock.
-pub fn best_against(book: &Book, order: &LiveOrder) -> Option<Resting>
-    ensures { result ≡ best_against book.now order.now }
+pub fn best_against(book: &Book, orders: &Orders, order: &LiveOrder) -> Option<LiveOrder>
+    ensures { result ≡ best_against book.now orders.now.live order.now }
 {
-    book.best(order.terms.stock, opposite(order.terms.side))
+    let best = book.best(order.terms.stock, opposite(order.terms.side))?;
+    orders.numbered(best.number)
 }
 
 /// What becomes of an order that waits, over the best on the other side: a fill at the price of the one that rests
 /// where they meet; else it comes to rest, or ends where it is immediate-or-cancel.
-pub fn met(order: &LiveOrder, best: Option<Resting>) -> Verdict
+pub fn met(order: &LiveOrder, best: Option<LiveOrder>) -> Verdict
     ensures { result ≡ met order.now best }
 {
     match best {
         Some(best) if meets(order, &best) => Verdict::Filled(Fill {
             taker: order.number,
-            maker: best.order,
-            shares: order.open().min(best.shares),
-            price: best.price,
+            maker: best.number,
+            shares: order.open().min(best.open()),
+            price: best.terms.price,
         }),
         _ => unmet(order),
     }
 }
 
-/// What the book holds of the order where it comes to rest.
-pub fn resting_of(order: &LiveOrder) -> Resting
-    ensures { result ≡ resting_of order.now }
-{
-    Resting {
-        order: order.number,
-        account: order.account,
-        user: order.user,
-        side: order.terms.side,
-        stock: order.terms.stock,
-        price: order.terms.price,
-        shares: order.open(),
-    }
-}
-
 /// A side that an order of this side trades with.
-pub fn opposite(side: u8) -> u8
+fn opposite(side: u8) -> u8
     ensures { is_buy result ≡ not (is_buy side) }
 {
     if is_buy(side) { b'S' } else { b'B' }
 }
 
-fn meets(order: &LiveOrder, best: &Resting) -> bool
+fn meets(order: &LiveOrder, best: &LiveOrder) -> bool
     ensures { result ≡ meets order.now best.now }
 {
     if is_buy(order.terms.side) {
-        best.price <= order.terms.price
+        best.terms.price <= order.terms.price
     } else {
-        order.terms.price <= best.price
+        order.terms.price <= best.terms.price
     }
 }
 

@@ -15,9 +15,10 @@ use Rattle.gx_units.specs.declared.names.UserName.{UserName}
 use Rattle.gx_effects.proofs.Entered.{all_mapped}
 use Rattle.gx_history_laws.proofs.Order.{some_same}
 use Rattle.gx_history_laws.proofs.Owners.{filtered}
-use Rattle.gx_orders.specs.declared.live_order.LiveOrder.{LiveOrder}
-use Rattle.gx_orders.specs.declared.live_order.UserToken.{UserToken}
-use Rattle.gx_orders.specs.LiveOrders.{OrdersData, NumbersRise, IsOpen, at_rest, changed, first_waiting, has_number, is_under, is_used, key, open_ones, order_numbered, order_under, resized, same_user_token, token_of, waiting, without}
+use Rattle.gx_history.specs.declared.live_order.LiveOrder.{LiveOrder}
+use Rattle.gx_history.specs.declared.live_order.UserToken.{UserToken}
+use Rattle.gx_history.specs.LiveOrders.{is_under, key, token_of}
+use Rattle.gx_orders.specs.LiveOrders.{OrdersData, NumbersRise, IsOpen, at_rest, changed, first_waiting, has_number, is_used, open_ones, order_numbered, order_under, resized, same_user_token, waiting, without}
 use Rattle.gx_orders.specs.Tables.{numbered, numbers, shown, AreFound, AreTied}
 use Rattle.gx_orders.proofs.Places.{IsAbove, IsBelow, values_numbered, found_numbered, written, taken_out, put_last, number_last, last_out, chosen, none_numbered}
 use Rattle.gx_orders.proofs.Kept.{changed_alike, changed_nowhere, found_has_number, listed_without, listed_at_rest, none_shut, shut}

@@ -1,18 +1,17 @@
 -- Each user's orders are counted after each change.
-use Rattle.std.proofs.Common.{◌≡◌, ℕ, ◌+◌, ◌-◌, ◌<◌, ◌≤◌, ◌^◌, arith, true, false, not, Bool, cond, List, [], ◌∷◌, ◌++◌, map, length, suc, refl, ◌∙◌, ap, sym}
+use Rattle.std.proofs.Common.{◌≡◌, ℕ, ◌+◌, ◌-◌, ◌≤◌, arith, true, false, not, Bool, cond, List, [], ◌∷◌, ◌++◌, length, refl, ◌∙◌, ap, sym}
 use Rattle.std.specs.Prelude.{Option, Some, None, ◌&&◌, unwrap_or, if◌then◌else◌}
-use Rattle.std.specs.List.{filter, find, AllByRecursion}
-use Rattle.std.specs.Map.{lookup, values_of}
+use Rattle.std.specs.List.{filter, find}
+use Rattle.std.specs.Map.{lookup}
 use Rattle.gx_units.specs.Names.{same_account, same_user}
 use Rattle.gx_units.specs.declared.names.AccountName.{AccountName}
 use Rattle.gx_units.specs.declared.names.UserName.{UserName}
 use Rattle.gx_history_laws.proofs.Adding.{user_is}
-use Rattle.gx_history_laws.proofs.Names.{same_user_flip}
 use Rattle.gx_history_laws.proofs.Order.{some_same}
 use Rattle.std.proofs.lemmas.Bool.{eqb-true}
-use Rattle.gx_orders.specs.declared.live_order.LiveOrder.{LiveOrder}
+use Rattle.gx_history.specs.declared.live_order.LiveOrder.{LiveOrder}
 use Rattle.gx_orders.specs.LiveOrders.{NumbersRise, changed, has_number, is_of_user, of_others, without}
-use Rattle.gx_orders.specs.Tables.{account_orders_of, counted_of, numbered, orders_of, AreCounted, CountsNoMore, CountsOneLess, CountsOneMore}
+use Rattle.gx_orders.specs.Tables.{account_orders_of, counted_of, orders_of, AreCounted, CountsNoMore, CountsOneLess, CountsOneMore}
 use Rattle.gx_orders.proofs.Kept.{behind}
 use Rattle.gx_orders.proofs.Places.{none_taken}
 

@@ -34,10 +34,10 @@ use Rattle.gx_effects.proofs.NewOrders.{AreBefore, new_has_full_size}
 use Rattle.gx_effects.proofs.NotLive.{all_and}
 use Rattle.gx_effects.proofs.OrderRequests.{Grants, it_grants}
 use Rattle.gx_effects.proofs.Replacing.{replace_takes_effect}
-use Rattle.gx_orders.specs.declared.live_order.LiveOrder.{LiveOrder}
-use Rattle.gx_orders.specs.LiveOrders.{has_number, is_open, is_under, key, open_ones, order_under, sized, without}
-use Rattle.gx_orders.specs.InForce.{kept, orders_in_force}
-use Rattle.gx_orders.specs.Changes.{replacement_order}
+use Rattle.gx_history.specs.declared.live_order.LiveOrder.{LiveOrder}
+use Rattle.gx_history.specs.LiveOrders.{is_under, kept, key, replacement_order}
+use Rattle.gx_orders.specs.LiveOrders.{has_number, is_open, open_ones, order_under, sized, without}
+use Rattle.gx_orders.specs.InForce.{orders_in_force}
 use Rattle.gx_orders.specs.Laws.{CancelsAreKept, CancelsNameOne, ReplacesAreKept, ReplacesAreNew}
 use Rattle.gx_orders.proofs.Keeping.{IsKeptOpen, filter_of_map, open_is, under_is}
 use Rattle.gx_orders.proofs.Staying.{SizesNone, all_stay, data_is, grants_sizes_none, kept_as, kept_now, live_within, of_live, rests_same, token_granted, total_same, used_stay, used_then}

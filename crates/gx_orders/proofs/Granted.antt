@@ -38,9 +38,9 @@ use Rattle.gx_effects.proofs.Denials.{IsDenial, denial_adds_nothing, denial_ends
 use Rattle.gx_effects.proofs.Entered.{not_among, rested_are_within}
 use Rattle.gx_effects.proofs.NewOrders.{AreBefore, new_has_full_size, new_has_no_fills}
 use Rattle.gx_effects.proofs.OrderRequests.{Grants, it_grants}
-use Rattle.gx_orders.specs.declared.live_order.LiveOrder.{LiveOrder}
-use Rattle.gx_orders.specs.LiveOrders.{key}
-use Rattle.gx_orders.specs.InForce.{kept, orders_in_force, token_asked, token_used_by}
+use Rattle.gx_history.specs.declared.live_order.LiveOrder.{LiveOrder}
+use Rattle.gx_history.specs.LiveOrders.{kept, key}
+use Rattle.gx_orders.specs.InForce.{orders_in_force, token_asked, token_used_by}
 use Rattle.gx_orders.specs.Changes.{denied_token, is_lasting, keeps_orders, waiting_order, with_live}
 use Rattle.gx_orders.specs.Laws.{ClosesAreKept, DenialsKeepOrders, EntersAreKept, EntersAreNew, KillsAreKept, OthersKeepOrders}
 use Rattle.gx_orders.proofs.Keeping.{filter_of_map}

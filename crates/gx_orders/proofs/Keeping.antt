@@ -1,5 +1,5 @@
 -- What is kept answers what the definitions ask.
-use Rattle.std.proofs.Common.{◌≡◌, ℕ, ◌+◌, ◌-◌, ◌<◌, Bool, true, false, cond, List, [], ◌∷◌, ◌++◌, map, refl, ◌∙◌, sym, ap, subst, arith, if◌then◌else◌}
+use Rattle.std.proofs.Common.{◌≡◌, ℕ, ◌-◌, ◌<◌, Bool, true, false, cond, List, [], ◌∷◌, ◌++◌, map, refl, ◌∙◌, sym, ap, subst, arith, if◌then◌else◌}
 use Rattle.std.specs.Prelude.{Option, Some, None, ◌&&◌, ◌||◌, nat_lt, option_map, option_and_then, option_to_list, slice_get}
 use Rattle.std.specs.Option.{option_map_or}
 use Rattle.std.specs.List.{filter, find, filter_map, cons_option, list_any, last_or, AllByRecursion}
@@ -12,22 +12,21 @@ use Rattle.gx_history.specs.declared.policy.PolicyData.{PolicyData}
 use Rattle.gx_history.specs.declared.record.Asked.{Asked}
 use Rattle.gx_history.specs.declared.record.RecordData.{RecordData}
 use Rattle.gx_history.specs.declared.record.Request.{Request}
-use Rattle.gx_history.specs.declared.record.Request.TheVariants as requests
-use Rattle.gx_history.specs.Asking.{live_named, named_order, takes_nothing}
+use Rattle.gx_history.specs.Asking.{live_named}
 use Rattle.gx_history.specs.Book.{incoming}
 use Rattle.gx_history.specs.Executions.{Standing, executions, done, is_live, live_orders, open_shares, standing, standing_under, standings}
 use Rattle.gx_history.specs.Orders.{Order, asks_under, is_dead, is_token_used, orders, record_uses, total, uses_token}
 use Rattle.gx_history.specs.Requests.{asked, named_token, new_token}
 use Rattle.gx_history_laws.proofs.Adding.{all_pass}
-use Rattle.gx_effects.proofs.NamedOrders.{totals_of_live}
 use Rattle.gx_effects.proofs.NotLive.{all_and}
 use Rattle.gx_history_laws.proofs.Numbers.{all_weaker}
-use Rattle.gx_history_laws.proofs.Owners.{filtered, last_such_is}
+use Rattle.gx_history_laws.proofs.Owners.{filtered}
 use Rattle.gx_history_laws.proofs.Names.{same_token_flip, same_user_flip}
-use Rattle.gx_orders.specs.declared.live_order.LiveOrder.{LiveOrder}
-use Rattle.gx_orders.specs.declared.live_order.UserToken.{UserToken}
-use Rattle.gx_orders.specs.LiveOrders.{first_waiting, is_under, is_used, key, order_under, same_user_token, waiting}
-use Rattle.gx_orders.specs.InForce.{cuts_nothing, kept, named, order_named, orders_in_force, token_asked, token_used_by, used_tokens}
+use Rattle.gx_history.specs.declared.live_order.LiveOrder.{LiveOrder}
+use Rattle.gx_history.specs.declared.live_order.UserToken.{UserToken}
+use Rattle.gx_history.specs.LiveOrders.{is_under, kept, key}
+use Rattle.gx_orders.specs.LiveOrders.{first_waiting, is_used, order_under, same_user_token, waiting}
+use Rattle.gx_orders.specs.InForce.{order_named, orders_in_force, token_asked, token_used_by, used_tokens}
 
 -- a test of what is made of each
 pub filter_of_map : {X Y : Type 0} (p : Y → Bool) (f : X → Y) (xs : List X) → filter p (map f xs) ≡ map f (filter (λ x. p (f x)) xs)
@@ -59,63 +58,6 @@ named_is policy history user q = at (named_token q)
         ≡ option_and_then (order_under (orders_in_force policy history).live user) found
     at None = refl
     at (Some token) = under_is policy history user token
-
-test_of_both : {X Y : Type 0} (f : X → Y) (test : Y → Bool) (o : Option X) → option_map_or (λ x. test (f x)) o false ≡ option_map_or test (option_map f o) false
-test_of_both f test None = refl
-test_of_both f test (Some x) = refl
-
--- a live order has open what its size leaves beyond what its chain has executed
-named_alike : (policy : PolicyData) (history : List RecordData) (s : Standing) → total history s.order ≡ s.open_shares + done (executions policy history) s.order
-    → named_order (executions policy history) s ≡ named (kept policy history s)
-named_alike policy history s total_is =
-    let open_is : s.open_shares ≡ total history s.order - done (executions policy history) s.order = omega arith in
-    λ i. record {
-      order = s.order.number;
-      side = s.order.terms.side;
-      stock = s.order.terms.stock;
-      price = s.order.terms.price;
-      open_shares = open_is i;
-      done = done (executions policy history) s.order;
-    }
-
-named_under : (policy : PolicyData) (history : List RecordData) (user : UserName) (token : Token) (found : Option Standing) → standing_under (live_orders policy history) user token ≡ found
-    → option_map (named_order (executions policy history)) found ≡ option_map named (option_map (kept policy history) found)
-named_under policy history user token None e = refl
-named_under policy history user token (Some s) e =
-    ap Some (named_alike policy history s
-    (last_such_is (λ (x : Standing). total history x.order ≡ x.open_shares + done (executions policy history) x.order)
-    (λ (x : Standing). same_user x.order.user user && same_token x.order.token token) (live_orders policy history) s (totals_of_live policy history) e))
-
-facts_of_named : (policy : PolicyData) (history : List RecordData) (user : UserName) (token : Option Token)
-    → option_map (named_order (executions policy history)) (option_and_then (standing_under (live_orders policy history) user) token)
-    ≡ option_map named (option_map (kept policy history) (option_and_then (standing_under (live_orders policy history) user) token))
-facts_of_named policy history user None = refl
-facts_of_named policy history user (Some token) = named_under policy history user token (standing_under (live_orders policy history) user token) refl
-
--- what the rules ask of it
-pub named_fact_is : (policy : PolicyData) (history : List RecordData) (user : UserName) (q : Request)
-    → option_map (named_order (executions policy history)) (live_named policy history user q) ≡ option_map named (order_named (orders_in_force policy history).live user q)
-named_fact_is policy history user q =
-    facts_of_named policy history user (named_token q) ∙ ap (option_map named) (named_is policy history user q)
-
-takes_so : (policy : PolicyData) (history : List RecordData) (q : Request) (o : Option Standing)
-    → option_map_or (takes_nothing history q) o false ≡ option_map_or (λ (s : Standing). cuts_nothing q (kept policy history s)) o false
-takes_so policy history q None = refl
-takes_so policy history (requests.Login m) (Some s) = refl
-takes_so policy history requests.Logout (Some s) = refl
-takes_so policy history (requests.Unreadable m) (Some s) = refl
-takes_so policy history (requests.Enter m) (Some s) = refl
-takes_so policy history (requests.Replace m) (Some s) = refl
-takes_so policy history (requests.Cancel m) (Some s) = refl
-takes_so policy history (requests.Command m) (Some s) = refl
-
--- and whether a Cancel would take nothing of it
-pub takes_nothing_is : (policy : PolicyData) (history : List RecordData) (user : UserName) (q : Request)
-    → option_map_or (takes_nothing history q) (live_named policy history user q) false ≡ option_map_or (cuts_nothing q) (order_named (orders_in_force policy history).live user q) false
-takes_nothing_is policy history user q =
-    takes_so policy history q (live_named policy history user q)
-    ∙ test_of_both (kept policy history) (cuts_nothing q) (live_named policy history user q)
-    ∙ ap (λ (o : Option LiveOrder). option_map_or (cuts_nothing q) o false) (named_is policy history user q)
 
 -- those that wait are the incoming ones
 pub waiting_is : (policy : PolicyData) (history : List RecordData) → waiting (orders_in_force policy history).live ≡ map (kept policy history) (incoming policy history)

@@ -25,9 +25,10 @@ use Rattle.gx_effects.proofs.NewOrders.{found_is}
 use Rattle.gx_effects.proofs.NotLive.{all_and}
 use Rattle.gx_effects.proofs.Orderly.{legal_is_orderly}
 use Rattle.gx_effects.proofs.Rests.{rest_takes_effect}
-use Rattle.gx_orders.specs.declared.live_order.LiveOrder.{LiveOrder}
+use Rattle.gx_history.specs.declared.live_order.LiveOrder.{LiveOrder}
+use Rattle.gx_history.specs.LiveOrders.{kept}
 use Rattle.gx_orders.specs.LiveOrders.{HasOpen, at_rest, changed, filled, filled_at, has_number, is_open, open_ones, order_numbered, without}
-use Rattle.gx_orders.specs.InForce.{kept, orders_in_force}
+use Rattle.gx_orders.specs.InForce.{orders_in_force}
 use Rattle.gx_orders.specs.Laws.{ExpiriesAreKept, FillsAreKept, FillsFit, RestsAreKept}
 use Rattle.gx_orders.proofs.Cutting.{GoesOn, go_on}
 use Rattle.gx_orders.proofs.Keeping.{IsKeptOpen, open_is}

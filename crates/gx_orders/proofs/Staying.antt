@@ -24,10 +24,11 @@ use Rattle.gx_effects.specs.OneMore.{Change, change_by, change_by_grant, change_
 use Rattle.gx_effects.proofs.Entered.{all_mapped}
 use Rattle.gx_effects.proofs.OneMore.{one_more}
 use Rattle.gx_effects.proofs.OrderRequests.{Grants}
-use Rattle.gx_orders.specs.declared.live_order.LiveOrder.{LiveOrder}
-use Rattle.gx_orders.specs.declared.live_order.UserToken.{UserToken}
-use Rattle.gx_orders.specs.LiveOrders.{OrdersData, key}
-use Rattle.gx_orders.specs.InForce.{kept, orders_in_force, token_asked, token_used_by, used_tokens}
+use Rattle.gx_history.specs.declared.live_order.LiveOrder.{LiveOrder}
+use Rattle.gx_history.specs.declared.live_order.UserToken.{UserToken}
+use Rattle.gx_history.specs.LiveOrders.{kept, key}
+use Rattle.gx_orders.specs.LiveOrders.{OrdersData}
+use Rattle.gx_orders.specs.InForce.{orders_in_force, token_asked, token_used_by, used_tokens}
 use Rattle.gx_orders.specs.Laws.{AccountsAreTheUsers, NoneAtFirst}
 use Rattle.gx_orders.proofs.Keeping.{used_next}
 

@@ -12,9 +12,10 @@ use Rattle.gx_history.specs.Executions.{Standing, live_orders}
 use Rattle.gx_history.specs.Orders.{ends_account}
 use Rattle.gx_history.specs.Streams.{canceled, ended}
 use Rattle.gx_history_laws.proofs.Owners.{filtered}
-use Rattle.gx_orders.specs.declared.live_order.LiveOrder.{LiveOrder}
+use Rattle.gx_history.specs.declared.live_order.LiveOrder.{LiveOrder}
+use Rattle.gx_history.specs.LiveOrders.{kept}
 use Rattle.gx_orders.specs.LiveOrders.{is_of_user}
-use Rattle.gx_orders.specs.InForce.{kept, orders_in_force}
+use Rattle.gx_orders.specs.InForce.{orders_in_force}
 use Rattle.gx_orders.specs.Changes.{ended_message}
 use Rattle.gx_orders.specs.Laws.{EndsAreFew, EndsAreTold}
 use Rattle.gx_orders.proofs.Keeping.{IsKeptOpen, filter_of_map, open_is}

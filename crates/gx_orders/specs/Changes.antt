@@ -4,10 +4,8 @@ use Rattle.gx_units.specs.declared.names.AccountName.{AccountName}
 use Rattle.gx_units.specs.declared.names.Token.{Token}
 use Rattle.gx_units.specs.declared.names.UserName.{UserName}
 use Rattle.gx_ouch.specs.declared.inbound.EnterOrder.{EnterOrder}
-use Rattle.gx_ouch.specs.declared.inbound.ReplaceOrder.{ReplaceOrder}
 use Rattle.gx_ouch.specs.declared.letters.CancelReason.TheVariants as cancels
 use Rattle.gx_ouch.specs.declared.outbound.Outbound.TheVariants as outbounds
-use Rattle.gx_ouch.specs.declared.outbound.OrderTerms.{OrderTerms}
 use Rattle.gx_desk.specs.declared.Action.{Action}
 use Rattle.gx_desk.specs.declared.Action.TheVariants as actions
 use Rattle.gx_history.specs.declared.policy.PolicyData.{PolicyData}
@@ -21,9 +19,10 @@ use Rattle.gx_history.specs.declared.report.Message.TheVariants as messages
 use Rattle.gx_history.specs.Orders.{entered}
 use Rattle.gx_history.specs.Requests.{new_token}
 use Rattle.gx_history.specs.RuleNames.{is_answered_rule}
-use Rattle.gx_orders.specs.declared.live_order.LiveOrder.{LiveOrder}
-use Rattle.gx_orders.specs.declared.live_order.UserToken.{UserToken}
-use Rattle.gx_orders.specs.LiveOrders.{OrdersData, is_used, key, token_of}
+use Rattle.gx_history.specs.declared.live_order.LiveOrder.{LiveOrder}
+use Rattle.gx_history.specs.declared.live_order.UserToken.{UserToken}
+use Rattle.gx_history.specs.LiveOrders.{key, token_of}
+use Rattle.gx_orders.specs.LiveOrders.{OrdersData, is_used}
 
 -- the orders with another list of live ones
 abbrev pub with_live : List LiveOrder → OrdersData → OrdersData
@@ -73,35 +72,6 @@ waiting_order policy r user account m = record {
   terms = (entered policy r user account m).terms;
   total = m.shares;
   done = 0;
-  waits = true;
-}
-
--- the terms of an order that is replaced
-abbrev pub terms_then : ReplaceOrder → OrderTerms → OrderTerms
-terms_then m terms = record {
-  side = terms.side;
-  shares = m.shares;
-  stock = terms.stock;
-  price = m.price;
-  time_in_force = m.time_in_force;
-  firm = terms.firm;
-  display = m.display;
-  capacity = terms.capacity;
-  intermarket_sweep = m.intermarket_sweep;
-  minimum_quantity = m.minimum_quantity;
-  cross_type = terms.cross_type;
-}
-
--- the order that replaces o: its chain has executed as much, and it waits
-abbrev pub replacement_order : RecordData → ReplaceOrder → LiveOrder → LiveOrder
-replacement_order r m o = record {
-  number = r.number;
-  user = o.user;
-  account = o.account;
-  token = m.replacement_token;
-  terms = terms_then m o.terms;
-  total = m.shares;
-  done = o.done;
   waits = true;
 }
 

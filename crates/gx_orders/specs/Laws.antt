@@ -1,6 +1,5 @@
 -- What the definitions say of every history, in the words of what is kept.
-use Rattle.std.specs.Prelude.{ℕ, ◌≡◌, ◌+◌, ◌-◌, ◌<◌, ◌≤◌, ◌&&◌, ◌==◌, false, is_some, length, IsTrue, IsFalse, IfSome, List, [], ◌∷◌, ◌++◌, map, option_map, Some, slice_get}
-use Rattle.std.specs.Option.{option_map_or}
+use Rattle.std.specs.Prelude.{ℕ, ◌≡◌, ◌+◌, ◌-◌, ◌<◌, ◌≤◌, ◌&&◌, ◌==◌, is_some, length, IsTrue, IsFalse, IfSome, List, [], ◌∷◌, ◌++◌, map, option_map, Some, slice_get}
 use Rattle.std.specs.List.{AllByRecursion, filter}
 use Rattle.gx_units.specs.declared.names.AccountName.{AccountName}
 use Rattle.gx_units.specs.declared.names.Token.{Token}
@@ -19,7 +18,7 @@ use Rattle.gx_history.specs.declared.record.Request.TheVariants as requests
 use Rattle.gx_history.specs.declared.record.RuleName.{RuleName}
 use Rattle.gx_history.specs.declared.record.Step.TheVariants as steps
 use Rattle.gx_history.specs.declared.record.Verdict.TheVariants as verdicts
-use Rattle.gx_history.specs.Asking.{live_named, named_order, takes_nothing}
+use Rattle.gx_history.specs.Asking.{live_named}
 use Rattle.gx_history.specs.Book.{incoming}
 use Rattle.gx_history.specs.Executions.{Standing, executions, done, live_orders}
 use Rattle.gx_history.specs.Orders.{ends_account, is_token_used, total}
@@ -27,10 +26,11 @@ use Rattle.gx_history.specs.People.{account_of}
 use Rattle.gx_history.specs.Requests.{action_of}
 use Rattle.gx_history.specs.Streams.{ended}
 use Rattle.gx_history.specs.Verdicts.{next, verdict, IsLegal}
-use Rattle.gx_orders.specs.declared.live_order.LiveOrder.{LiveOrder}
+use Rattle.gx_history.specs.declared.live_order.LiveOrder.{LiveOrder}
+use Rattle.gx_history.specs.LiveOrders.{kept, replacement_order}
 use Rattle.gx_orders.specs.LiveOrders.{OrdersData, AreBelow, HasOpen, at_rest, changed, cut_at, filled_at, first_waiting, is_of_user, is_used, of_others, order_numbered, order_under, waiting, without}
-use Rattle.gx_orders.specs.InForce.{cuts_nothing, kept, named, order_named, orders_in_force}
-use Rattle.gx_orders.specs.Changes.{denied_token, ended_message, entering, keeps_orders, marking, replacement_order, waiting_order, with_live}
+use Rattle.gx_orders.specs.InForce.{order_named, orders_in_force}
+use Rattle.gx_orders.specs.Changes.{denied_token, ended_message, entering, keeps_orders, marking, waiting_order, with_live}
 
 -- before any record there is no order and no used token
 abbrev pub NoneAtFirst : Type 0
@@ -45,16 +45,6 @@ UsedTokensAreKept = (policy : PolicyData) (history : List RecordData) (user : Us
 abbrev pub NamedAreKept : Type 0
 NamedAreKept = (policy : PolicyData) (history : List RecordData) (user : UserName) (q : Request)
     → option_map (kept policy history) (live_named policy history user q) ≡ order_named (orders_in_force policy history).live user q
-
--- so what the rules ask of it is told of the one kept
-abbrev pub NamedFactsAreKept : Type 0
-NamedFactsAreKept = (policy : PolicyData) (history : List RecordData) (user : UserName) (q : Request)
-    → option_map (named_order (executions policy history)) (live_named policy history user q) ≡ option_map named (order_named (orders_in_force policy history).live user q)
-
--- and whether a Cancel would take nothing of it
-abbrev pub CutsAreKept : Type 0
-CutsAreKept = (policy : PolicyData) (history : List RecordData) (user : UserName) (q : Request)
-    → option_map_or (takes_nothing history q) (live_named policy history user q) false ≡ option_map_or (cuts_nothing q) (order_named (orders_in_force policy history).live user q) false
 
 -- those that wait are the incoming orders, in their order
 abbrev pub WaitingAreIncoming : Type 0

@@ -5,18 +5,15 @@ use Rattle.gx_units.specs.Names.{same_user, same_token, same_account}
 use Rattle.gx_units.specs.declared.names.AccountName.{AccountName}
 use Rattle.gx_units.specs.declared.names.Token.{Token}
 use Rattle.gx_units.specs.declared.names.UserName.{UserName}
+use Rattle.gx_history.specs.LiveOrders.{is_under, key, token_of}
 use Rattle.gx_history.specs.Lists.{are_distinct, last_such}
-use Rattle.gx_orders.specs.declared.live_order.LiveOrder.{LiveOrder}
-use Rattle.gx_orders.specs.declared.live_order.UserToken.{UserToken}
+use Rattle.gx_history.specs.declared.live_order.LiveOrder.{LiveOrder}
+use Rattle.gx_history.specs.declared.live_order.UserToken.{UserToken}
 
 -- the live orders by number, and the used tokens in the order of their first use
 pub record OrdersData : Type 0 where
   pub live : List LiveOrder
   pub used : List UserToken
-
--- the user and the token that the order was asked for under
-abbrev pub token_of : LiveOrder → UserToken
-token_of o = record { user = o.user; token = o.token }
 
 -- some shares may still be executed
 abbrev pub is_open : LiveOrder → Bool
@@ -29,10 +26,6 @@ has_number number o = o.number == number
 -- the order of this number
 abbrev pub order_numbered : List LiveOrder → ℕ → Option LiveOrder
 order_numbered live number = find (has_number number) live
-
--- an order of the user under the token
-abbrev pub is_under : UserName → Token → LiveOrder → Bool
-is_under user token o = same_user o.user user && same_token o.token token
 
 -- the order of a user under a token
 abbrev pub order_under : List LiveOrder → UserName → Token → Option LiveOrder
@@ -53,10 +46,6 @@ first_waiting live = find (λ (o : LiveOrder). o.waits) live
 -- the same user, and the same token
 abbrev pub same_user_token : UserToken → UserToken → Bool
 same_user_token a b = same_user a.user b.user && same_token a.token b.token
-
--- a token of the user
-abbrev pub key : UserName → Token → UserToken
-key user token = record { user = user; token = token }
 
 -- the token is one of those that are used
 abbrev pub is_used : List UserToken → UserName → Token → Bool

@@ -7,9 +7,10 @@ use Rattle.std.specs.Ordering.{nat_cmp}
 use Rattle.gx_units.specs.Names.{same_account, same_user}
 use Rattle.gx_units.specs.declared.names.AccountName.{AccountName}
 use Rattle.gx_units.specs.declared.names.UserName.{UserName}
-use Rattle.gx_orders.specs.declared.live_order.LiveOrder.{LiveOrder}
-use Rattle.gx_orders.specs.declared.live_order.UserToken.{UserToken}
-use Rattle.gx_orders.specs.LiveOrders.{OrdersData, NumbersRise, IsOpen, is_of_user, waiting, same_user_token, token_of}
+use Rattle.gx_history.specs.declared.live_order.LiveOrder.{LiveOrder}
+use Rattle.gx_history.specs.declared.live_order.UserToken.{UserToken}
+use Rattle.gx_history.specs.LiveOrders.{token_of}
+use Rattle.gx_orders.specs.LiveOrders.{OrdersData, NumbersRise, IsOpen, is_of_user, waiting, same_user_token}
 
 -- the order under its number
 abbrev pub numbered : LiveOrder → ℕ × LiveOrder

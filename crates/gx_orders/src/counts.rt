@@ -5,7 +5,7 @@ ghost use Rattle.std.specs.Map.{values_of};
 ghost use Rattle.indexmap.specs.IndexMap.{spare};
 ghost use Rattle.gx_orders.specs.Tables.{counted_of, CountsNoMore, CountsOneLess, CountsOneMore};
 
-use crate::live_order::LiveOrder;
+use gx_history::live_order::LiveOrder;
 use gx_units::{AccountName, OutOfMemory, UserName};
 use indexmap::IndexMap;
 use std::collections::BTreeMap;

@@ -1,13 +1,11 @@
 //! Laws of the definitions, each as what a function without a body ensures.
 
-ghost use Rattle.gx_orders.specs.Laws.{AccountsAreTheUsers, CancelsAreKept, CancelsNameOne, ClosesAreKept, CutsAreKept, DeniedTokensAreNew, DenialsKeepOrders, EndsAreFew, EndsAreTold, EntersAreKept, EntersAreNew, ExpiriesAreKept, FillsAreKept, FillsFit, FirstIsIncoming, KillsAreKept, NamedAreKept, NamedFactsAreKept, NoneAtFirst, OpenIsKept, OthersKeepOrders, ReplacesAreKept, ReplacesAreNew, RestsAreKept, UsedTokensAreKept, WaitingAreIncoming};
+ghost use Rattle.gx_orders.specs.Laws.{AccountsAreTheUsers, CancelsAreKept, CancelsNameOne, ClosesAreKept, DeniedTokensAreNew, DenialsKeepOrders, EndsAreFew, EndsAreTold, EntersAreKept, EntersAreNew, ExpiriesAreKept, FillsAreKept, FillsFit, FirstIsIncoming, KillsAreKept, NamedAreKept, NoneAtFirst, OpenIsKept, OthersKeepOrders, ReplacesAreKept, ReplacesAreNew, RestsAreKept, UsedTokensAreKept, WaitingAreIncoming};
 
 /// What is kept answers what the rules and the matching ask of the records, and what a Kill or a Close Day tells.
 pub fn what_is_kept_answers()
     ensures used { UsedTokensAreKept }
     ensures named { NamedAreKept }
-    ensures facts { NamedFactsAreKept }
-    ensures cuts { CutsAreKept }
     ensures waiting { WaitingAreIncoming }
     ensures first { FirstIsIncoming }
     ensures left { OpenIsKept }

@@ -3,6 +3,5 @@
 
 mod counts;
 pub mod laws;
-pub mod live_order;
 pub mod orders;
 pub mod request_tokens;

@@ -2,13 +2,14 @@
 
 ghost use Rattle.std.specs.Prelude.{◌≡◌, ◌<◌, length, [], ◌∷◌, ◌++◌, Some, OnOk, OnErr, IfSome, IsTrue, IsFalse};
 ghost use Rattle.std.specs.List.{filter};
+ghost use Rattle.gx_history.specs.LiveOrders.{key, token_of};
 ghost use Rattle.gx_orders.specs.Changes.{IsUnused, marked_by};
 ghost use Rattle.gx_orders.specs.Tables.{written};
-ghost use Rattle.gx_orders.specs.LiveOrders.{AreBelow, AreSound, HasOpen, at_rest, changed, cut_at, filled_at, first_waiting, is_of_user, is_used, key, of_others, order_numbered, order_under, resized_at, token_of, without};
+ghost use Rattle.gx_orders.specs.LiveOrders.{AreBelow, AreSound, HasOpen, at_rest, changed, cut_at, filled_at, first_waiting, is_of_user, is_used, of_others, order_numbered, order_under, resized_at, without};
 
 use crate::counts::{count_in, count_no_more, count_one_less, count_one_more};
-use crate::live_order::{LiveOrder, UserToken};
 use crate::request_tokens::denied_token;
+use gx_history::live_order::{LiveOrder, UserToken};
 use gx_history::record::{Asked, RuleName};
 use gx_units::{AccountName, OutOfMemory, Token, UserName};
 use indexmap::IndexMap;

@@ -6,7 +6,7 @@ use Rattle.std.proofs.lemmas.Bool.{leb-false, ltb-false}
 use Rattle.gx_units.specs.Money.{is_bad_price}
 use Rattle.gx_ouch.specs.declared.inbound.EnterOrder.{EnterOrder}
 use Rattle.gx_ouch.specs.declared.inbound.ReplaceOrder.{ReplaceOrder}
-use Rattle.gx_history.specs.declared.facts.NamedOrder.{NamedOrder}
+use Rattle.gx_history.specs.declared.live_order.LiveOrder.{LiveOrder}
 use Rattle.gx_history.specs.declared.facts.ProposedOrder.{ProposedOrder}
 use Rattle.gx_history.specs.declared.policy.PolicyData.{PolicyData}
 use Rattle.gx_history.specs.declared.record.Asked.{Asked}
@@ -16,11 +16,11 @@ use Rattle.gx_history.specs.declared.record.RuleName.{RuleName}
 use Rattle.gx_history.specs.declared.record.RuleName.TheVariants.{L1, L2, L3, G1, G2, G3, I1, I2, I3, P1, P2, P3, P4, P5, P6}
 use Rattle.gx_history.specs.declared.record.Step.TheVariants as steps
 use Rattle.gx_history.specs.declared.record.Verdict.TheVariants as verdicts
-use Rattle.gx_history.specs.Asking.{named_order}
-use Rattle.gx_history.specs.Executions.{Standing, executions, live_orders, standing_under}
+use Rattle.gx_history.specs.Executions.{Standing, live_orders, standing_under}
 use Rattle.gx_history.specs.RuleNames.{rules_before}
 use Rattle.gx_history.specs.Rules.{forbids}
 use Rattle.gx_history.specs.Verdicts.{facts_now, next}
+use Rattle.gx_history.specs.LiveOrders.{kept}
 use Rattle.gx_history_laws.proofs.Granting.{granted_passes_before}
 use Rattle.gx_history_laws.proofs.Order.{none_among}
 use Rattle.gx_effects.proofs.NamedOrders.{named_is}
@@ -69,10 +69,10 @@ entered_price policy history a r m left granted asks =
     low m.price (sym (ap (forbids P6 (facts_now policy history a)) asks) ∙ price_is_no_bar policy history a r left granted)
 
 -- the order that a Replace proposes
-abbrev proposed_by : ReplaceOrder → NamedOrder → ProposedOrder
+abbrev proposed_by : ReplaceOrder → LiveOrder → ProposedOrder
 proposed_by m o = record {
-  side = o.side;
-  stock = o.stock;
+  side = o.terms.side;
+  stock = o.terms.stock;
   shares = m.shares;
   price = m.price;
   time_in_force = m.time_in_force;
@@ -92,10 +92,10 @@ has_bad_price w = is_bad_price w.price
 -- a granted Replace of the order
 module _ (policy : PolicyData) (history : List RecordData) (a : Asked) (r : RecordData) (m : ReplaceOrder) (s : Standing) (left : next policy history (steps.Asked a) ≡ Some r) (granted : r.verdict ≡ verdicts.Granted)
     (asks : a.request ≡ requests.Replace m) (found : standing_under (live_orders policy history) a.user m.existing_token ≡ Some s) where
-  proposes : (test : ProposedOrder → Bool) → option_map_or test (option_map (proposed_by m) (facts_now policy history a).named) false ≡ test (proposed_by m (named_order (executions policy history) s))
+  proposes : (test : ProposedOrder → Bool) → option_map_or test (option_map (proposed_by m) (facts_now policy history a).named) false ≡ test (proposed_by m (kept policy history s))
   proposes test =
-      ap (λ (o : Option NamedOrder). option_map_or test (option_map (proposed_by m) o) false)
-      (named_is policy history a (requests.Replace m) m.existing_token asks refl ∙ ap (option_map (named_order (executions policy history))) found)
+      ap (λ (o : Option LiveOrder). option_map_or test (option_map (proposed_by m) o) false)
+      (named_is policy history a (requests.Replace m) m.existing_token asks refl ∙ ap (option_map (kept policy history)) found)
 
   -- its shares
   pub replaced_shares : m.shares < 2 ^ 32

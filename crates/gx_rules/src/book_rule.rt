@@ -56,7 +56,17 @@ fn listed(kind: &RuleKind) -> &[Symbol]
     match kind {
         RuleKind::Halt(stocks) => stocks.as_slice(),
         RuleKind::Restricted(stocks) => stocks.as_slice(),
-        _ => &[],
+        RuleKind::NoShort
+        | RuleKind::NoIso
+        | RuleKind::OddLot
+        | RuleKind::OrderShares(_)
+        | RuleKind::OrderValue(_)
+        | RuleKind::Collar(_)
+        | RuleKind::GrossShares(..)
+        | RuleKind::GrossValue(..)
+        | RuleKind::NetShares(..)
+        | RuleKind::Rate(..)
+        | RuleKind::Repeat(..) => &[],
     }
 }
 
@@ -96,7 +106,13 @@ impl BookRule {
             RuleKind::GrossShares(limit, _) => Some(*limit),
             RuleKind::GrossValue(limit, _) => Some(*limit),
             RuleKind::NetShares(limit, _) => Some(*limit),
-            _ => None,
+            RuleKind::Halt(_)
+            | RuleKind::Restricted(_)
+            | RuleKind::NoShort
+            | RuleKind::NoIso
+            | RuleKind::OddLot
+            | RuleKind::Rate(..)
+            | RuleKind::Repeat(..) => None,
         }
     }
 
@@ -111,7 +127,13 @@ impl BookRule {
             RuleKind::GrossShares(limit, _) => *limit = value,
             RuleKind::GrossValue(limit, _) => *limit = value,
             RuleKind::NetShares(limit, _) => *limit = value,
-            _ => {}
+            RuleKind::Halt(_)
+            | RuleKind::Restricted(_)
+            | RuleKind::NoShort
+            | RuleKind::NoIso
+            | RuleKind::OddLot
+            | RuleKind::Rate(..)
+            | RuleKind::Repeat(..) => {}
         }
     }
 

@@ -3,7 +3,7 @@
 ghost use Rattle.std.specs.Prelude.{◌≡◌};
 ghost use Rattle.gx_history.specs.Rules.{forbids};
 
-use crate::request::{is_cancel, is_command, is_login, is_order, names_order, proposed};
+use crate::request::{is_command, is_login, is_order, names_order, proposed, takes_nothing};
 use gx_history::facts::Facts;
 use gx_history::record::{Request, RuleName};
 use gx_units::Price;
@@ -23,7 +23,7 @@ pub fn is_forbidden(name: RuleName, facts: &Facts, request: &Request) -> bool
         RuleName::G3 => matches!(request, Request::Unreadable(_)),
         RuleName::I1 => is_order(request) && facts.token_is_used,
         RuleName::I2 => names_order(request) && facts.named.is_none(),
-        RuleName::I3 => is_cancel(request) && facts.cancel_takes_nothing,
+        RuleName::I3 => takes_nothing(facts.named, request),
         RuleName::P1 => is_order(request) && facts.day_is_closed,
         RuleName::P2 => is_order(request) && facts.account_is_killed,
         RuleName::P3 => matches!(request, Request::Enter(_)) && !facts.firm_fits,
@@ -41,7 +41,7 @@ pub fn is_forbidden(name: RuleName, facts: &Facts, request: &Request) -> bool
             Request::Enter(m) => !matches!(m.side, b'B' | b'S' | b'T' | b'E'),
             _ => false,
         },
-        RuleName::P12 => asked.is_some_and(|w| !w.is_new && u64::from(w.shares) <= w.done),
+        RuleName::P12 => asked.is_some_and(|w| !w.is_new && w.shares <= w.done),
         RuleName::Q1 => is_command(request) && !facts.names_are_known,
         RuleName::Q2 => is_command(request) && !facts.has_power,
         RuleName::Q3 => is_command(request) && !facts.accounts_are_his,

@@ -65,7 +65,7 @@ fn is_net_above(net: i128, live: u128, new: u128, replaced: u128, limit: u64) ->
 fn new_open(w: &ProposedOrder) -> u32
     ensures { result ≡ new_open w.now }
 {
-    u64::from(w.shares).saturating_sub(w.done) as u32
+    w.shares.saturating_sub(w.done)
 }
 
 /// Whether a rule of this kind forbids the order, with the figures that the kind asks for.

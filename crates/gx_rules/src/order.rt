@@ -140,7 +140,7 @@ fn first_of_replace(facts: &Facts, m: &ReplaceOrder) -> Option<RuleName>
     if m.minimum_quantity != 0 {
         return Some(RuleName::P9);
     }
-    if u64::from(m.shares) <= order.done {
+    if m.shares <= order.done {
         return Some(RuleName::P12);
     }
     None

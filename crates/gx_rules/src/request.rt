@@ -1,10 +1,11 @@
 //! What kind of request it is, and what it asks for.
 
 ghost use Rattle.std.specs.Prelude.{◌≡◌};
-ghost use Rattle.gx_history.specs.Requests.{is_login, is_command, is_order, is_cancel, names_order};
-ghost use Rattle.gx_history.specs.Rules.{proposed};
+ghost use Rattle.gx_history.specs.Requests.{is_login, is_command, is_order, names_order};
+ghost use Rattle.gx_history.specs.Rules.{proposed, takes_nothing};
 
 use gx_history::facts::{Facts, ProposedOrder};
+use gx_history::live_order::LiveOrder;
 use gx_history::record::Request;
 
 pub fn is_login(request: &Request) -> bool
@@ -33,10 +34,14 @@ pub fn names_order(request: &Request) -> bool
     matches!(request, Request::Replace(_) | Request::Cancel(_))
 }
 
-pub fn is_cancel(request: &Request) -> bool
-    ensures { result ≡ is_cancel request.now }
+/// A Cancel that asks for no less than the present size of the order that it names.
+pub fn takes_nothing(named: Option<LiveOrder>, request: &Request) -> bool
+    ensures { result ≡ takes_nothing named request.now }
 {
-    matches!(request, Request::Cancel(_))
+    match request {
+        Request::Cancel(m) => named.is_some_and(|order| order.total <= m.shares),
+        _ => false,
+    }
 }
 
 /// What the request asks for, if it is an Enter, or a Replace of a live order.
@@ -59,8 +64,8 @@ pub fn proposed(facts: &Facts, request: &Request) -> Option<ProposedOrder>
         Request::Replace(m) => {
             let order = facts.named?;
             Some(ProposedOrder {
-                side: order.side,
-                stock: order.stock,
+                side: order.terms.side,
+                stock: order.terms.stock,
                 shares: m.shares,
                 price: m.price,
                 time_in_force: m.time_in_force,

@@ -3,7 +3,7 @@ use Rattle.std.proofs.Math.Path.{subst}
 use Rattle.gx_history.specs.declared.facts.Facts.{Facts}
 use Rattle.gx_history.specs.Rules.{first_forbidding}
 use Rattle.gx_history.specs.Verdicts.{figures_asked, verdict_by, with_figures}
-use Rattle.gx_ledger.specs.StandsFor.{IsNamedIfAny}
+use Rattle.gx_ledger.specs.StandsFor.{IsHeldIfAny}
 use Rattle.gx_decide.proofs.Joining.{asker_known, none_asked, some_asked}
 use Rattle.gx_decide.proofs.judging.decide.Goals as goal
 
@@ -35,6 +35,6 @@ returns c =
           ∙ ap (λ asked. first_forbidding asked facts q)
           (some_asked policy held q facts rules c.in-Some.account _ c.in-Some.is
           (c.after-figures.ensures.figures policy held stands sound (asker_known policy c.args.given.now c.in-Some.account his known)
-          (subst (λ (given : Facts). IsNamedIfAny held given.named) (sym c.with_powers-facts.ensures) named)) same)
+          (subst (λ (given : Facts). IsHeldIfAny held given.named) (sym c.with_powers-facts.ensures) named)) same)
           ∙ ap (λ (given : Facts). first_forbidding (with_figures (figures_asked policy held q given) rules) given q) c.with_powers-facts.ensures);
     }

@@ -19,9 +19,9 @@ tell-requires c =
 
 pub returns-clause-after : goal.returns-clause-after
 returns-clause-after c =
-    cancel_goes_on c.args.next.policy.now c.args.next.history.now.records c.args.next.asked.now c.args.next.left.now c.args.m.now c.args.keepers.now _ c.in-Some.order c.cut_from-fewer.result c.open_order-named.result c.canceled-message.result
-    c.requires.takes c.requires.granted c.requires.cancels (sym c.under.ensures ∙ c.in-Some.is) c.cut_from-fewer.ensures c.open_order-named.ensures c.canceled-message.ensures refl refl refl
-    (λ i. record { live = c.cut.ensures.live i; used = c.cut.ensures.used i }) c.reduce.ensures c.cut-2.ensures.cut c.tell.ensures
+    cancel_goes_on c.args.next.policy.now c.args.next.history.now.records c.args.next.asked.now c.args.next.left.now c.args.m.now c.args.keepers.now _ c.in-Some.order c.cut_from-fewer.result _ c.canceled-message.result
+    c.requires.takes c.requires.granted c.requires.cancels (sym c.under.ensures ∙ c.in-Some.is) c.cut_from-fewer.ensures c.saturating_sub.ensures c.canceled-message.ensures refl refl refl
+    (λ i. record { live = c.cut.ensures.live i; used = c.cut.ensures.used i }) c.leave.ensures c.cut-2.ensures.cut c.tell.ensures
 
 pub returns-clause-room : goal.returns-clause-room
 returns-clause-room c =

@@ -1,6 +1,6 @@
 use Rattle.std.proofs.Common.{◌≡◌, ◌<◌, true, false, refl, ◌∙◌, ap, sym, subst}
 use Rattle.std.specs.Prelude.{Some, is_some}
-use Rattle.gx_orders.specs.declared.live_order.LiveOrder.{LiveOrder}
+use Rattle.gx_history.specs.declared.live_order.LiveOrder.{LiveOrder}
 use Rattle.gx_orders.specs.LiveOrders.{AreBelow, is_used}
 use Rattle.gx_keepers.proofs.Carrying.{account_is, can_enter, enter_goes_on, enter_place, enters_last, enters_unused, has_account}
 use Rattle.gx_keepers.proofs.Rooms.{telling_keeps_room}
@@ -35,10 +35,10 @@ tell-requires c =
 
 pub returns-clause-ok : goal.returns-clause-ok
 returns-clause-ok c =
-    enter_goes_on c.args.next.policy.now c.args.next.history.now.records c.args.next.asked.now c.args.next.left.now c.args.m.now c.in-Some.account c.args.keepers.now _ c.order_of-order.result c.placed-handed.result c.accepted.result
+    enter_goes_on c.args.next.policy.now c.args.next.history.now.records c.args.next.asked.now c.args.next.left.now c.args.m.now c.in-Some.account c.args.keepers.now _ c.order_of-order.result c.accepted.result
     c.requires.takes c.requires.granted c.requires.enters
     (account_is c.args.next.policy.now c.args.next.history.now.records c.args.keepers.now c.args.next.asked.now.user c.account_of.result c.requires.takes.in_force c.account_of.ensures ∙ c.in-Some.is)
-    c.order_of-order.ensures c.placed-handed.ensures c.accepted.ensures refl refl refl
+    c.order_of-order.ensures c.accepted.ensures refl refl refl
     (λ i. record { live = c.in_ok-enter.ensures.live i; used = c.in_ok-enter.ensures.used i })
     refl c.accept.ensures.accepted c.tell.ensures
 

@@ -1,7 +1,7 @@
 use Rattle.std.proofs.Common.{◌≡◌, ◌<◌, true, false, refl, ◌∙◌, ap, sym}
 use Rattle.std.proofs.Math.Path.{subst}
 use Rattle.std.specs.Prelude.{Some, is_some}
-use Rattle.gx_orders.specs.declared.live_order.LiveOrder.{LiveOrder}
+use Rattle.gx_history.specs.declared.live_order.LiveOrder.{LiveOrder}
 use Rattle.gx_orders.specs.LiveOrders.{AreBelow, is_used, without}
 use Rattle.gx_ledger.proofs.Following.{ended_then_accepted}
 use Rattle.gx_keepers.proofs.Replacing.{old_has_less, old_is_there, replace_goes_on, replace_has_place, replaces_last, replaces_unused}
@@ -40,10 +40,10 @@ tell-requires c =
 
 pub returns-clause-ok : goal.returns-clause-ok
 returns-clause-ok c =
-    replace_goes_on c.args.next.policy.now c.args.next.history.now.records c.args.next.asked.now c.args.next.left.now c.args.m.now c.args.keepers.now _ c.in-Some.old c.replaced_by-new.result c.open_order-gone.result c.placed-handed.result c.replaced-message.result
-    c.requires.takes c.requires.granted c.requires.replaces (sym c.under.ensures ∙ c.in-Some.is) c.replaced_by-new.ensures c.open_order-gone.ensures c.placed-handed.ensures c.replaced-message.ensures refl refl refl
-    (λ i. record { live = (c.end.ensures.live ∙ ap (without c.in-Some.old.number) c.in_ok-enter.ensures.live) i; used = (c.end.ensures.used ∙ c.in_ok-enter.ensures.used) i }) c.remove.ensures.removed
-    (ended_then_accepted c.open_order-gone.result c.placed-handed.result c.args.keepers.now.ledger c.close.new.self c.accept.new.self c.close.ensures.closed c.accept.ensures.accepted) c.tell.ensures
+    replace_goes_on c.args.next.policy.now c.args.next.history.now.records c.args.next.asked.now c.args.next.left.now c.args.m.now c.args.keepers.now _ c.in-Some.old c.replaced_by-new.result c.replaced-message.result
+    c.requires.takes c.requires.granted c.requires.replaces (sym c.under.ensures ∙ c.in-Some.is) c.replaced_by-new.ensures c.replaced-message.ensures refl refl refl
+    (λ i. record { live = (c.end.ensures.live ∙ ap (without c.in-Some.old.number) c.in_ok-enter.ensures.live) i; used = (c.end.ensures.used ∙ c.in_ok-enter.ensures.used) i }) c.take_out.ensures
+    (ended_then_accepted c.in-Some.old c.replaced_by-new.result c.args.next.left.now.moment c.args.keepers.now.ledger c.close.new.self c.accept.new.self c.close.ensures.closed c.accept.ensures.accepted) c.tell.ensures
 
 pub returns-clause-room : goal.returns-clause-room
 returns-clause-room c =

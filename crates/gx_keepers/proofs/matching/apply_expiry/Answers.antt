@@ -14,8 +14,8 @@ tell-requires c =
 
 pub returns-clause-after : goal.returns-clause-after
 returns-clause-after c =
-    end_goes_on c.args.next.policy.now c.args.next.history.now.records c.args.next.first.now c.args.next.left.now c.args.keepers.now _ c.args.number c.open_order-ended.result c.canceled-message.result
-    c.requires.takes c.requires.expires c.open_order-ended.ensures
+    end_goes_on c.args.next.policy.now c.args.next.history.now.records c.args.next.first.now c.args.next.left.now c.args.keepers.now _ c.args.number c.canceled-message.result
+    c.requires.takes c.requires.expires
     (c.canceled-message.ensures ∙ ap (λ (n : ℕ). canceled_message c.args.next.first.now n cancels.ImmediateOrCancel) c.open.ensures)
     refl refl refl (λ i. record { live = c.end.ensures.live i; used = c.end.ensures.used i }) refl c.close.ensures.closed c.tell.ensures
 

@@ -1,8 +1,8 @@
-use Rattle.std.proofs.Common.{◌≡◌, true, false, refl, ◌∙◌, ap, subst, sym, List}
+use Rattle.std.proofs.Common.{◌≡◌, ℕ, ◌-◌, true, false, refl, ◌∙◌, ap, subst, sym, List}
 use Rattle.std.specs.Prelude.{IfSome, is_some}
-use Rattle.gx_orders.specs.declared.live_order.LiveOrder.{LiveOrder}
+use Rattle.gx_history.specs.declared.live_order.LiveOrder.{LiveOrder}
 use Rattle.gx_orders.specs.LiveOrders.{HasOpen, filled_at, order_numbered}
-use Rattle.gx_keepers.proofs.Matches.{best_has_shares, can_fill, fill_goes_on, maker_is_there, maker_told, taker_told}
+use Rattle.gx_keepers.proofs.Matches.{can_fill, fill_goes_on, maker_is_there, maker_told, taker_told}
 use Rattle.gx_streams.specs.declared.fill.ToldFill.{ToldFill}
 use Rattle.gx_keepers.proofs.Keepings.{known_told, known_told_but, match_keeps}
 use Rattle.gx_keepers.proofs.Rooms.{filling_takes_none}
@@ -33,22 +33,16 @@ fill-requires-2 c =
     subst (λ (live : List LiveOrder). IfSome (order_numbered live c.args.f.maker) (HasOpen c.args.f.shares)) (sym c.fill.ensures.live)
     (can_fill c.args.next.policy.now c.args.next.history.now.records c.args.next.first.now c.args.next.left.now c.args.keepers.now c.args.f c.requires.takes c.requires.fills).maker_has_them
 
-pub take_from_best-requires : goal.take_from_best-requires
-take_from_best-requires c = record {
-  enough = best_has_shares c.args.next.policy.now c.args.next.history.now.records c.args.next.first.now c.args.next.left.now c.args.keepers.now c.args.f _
-      c.requires.takes c.requires.fills c.opposite-against.ensures;
-}
-
 pub returns-clause-ok : goal.returns-clause-ok
 returns-clause-ok c =
-    fill_goes_on c.args.next.policy.now c.args.next.history.now.records c.args.next.first.now c.args.next.left.now c.args.keepers.now _ c.args.f c.in-Some.maker c.open_order-came.result c.open_order-rested.result _ c.side_of.result c.side_of-2.result _
-    c.requires.takes c.requires.fills (sym c.numbered.ensures.found ∙ c.in-Some.is) c.open_order-came.ensures c.open_order-rested.ensures c.opposite-against.ensures c.rules.ensures.sound
+    fill_goes_on c.args.next.policy.now c.args.next.history.now.records c.args.next.first.now c.args.next.left.now c.args.keepers.now _ c.args.f c.in-Some.maker _ c.side_of.result c.side_of-2.result _
+    c.requires.takes c.requires.fills (sym c.numbered.ensures.found ∙ c.in-Some.is) (c.saturating_sub-left.ensures ∙ ap (λ (n : ℕ). n - c.args.f.shares) c.open.ensures) c.rules.ensures.sound
     c.side_of.ensures c.side_of-2.ensures refl refl refl refl
     (λ i. record {
       live = (c.fill-2.ensures.live ∙ ap (filled_at c.args.f.maker c.args.f.shares) c.fill.ensures.live) i;
       used = (c.fill-2.ensures.used ∙ c.fill.ensures.used) i;
     })
-    c.take_from_best.ensures c.fill-3.ensures.filled c.in_ok-append_fill.ensures.ok
+    c.leave.ensures c.fill-3.ensures.filled c.in_ok-append_fill.ensures.ok
 
 abbrev told : goal.After-fill-3 → ToldFill
 told c = record {

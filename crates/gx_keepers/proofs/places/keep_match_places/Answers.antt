@@ -1,6 +1,5 @@
-use Rattle.std.proofs.Common.{◌∙◌}
 use Rattle.std.proofs.lemmas.Result.{on_ok_weaker}
-use Rattle.gx_keepers.proofs.Keepings.{Makes, few_live, keep_still}
+use Rattle.gx_keepers.proofs.Keepings.{few_live, keep_still}
 use Rattle.gx_keepers.proofs.Matches.{end_fits, end_is_placed}
 use Rattle.gx_keepers.proofs.places.keep_match_places.Goals as goal
 

@@ -1,4 +1,4 @@
-use Rattle.gx_orders.proofs.Keeping.{first_is, named_fact_is, named_is, open_is, takes_nothing_is, used_is, waiting_is}
+use Rattle.gx_orders.proofs.Keeping.{first_is, named_is, open_is, used_is, waiting_is}
 use Rattle.gx_orders.proofs.Staying.{accounts_are_theirs}
 use Rattle.gx_orders.proofs.Telling.{ends_are_few, ends_are_told}
 use Rattle.gx_orders.proofs.laws.what_is_kept_answers.Goals as goal
@@ -8,8 +8,6 @@ returns c =
     record {
       used = used_is;
       named = named_is;
-      facts = named_fact_is;
-      cuts = takes_nothing_is;
       waiting = waiting_is;
       first = first_is;
       left = open_is;

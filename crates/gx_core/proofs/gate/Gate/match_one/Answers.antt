@@ -1,19 +1,17 @@
 use Rattle.std.proofs.Common.{arith, length, ◌≡◌, ◌<◌, ◌∙◌, ◌++◌, ◌∷◌, [], List, ap, sym, true, false}
 use Rattle.std.proofs.Math.Path.{subst}
-use Rattle.std.specs.Prelude.{Some, is_some}
+use Rattle.std.specs.Prelude.{is_some}
 use Rattle.gx_history.specs.declared.record.RecordData.{RecordData}
 use Rattle.gx_history.specs.declared.record.Step.TheVariants as steps
 use Rattle.gx_history.specs.Matched.{AreUncrossed}
 use Rattle.gx_history.specs.Settling.{most_matches}
-use Rattle.gx_market.specs.Meeting.{best_against, met}
 use Rattle.gx_effects.proofs.Orderly.{legal_is_orderly}
 use Rattle.gx_effects.proofs.Settling.{match_leaves_fewer}
-use Rattle.gx_keepers.specs.Keepers.{AreInForce}
 use Rattle.gx_core.specs.Gates.{GateData, matched_by}
 use Rattle.gx_core.specs.Kept.{IsWhole}
 use Rattle.gx_core.specs.Matches.{HasMatched, MatchEffect, first_of, matches_left, matching_of, next_match, settled_gate}
 use Rattle.gx_core.proofs.Keeping.{AreCarried, as_before, keep_still, keep_within, takes_match, told_then}
-use Rattle.gx_core.proofs.Matched.{first_is_known, first_is_met, match_effect_of, never_crossed_now, nothing_is_met, nothing_is_next, settles_on}
+use Rattle.gx_core.proofs.Matched.{first_is_known, match_effect_of, never_crossed_now, nothing_is_met, nothing_is_next, settles_on}
 use Rattle.gx_core.proofs.gate.Gate.match_one.Goals as goal
 
 pub returns-in_default-clause-next : goal.returns-in_default-clause-next

@@ -3,14 +3,12 @@ use Rattle.std.proofs.Math.Path.{subst}
 use Rattle.gx_units.specs.declared.names.AccountName.{AccountName}
 use Rattle.gx_history.specs.declared.record.RecordData.{RecordData}
 use Rattle.gx_history.specs.declared.record.RuleName.{RuleName}
-use Rattle.gx_history.specs.declared.record.Step.TheVariants as steps
 use Rattle.gx_history.specs.InForce.{is_killed}
 use Rattle.gx_history_laws.proofs.Granting.{denied_names_first, granted_exactly}
 use Rattle.gx_effects.proofs.Lifting.{kill_ends_by_lift}
 use Rattle.std.specs.Prelude.{is_ok}
 use Rattle.gx_places.specs.Places.{has_kept_places}
 use Rattle.gx_core.specs.Gates.{GateData, left_by}
-use Rattle.gx_keepers.specs.Keepers.{AreInForce}
 use Rattle.gx_core.specs.Kept.{IsWhole}
 use Rattle.gx_core.specs.Steps.{HasEffect, IsJudged, VerdictEffect, next_of}
 use Rattle.gx_core.proofs.Effecting.{effect_of}

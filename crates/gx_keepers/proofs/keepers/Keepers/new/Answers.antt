@@ -1,6 +1,6 @@
-use Rattle.std.proofs.Common.{refl, List, [], sym}
+use Rattle.std.proofs.Common.{refl, List, sym}
 use Rattle.std.proofs.Math.Path.{subst}
-use Rattle.gx_orders.specs.declared.live_order.LiveOrder.{LiveOrder}
+use Rattle.gx_history.specs.declared.live_order.LiveOrder.{LiveOrder}
 use Rattle.gx_keepers.specs.Keepers.{HaveEnough}
 use Rattle.gx_keepers.proofs.Beginning.{begin}
 use Rattle.gx_keepers.proofs.Keepings.{kept_at_first}

@@ -4,4 +4,9 @@ use Rattle.gx_ledger.proofs.Carrying.{accept_carries}
 use Rattle.gx_ledger.proofs.ledger.Ledger.accept.Goals as goal
 
 pub returns : goal.returns
-returns c = record { accepted = subst (λ k. Accepts c.args.placed.now c.args.self.now k) (sym c.note.ensures) (accept_carries c.args.placed.now c.args.self.now) }
+returns c =
+    record {
+      accepted =
+          subst (λ k. Accepts c.args.order.now c.args.moment c.args.replacement c.args.self.now k) (sym c.note.ensures)
+          (accept_carries c.args.order.now c.args.moment c.args.replacement c.args.self.now);
+    }

@@ -12,6 +12,6 @@ returns c =
       filled =
           subst (λ k. Fills taker maker c.args.shares c.args.price c.args.self.now k)
           (sym (c.set_price.ensures
-          ∙ ap (with_price maker.stock c.args.price) (c.execute-2.ensures ∙ ap (kept_executed maker c.args.shares c.args.price) c.execute.ensures)))
+          ∙ ap (with_price maker.terms.stock c.args.price) (c.execute-2.ensures ∙ ap (kept_executed maker c.args.shares c.args.price) c.execute.ensures)))
           (fill_carries taker maker c.args.shares c.args.price c.args.self.now);
     }

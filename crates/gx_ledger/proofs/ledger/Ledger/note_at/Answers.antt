@@ -2,7 +2,6 @@ use Rattle.std.proofs.Common.{◌∙◌, None, Some, ap, sym, rules}
 use Rattle.std.specs.Vec.{with_items}
 use Rattle.std.proofs.lemmas.List.{places, with_items_is}
 use Rattle.gx_ledger.specs.Keeping.{Kept, account_place, kept_noted, noted}
-use Rattle.gx_ledger.specs.Running.{account_changed}
 use Rattle.gx_ledger.specs.contracts.ledger.Ledger.{the_view}
 use Rattle.gx_ledger.proofs.Listing.{his_list, item_is, kept_told, still_counted, told_his}
 use Rattle.gx_ledger.proofs.ledger.Ledger.note_at.Goals as goal
@@ -17,7 +16,7 @@ invariant_of-self c =
 pub invariant_of-self-2 : goal.invariant_of-self-2
 invariant_of-self-2 c =
     let kept = c.self.inside in
-    let x = account_changed c.args.change.now in
+    let x = c.args.change.now.order.account in
     let place = c.in-Some.place in
     let at = ap (λ (k : Kept). account_place k.accounts x) c.self.view_is ∙ sym c.requires ∙ c.in-Some.is in
     let written = with_items_is kept.tallies c.note_in.new.tallies (search (rules, places)) in
@@ -30,7 +29,7 @@ invariant_of-self-2 c =
 pub returns : goal.returns
 returns c =
     let kept = c.self.inside in
-    let x = account_changed c.args.change.now in
+    let x = c.args.change.now.order.account in
     let place = c.in-Some.place in
     let at = ap (λ (k : Kept). account_place k.accounts x) c.self.view_is ∙ sym c.requires ∙ c.in-Some.is in
     let written = with_items_is kept.tallies c.note_in.new.tallies (search (rules, places)) in

@@ -1,11 +1,10 @@
 //! What is kept of one live order.
 
-ghost use Rattle.std.specs.Prelude.{◌≡◌, ◌-◌};
-ghost use Rattle.gx_orders.specs.Changes.{replacement_order};
-ghost use Rattle.gx_orders.specs.LiveOrders.{is_under, token_of};
+ghost use Rattle.std.specs.Prelude.{◌≡◌};
+ghost use Rattle.gx_history.specs.LiveOrders.{is_under, replacement_order, shares_open, token_of};
 ghost use Rattle.gx_units.specs.Names.{same_account};
 
-use gx_history::record::RecordData;
+use crate::record::RecordData;
 use gx_ouch::{OrderTerms, ReplaceOrder};
 use gx_units::{AccountName, Token, UserName};
 
@@ -17,7 +16,7 @@ pub struct UserToken {
 }
 
 /// An order that has shares open. Shares are counted singly.
-#[derive(Clone, Copy)]
+#[derive(Clone, Copy, PartialEq, Eq)]
 pub struct LiveOrder {
     /// The number of the record that granted it.
     pub number: u64,
@@ -37,7 +36,7 @@ pub struct LiveOrder {
 impl LiveOrder {
     /// The shares that may still be executed.
     pub fn open(&self) -> u32
-        ensures { result ≡ self.now.total - self.now.done }
+        ensures { result ≡ shares_open self.now }
     {
         self.total.saturating_sub(self.done)
     }
@@ -65,6 +64,7 @@ impl LiveOrder {
             token: self.token,
         }
     }
+
     /// The order that comes in its place by a granted Replace, whose record this is: its chain's, with the terms that are
     /// asked for now. It waits, behind all others.
     pub fn replaced_by(&self, left: &RecordData, m: &ReplaceOrder) -> LiveOrder

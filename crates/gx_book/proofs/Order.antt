@@ -1,0 +1,83 @@
+-- A side stays in the order of its prices, whatever is done to it.
+use Rattle.std.proofs.Common.{◌≡◌, Bool, true, false, cond, not, List, [], ◌∷◌, ◌++◌, refl, ◌∙◌, sym, ap, true≢false, arith}
+use Rattle.std.specs.List.{filter, list_all}
+use Rattle.std.proofs.lemmas.Bool.{and_from, and_parts}
+use Rattle.std.proofs.lemmas.List.Elements.{All-filter}
+use Rattle.std.proofs.lemmas.List.Folds.{list_all-append}
+use Rattle.std.proofs.lemmas.List.Sums.{AllPass-from_list_all, list_all-from_AllPass}
+use Rattle.gx_history.specs.Lists.{placed}
+use Rattle.gx_book.specs.declared.resting.Resting.{Resting}
+use Rattle.gx_book.specs.Queue.{is_better, is_in_order, with_order}
+
+-- ---- any list
+
+pub is_false : (b : Bool) → not b ≡ true → b ≡ false
+is_false true h = absurd (true≢false (sym h))
+is_false false h = refl
+
+pub all_pass : {X : Type 0} (p : X → Bool) (xs : List X) → list_all p xs ≡ true → filter p xs ≡ xs
+all_pass p [] all = refl
+all_pass p (x ∷ xs) all =
+    let parts = and_parts (p x) (list_all p xs) all in
+    ap (λ b. cond b (x ∷ filter p xs) (filter p xs)) parts.0 ∙ ap (λ rest. x ∷ rest) (all_pass p xs parts.1)
+
+none_pass : {X : Type 0} (p : X → Bool) (xs : List X) → list_all p xs ≡ true → filter (λ x. not (p x)) xs ≡ []
+none_pass p [] all = refl
+none_pass p (x ∷ xs) all =
+    let parts = and_parts (p x) (list_all p xs) all in
+    ap (λ b. cond (not b) (x ∷ filter (λ y. not (p y)) xs) (filter (λ y. not (p y)) xs)) parts.0 ∙ none_pass p xs parts.1
+
+pub all_so : {X : Type 0} (p q : X → Bool) (xs : List X) → ((x : X) → p x ≡ true → q x ≡ true) → list_all p xs ≡ true → list_all q xs ≡ true
+all_so p q xs so all = list_all-from_AllPass q xs (λ k d within. so _ (AllPass-from_list_all p xs all k d within))
+
+pub all_filter : {X : Type 0} (q p : X → Bool) (xs : List X) → list_all q xs ≡ true → list_all q (filter p xs) ≡ true
+all_filter q p xs all = list_all-from_AllPass q (filter p xs) (All-filter p (λ x. q x ≡ true) xs (AllPass-from_list_all q xs all))
+
+-- whoever betters all goes first
+pub ahead_of_all : {X : Type 0} (better : X → X → Bool) (r : X) (xs : List X) → list_all (better r) xs ≡ true → placed better xs r ≡ r ∷ xs
+ahead_of_all better r xs all = ap (λ front. front ++ r ∷ filter (better r) xs) (none_pass (better r) xs all) ∙ ap (λ rest. r ∷ rest) (all_pass (better r) xs all)
+
+-- and behind whom he doesn't better
+pub behind_first : {X : Type 0} (better : X → X → Bool) (r x : X) (xs : List X) → better r x ≡ false → placed better (x ∷ xs) r ≡ x ∷ placed better xs r
+behind_first better r x xs is =
+    ap (λ b. cond (not b) (x ∷ filter (λ y. not (better r y)) xs) (filter (λ y. not (better r y)) xs) ++ r ∷ cond b (x ∷ filter (better r) xs) (filter (better r) xs)) is
+
+all_placed : {X : Type 0} (q : X → Bool) (better : X → X → Bool) (r : X) (xs : List X) → list_all q xs ≡ true → q r ≡ true → list_all q (placed better xs r) ≡ true
+all_placed q better r xs all here =
+    list_all-append q (filter (λ y. not (better r y)) xs) (r ∷ filter (better r) xs)
+    ∙ and_from _ _ (all_filter q (λ y. not (better r y)) xs all) (and_from _ _ here (all_filter q (better r) xs all))
+
+-- ---- a side
+
+-- who betters an order betters whoever doesn't better that one
+betters_next : (buy : Bool) (r x y : Resting) → is_better buy r x ≡ true → not (is_better buy y x) ≡ true → is_better buy r y ≡ true
+betters_next true r x y better later = grind arith
+betters_next false r x y better later = grind arith
+
+not_both : (buy : Bool) (r y : Resting) → is_better buy r y ≡ true → not (is_better buy y r) ≡ true
+not_both true r y better = grind arith
+not_both false r y better = grind arith
+
+pub in_order_filter : (buy : Bool) (p : Resting → Bool) (xs : List Resting) → is_in_order buy xs ≡ true → is_in_order buy (filter p xs) ≡ true
+in_order_filter buy p [] sorted = refl
+in_order_filter buy p (x ∷ xs) sorted =
+    let parts = and_parts (list_all (λ y. not (is_better buy y x)) xs) (is_in_order buy xs) sorted in
+    elim (p x) as (λ b. is_in_order buy (cond b (x ∷ filter p xs) (filter p xs)) ≡ true) [
+      | true ↦ and_from _ _ (all_filter (λ y. not (is_better buy y x)) p xs parts.0) (in_order_filter buy p xs parts.1)
+      | false ↦ in_order_filter buy p xs parts.1
+    ]
+
+pub in_order_placed : (buy : Bool) (r : Resting) (xs : List Resting) → is_in_order buy xs ≡ true → is_in_order buy (with_order buy r xs) ≡ true
+in_order_placed buy r [] sorted = refl
+in_order_placed buy r (x ∷ xs) sorted = by (is_better buy r x) refl (and_parts (list_all (λ y. not (is_better buy y x)) xs) (is_in_order buy xs) sorted) (λ rest. in_order_placed buy r xs rest)
+  where
+    by : (b : Bool) → is_better buy r x ≡ b → (list_all (λ y. not (is_better buy y x)) xs ≡ true) × (is_in_order buy xs ≡ true)
+        → (is_in_order buy xs ≡ true → is_in_order buy (with_order buy r xs) ≡ true) → is_in_order buy (with_order buy r (x ∷ xs)) ≡ true
+    by true is parts later =
+        let all : list_all (is_better buy r) (x ∷ xs) ≡ true =
+        and_from _ _ is (all_so (λ y. not (is_better buy y x)) (is_better buy r) xs (λ y. betters_next buy r x y is) parts.0)
+        in
+        ap (is_in_order buy) (ahead_of_all (is_better buy) r (x ∷ xs) all) ∙ and_from _ _ (all_so (is_better buy r) (λ y. not (is_better buy y r)) (x ∷ xs) (not_both buy r) all) sorted
+    by false is parts later =
+        ap (is_in_order buy) (behind_first (is_better buy) r x xs is)
+        ∙ and_from _ _ (all_placed (λ y. not (is_better buy y x)) (is_better buy) r xs parts.0 (ap not is)) (later parts.1)

@@ -1,0 +1,72 @@
+-- What is kept of one live order.
+use Rattle.std.specs.Prelude.{ℕ, ◌-◌, Bool, true, ◌&&◌, not, List}
+use Rattle.gx_units.specs.Names.{same_user, same_token}
+use Rattle.gx_units.specs.declared.names.Token.{Token}
+use Rattle.gx_units.specs.declared.names.UserName.{UserName}
+use Rattle.gx_ouch.specs.declared.inbound.ReplaceOrder.{ReplaceOrder}
+use Rattle.gx_ouch.specs.declared.outbound.OrderTerms.{OrderTerms}
+use Rattle.gx_history.specs.declared.live_order.LiveOrder.{LiveOrder}
+use Rattle.gx_history.specs.declared.live_order.UserToken.{UserToken}
+use Rattle.gx_history.specs.declared.policy.PolicyData.{PolicyData}
+use Rattle.gx_history.specs.declared.record.RecordData.{RecordData}
+use Rattle.gx_history.specs.Book.{has_rested}
+use Rattle.gx_history.specs.Executions.{Standing, done, executions}
+use Rattle.gx_history.specs.Orders.{total}
+
+-- what is kept of a live order
+abbrev pub kept : PolicyData → List RecordData → Standing → LiveOrder
+kept policy history s = record {
+  number = s.order.number;
+  user = s.order.user;
+  account = s.order.account;
+  token = s.order.token;
+  terms = s.order.terms;
+  total = total history s.order;
+  done = done (executions policy history) s.order;
+  waits = not (has_rested history s);
+}
+
+-- the shares that may still be executed
+abbrev pub shares_open : LiveOrder → ℕ
+shares_open o = o.total - o.done
+
+-- a token of the user
+abbrev pub key : UserName → Token → UserToken
+key user token = record { user = user; token = token }
+
+-- the user and the token that the order was asked for under
+abbrev pub token_of : LiveOrder → UserToken
+token_of o = key o.user o.token
+
+-- an order of the user under the token
+abbrev pub is_under : UserName → Token → LiveOrder → Bool
+is_under user token o = same_user o.user user && same_token o.token token
+
+-- the terms of an order that is replaced
+abbrev pub terms_then : ReplaceOrder → OrderTerms → OrderTerms
+terms_then m terms = record {
+  side = terms.side;
+  shares = m.shares;
+  stock = terms.stock;
+  price = m.price;
+  time_in_force = m.time_in_force;
+  firm = terms.firm;
+  display = m.display;
+  capacity = terms.capacity;
+  intermarket_sweep = m.intermarket_sweep;
+  minimum_quantity = m.minimum_quantity;
+  cross_type = terms.cross_type;
+}
+
+-- the order that replaces o: its chain has executed as much, and it waits
+abbrev pub replacement_order : RecordData → ReplaceOrder → LiveOrder → LiveOrder
+replacement_order r m o = record {
+  number = r.number;
+  user = o.user;
+  account = o.account;
+  token = m.replacement_token;
+  terms = terms_then m o.terms;
+  total = m.shares;
+  done = o.done;
+  waits = true;
+}
