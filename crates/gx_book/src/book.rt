@@ -85,7 +85,8 @@ impl Book {
     #[tactic(auto, using(crate::proofs::Stocks::side_found, crate::proofs::Stocks::none_found))]
     pub fn remove(&mut self, stock: Symbol, side: u8, gone: &Resting) -> bool
         ensures found { result ≡ is_among gone.now (resting_in self.old stock (is_buy side)) }
-        ensures removed { self.new ≡ on_side stock (is_buy side) (without_order gone.now) self.old }
+        ensures removed { self.new
+            ≡ on_side stock (is_buy side) (without_order gone.now) self.old }
     {
         let Some(sides) = self.by_stock.get_mut(&stock) else {
             return false;

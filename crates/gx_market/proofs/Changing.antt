@@ -14,6 +14,7 @@ use Rattle.gx_history.specs.Executions.{Standing, is_live}
 use Rattle.gx_history.specs.Lists.{placed}
 use Rattle.gx_history_laws.proofs.Numbers.{all_weaker}
 use Rattle.gx_effects.specs.OneMore.{Change, EndsAll, Rests, resting_with}
+use Rattle.gx_effects.proofs.Apart.{all_pass_filter}
 use Rattle.gx_effects.proofs.Known.{IsKnown, RestsThere, all_resting}
 use Rattle.gx_effects.proofs.Orderly.{IsOrderly}
 use Rattle.gx_book.specs.declared.resting.Resting.{Resting}
@@ -26,7 +27,7 @@ use Rattle.gx_market.specs.Changes.{ended_by, left_with, put_to_rest, taken_out}
 use Rattle.gx_market.proofs.Booked.{book_kept, each_changed, side_changed}
 use Rattle.gx_market.proofs.Homes.{both_are, buys, not_both, other_way, own_side, own_stock}
 use Rattle.gx_market.proofs.Lists.{account_swapped, filter_alike, placed_mapped, stock_is_itself}
-use Rattle.gx_market.proofs.Sides.{side_opened, side_stays, taken_from_home}
+use Rattle.gx_market.proofs.Sides.{side_opened, taken_from_home}
 
 -- each side changed so
 abbrev pub SidesChange : PolicyData → List RecordData → List RecordData → Change → Type 0
@@ -55,7 +56,7 @@ left_now policy before after s open_now shares orderly known one sides = at (nat
         book_kept policy before after (λ (stock : Symbol) (buy : Bool).
         opened stock buy
         ∙ ap (map rested_as)
-        (side_stays (λ (x : Standing). nat_lt 0 (open_now x)) (resting policy before stock buy)
+        (all_pass_filter (λ (x : Standing). nat_lt 0 (open_now x)) (resting policy before stock buy)
         (all_weaker (RestsThere policy before stock buy) (λ (x : Standing). nat_lt 0 (open_now x) ≡ true)
         (λ (x : Standing) k. ap (nat_lt 0) (one x k.known k.has_come_to_rest) ∙ stays x e k.there.lives (x.order.number == s.order.number))
         (resting policy before stock buy) (all_resting policy before stock buy orderly))))

@@ -12,6 +12,7 @@ use Rattle.gx_history.specs.Book.{has_rested, is_on_side, resting}
 use Rattle.gx_history.specs.Effects.{still_open, with_open}
 use Rattle.gx_history.specs.Executions.{Standing, is_live}
 use Rattle.gx_history_laws.proofs.Numbers.{all_weaker}
+use Rattle.gx_effects.proofs.Apart.{all_pass_filter}
 use Rattle.gx_effects.proofs.Known.{IsKnown, RestsThere, all_resting}
 use Rattle.gx_effects.proofs.Orderly.{IsOrderly}
 use Rattle.gx_book.specs.declared.resting.Resting.{Resting}
@@ -33,11 +34,6 @@ side_opened open_now (s ∷ ss) = at (nat_lt 0 (open_now s)) (side_opened open_n
         → map rested_as (cond b (with_open open_now s ∷ still_open open_now ss) (still_open open_now ss)) ≡ map rested_as (cond b (s ∷ chosen) chosen)
     at true later = ap (λ rs. rested_as s ∷ rs) later
     at false later = later
-
--- all pass
-pub side_stays : (p : Standing → Bool) (side : List Standing) → AllByRecursion (λ (s : Standing). p s ≡ true) side → filter p side ≡ side
-side_stays p [] h = refl
-side_stays p (s ∷ ss) h = ap (λ (b : Bool). cond b (s ∷ filter p ss) (filter p ss)) h.0 ∙ ap (λ rs. s ∷ rs) (side_stays p ss h.1)
 
 -- all pass but this order
 side_without : (gone : Resting) (p : Standing → Bool) (side : List Standing) → AllByRecursion (λ (s : Standing). is_same gone (rested_as s) ≡ not (p s)) side
@@ -101,7 +97,7 @@ taken_from_home policy before after s p orderly known passes sides =
     stays : (stock : Symbol) (buy : Bool) → (same_stock (own_stock s) stock && is_on_side buy s.order) ≡ false → rested_in policy after stock buy ≡ rested_in policy before stock buy
     stays stock buy apart =
         sides stock buy
-        ∙ ap (map rested_as) (side_stays p (resting policy before stock buy)
+        ∙ ap (map rested_as) (all_pass_filter p (resting policy before stock buy)
         (all_weaker (RestsThere policy before stock buy) (λ (x : Standing). p x ≡ true)
         (λ (x : Standing) k. passes x k.known k.has_come_to_rest k.there.lives ∙ ap not (other x k)) (resting policy before stock buy) (all_resting policy before stock buy orderly)))
       where
