@@ -3,9 +3,9 @@
 use gx_auditing::AuditingFault;
 use gx_journal::JournalFault;
 use gx_pass::PassFault;
+use gx_pipe::PipeFault;
 use gx_serve::ServeFault;
 use gx_server::{Device, ProgramFault};
-use gx_session::PipeFault;
 use gx_units::OutOfMemory;
 use std::process::ExitCode;
 use std::{fmt, io};

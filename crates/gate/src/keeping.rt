@@ -8,7 +8,7 @@ use gx_command_line::JournalFile;
 use gx_core::Gate;
 use gx_devices::{Counted, write_whole};
 use gx_history::policy::Policy;
-use gx_journal::{Resumed, resume};
+use gx_host::{Resumed, resume};
 use gx_server::{Noted, ProgramFault};
 use std::fs::{File, OpenOptions, TryLockError};
 use std::io::Write;

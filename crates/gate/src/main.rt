@@ -16,12 +16,13 @@ use gx_command_line::{
 use gx_core::Gate;
 use gx_devices::Counted;
 use gx_history::policy::Policy;
-use gx_journal::{JournalFault, Kept, serve_journaled};
+use gx_host::{Kept, Served, serve, serve_journaled};
+use gx_journal::JournalFault;
 use gx_lobby::Lobby;
+use gx_pipe::run_pipe;
 use gx_scripting::run_script;
-use gx_serve::{ServeFault, Served, serve};
+use gx_serve::ServeFault;
 use gx_server::{Noted, ProgramFault, migrated_policy, open_gate, policy_for, told_of_policy};
-use gx_session::run_pipe;
 use gx_units::OutOfMemory;
 use keeping::{Day, JournalDevice, take_up, tell_cut};
 use std::alloc::Global;

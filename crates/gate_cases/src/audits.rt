@@ -1,48 +1,17 @@
 //! Audits: how that of a gate's records is written, what is told of it, as it is and changed, and how it is shown.
 
-use crate::devices::{Limits, Sips};
-use crate::runs::put_hex;
-use crate::texts::{put, put_bytes};
 use gx_audit::audit_of;
-use gx_audit_bytes::{AuditVersion, RECORD_SIZE};
-use gx_auditing::{
-    AuditAnswer, AuditingFault, Choice, more_of_audit, show_audit, told_of_audit, write_audit,
-};
+use gx_audit_bytes::AuditVersion;
+use gx_auditing::{AuditAnswer, Choice, more_of_audit, show_audit, told_of_audit, write_audit};
 use gx_core::Gate;
 use gx_devices::Counted;
 use gx_history::policy::Policy;
 use gx_policyfile::{SAMPLE, read_policy};
+use gx_trials::{
+    Limits, Sips, change, chosen_by, put, put_audit, put_bytes, put_ended, put_shown, put_written,
+};
 use gx_units::OutOfMemory;
 use std::alloc::Global;
-use std::fmt::Write as _;
-
-/// Puts how the writing of an audit, or of its records' lines, ended.
-fn put_ended(out: &mut String, fault: Option<AuditingFault>) -> Result<(), OutOfMemory> {
-    match fault {
-        Some(fault) => writeln!(out, "audit: {fault}")?,
-        None => put(out, "audit: done\n")?,
-    }
-    Ok(())
-}
-
-/// Puts the bytes of an audit in hex, a line for each header and each record.
-fn put_audit(alloc: Global, out: &mut String, audit: &[u8]) -> Result<(), OutOfMemory> {
-    for bytes in audit.chunks(RECORD_SIZE) {
-        put_hex(alloc, out, bytes)?;
-    }
-    Ok(())
-}
-
-/// Puts what was written of an audit, and how that ended.
-fn put_written(
-    alloc: Global,
-    out: &mut String,
-    written: &[u8],
-    fault: Option<AuditingFault>,
-) -> Result<(), OutOfMemory> {
-    put_audit(alloc, out, written)?;
-    put_ended(out, fault)
-}
 
 /// Writes the gate's audit, and tells of it: its bytes, and how that ended.
 pub(crate) fn tell_audit(
@@ -67,42 +36,6 @@ pub(crate) fn tell_audit_1(
     put_audit(alloc, out, audit.as_slice())
 }
 
-/// Sets a byte of the audit, as the words say: where, and to what, in hex.
-fn set(audit: &mut Vec<u8>, words: &str) {
-    let (at, digits) = words.split_once(' ').unwrap_or((words, ""));
-    let (Ok(at), Ok(byte)) = (at.parse(), u8::from_str_radix(digits, 16)) else {
-        return;
-    };
-    let at: usize = at;
-    if let Some(place) = audit.get_mut(at) {
-        *place = byte;
-    }
-}
-
-/// Changes the audit as a line says: `byte AT HEX` sets a byte, `without COUNT` leaves the last ones out.
-fn change(audit: &mut Vec<u8>, line: &str) {
-    let (kind, words) = line.split_once(' ').unwrap_or((line, ""));
-    match (kind, words.parse::<usize>()) {
-        ("without", Ok(count)) => audit.truncate(audit.len().saturating_sub(count)),
-        ("byte", _) => set(audit, words),
-        _ => {}
-    }
-}
-
-/// Puts what more there is to tell of an audit.
-fn put_more(
-    alloc: Global,
-    out: &mut String,
-    policy: &Policy,
-    audit: &[u8],
-    told: &AuditAnswer,
-) -> Result<(), OutOfMemory> {
-    match more_of_audit(alloc, policy, audit, told.answer)? {
-        Some(more) => put_bytes(out, more.as_slice()),
-        None => Ok(()),
-    }
-}
-
 /// Puts what an audit was found to be, and what more there is to tell.
 fn put_told(
     alloc: Global,
@@ -112,7 +45,10 @@ fn put_told(
     told: &AuditAnswer,
 ) -> Result<(), OutOfMemory> {
     put_bytes(out, told.line.as_slice())?;
-    put_more(alloc, out, policy, audit, told)
+    match more_of_audit(alloc, policy, audit, told.answer)? {
+        Some(more) => put_bytes(out, more.as_slice()),
+        None => Ok(()),
+    }
 }
 
 /// Checks an audit, and tells the answer, and what more there is to tell.
@@ -185,25 +121,6 @@ pub(crate) fn tell_checks(
     Ok(())
 }
 
-/// Which records the words choose: those of an account or a user, else all.
-fn choice_of(words: &str) -> Option<Choice> {
-    match words.split_once(' ') {
-        Some(("account", name)) => Choice::named(Some(name), None),
-        Some(("user", name)) => Choice::named(None, Some(name)),
-        _ => Choice::named(None, None),
-    }
-}
-
-/// Puts what was shown, and how that ended.
-fn put_shown(
-    out: &mut String,
-    shown: &[u8],
-    fault: Option<AuditingFault>,
-) -> Result<(), OutOfMemory> {
-    put_bytes(out, shown)?;
-    put_ended(out, fault)
-}
-
 /// Shows the records of an audit that were chosen.
 fn show_chosen(
     alloc: Global,
@@ -229,7 +146,8 @@ pub(crate) fn tell_shown(
     limits: Limits,
     words: &str,
 ) -> Result<(), OutOfMemory> {
-    let Some(choice) = choice_of(words) else {
+    let (account, user) = chosen_by(words);
+    let Some(choice) = Choice::named(account, user) else {
         return put(out, "no such name\n");
     };
     let audit = audit_of(alloc, version, gate)?;

@@ -1,4 +1,5 @@
-//! Runs the cases on standard input, and prints what each does.
+//! Runs the cases on standard input, and prints what each does; then runs threads over shared gates, and prints what came
+//! of it.
 //!
 //! A case is a line `== TITLE`, which says what it shows, and parts up to the next case. A part is a line `-- KIND` and
 //! the lines behind it:
@@ -50,32 +51,33 @@
 //! done.
 #![tactic(auto)]
 
+mod alone;
 mod audits;
-mod calls;
-mod devices;
+mod conversations;
 mod endless;
-mod examples;
-mod patience;
+mod keeping;
+mod lengths;
+mod lines;
+mod loopback;
 mod policies;
+mod races;
+mod restarts;
 mod runs;
-mod sessions;
-mod texts;
-mod trials;
+mod threads;
 
-use calls::{tell_calls, tell_words};
-use devices::{BYTE_BY_BYTE, LARGE, Limits};
-use examples::tell_examples;
+use alone::Examples;
+use gx_cases::{changed_sample, put_rules, put_title, tell_calls, tell_examples, tell_words};
 use gx_history::policy::Policy;
-use gx_policyfile::{SAMPLE, read_policy};
+use gx_policyfile::read_policy;
 use gx_server::{open_gate, sample_policy, told_of_policy};
+use gx_trials::{BYTE_BY_BYTE, LARGE, Limits, bytes_of, halves, put_both, put_bytes};
 use gx_units::OutOfMemory;
-use policies::{put_fault, put_migrated, put_rules};
+use policies::{put_fault, put_migrated};
 use runs::tell_parts;
 use std::alloc::Global;
-use std::fmt::Write as _;
 use std::io;
 use std::io::Read as _;
-use texts::{bytes_of, put, put_bytes};
+use threads::run_threads;
 
 /// Runs the parts on a new gate: under the policy of the file, if there is one. `policy` is what the gate opens on.
 fn run_once(
@@ -95,16 +97,6 @@ fn run_once(
         }
         Err(fault) => put_fault(out, &fault),
     }
-}
-
-/// Puts what was told over devices of both kinds: once, where it is the same.
-fn put_both(out: &mut String, large: &str, byte_by_byte: &str) -> Result<(), OutOfMemory> {
-    put(out, large)?;
-    if byte_by_byte == large {
-        return Ok(());
-    }
-    put(out, "byte by byte:\n")?;
-    put(out, byte_by_byte)
 }
 
 /// Runs the parts byte by byte, behind what was told of them with large pieces.
@@ -180,13 +172,6 @@ fn tell_hex_file(
     tell_file(alloc, out, file.as_slice(), parts)
 }
 
-/// The sample policy's file with a text replaced, as the lines `old:` and `new:` say.
-fn changed_sample(alloc: Global, change: &str) -> Result<String, OutOfMemory> {
-    let (old, new) = change.split_once("\nnew:").unwrap_or((change, ""));
-    let old = old.strip_prefix("old:").unwrap_or(old).trim();
-    Ok(SAMPLE.replacen(alloc, old, new.trim(), 1)?)
-}
-
 /// Tells of the sample policy's file as it was changed, and runs the parts under it.
 fn tell_changed_sample(
     alloc: Global,
@@ -206,8 +191,8 @@ fn answer(
     parts: &str,
 ) -> Result<(), OutOfMemory> {
     let alloc = rt.alloc();
-    let (first, rest) = parts.split_once("\n-- ").unwrap_or((parts, ""));
-    let (kind, text) = first.split_once('\n').unwrap_or((first, ""));
+    let (first, rest) = halves(parts, "\n-- ");
+    let (kind, text) = halves(first, "\n");
     match kind {
         "policy" => tell_file(alloc, out, text.as_bytes(), rest),
         "policy-in-hex" => tell_hex_file(alloc, out, text, rest),
@@ -215,16 +200,9 @@ fn answer(
         "sample" => tell_changed_sample(alloc, out, text, rest),
         "calls" => tell_calls(alloc, out, text),
         "words" => tell_words(alloc, out, text),
-        "examples" => tell_examples(rt, out, text),
+        "examples" => tell_examples(rt, &Examples { alloc }, out, text),
         _ => run(alloc, out, None, sample, parts),
     }
-}
-
-/// Puts the title of a case.
-fn put_title(out: &mut String, title: &str) -> Result<(), OutOfMemory> {
-    put(out, "== ")?;
-    put(out, title.strip_prefix("== ").unwrap_or(title))?;
-    put(out, "\n")
 }
 
 /// Runs a case, behind its title.
@@ -234,7 +212,7 @@ fn answer_case(
     sample: &Policy,
     case: &str,
 ) -> Result<(), OutOfMemory> {
-    let (title, parts) = case.split_once("\n-- ").unwrap_or((case, ""));
+    let (title, parts) = halves(case, "\n-- ");
     put_title(out, title)?;
     answer(rt, out, sample, parts)
 }
@@ -259,11 +237,15 @@ fn answer_text(rt: &HostRuntime, out: &mut String, text: &str) -> Result<(), Out
 }
 
 fn main(rt: HostRuntime) -> io::Result<()> {
-    let mut text = String::new(rt.alloc());
+    let alloc: Global = rt.alloc();
+    let mut text = String::new(alloc);
     rt.reader().read_to_string(&mut text)?;
-    let mut out = String::new(rt.alloc());
-    match answer_text(&rt, &mut out, text.as_str()) {
-        Ok(()) => print!(rt; "{out}"),
-        Err(OutOfMemory) => Err(io::Error::from(io::ErrorKind::OutOfMemory)),
+    let mut out = String::new(alloc);
+    if answer_text(&rt, &mut out, text.as_str()).is_err() {
+        return Err(io::Error::from(io::ErrorKind::OutOfMemory));
     }
+    if let Err(ended) = run_threads(&rt, alloc, &mut out) {
+        print!(rt; "{ended}\n")?;
+    }
+    print!(rt; "{out}")
 }

@@ -12,7 +12,8 @@ use Rattle.gx_audit_bytes.specs.declared.version.AuditVersion.TheVariants as ver
 use Rattle.gx_audit_bytes.specs.Versions.{version_of}
 use Rattle.gx_audit_bytes.specs.Headers.{audit_header, header_bytes, header_contents, session_shown, front_of}
 use Rattle.gx_audit_bytes.specs.Records.{record_bytes}
-use Rattle.gx_audit.specs.Auditing.{all_bytes, whole_audit, IsAnswer}
+use Rattle.gx_audit_bytes.specs.Audits.{all_bytes, whole_audit}
+use Rattle.gx_audit.specs.Auditing.{IsAnswer}
 use Rattle.gx_audit.specs.Replaying.{IsHeaderFault}
 use Rattle.gx_audit_bytes.proofs.HeaderParts.{header_size}
 

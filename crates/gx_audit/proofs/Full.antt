@@ -15,8 +15,8 @@ use Rattle.gx_history.specs.declared.record.Verdict.TheVariants as verdicts
 use Rattle.gx_history.specs.Verdicts.{day_limit, next, Follows, IsGrantedKillOrLogout, IsKillOrLogout}
 use Rattle.gx_history_laws.proofs.Granting.{verdict_of_next}
 use Rattle.gx_places.specs.Places.{has_kept_places, is_kill_or_logout}
-use Rattle.gx_core.specs.Gates.{GateData}
-use Rattle.gx_core.specs.Steps.{has_its_places}
+use Rattle.gx_answers.specs.Gates.{GateData}
+use Rattle.gx_answers.specs.Steps.{has_its_places}
 use Rattle.gx_audit.specs.Auditing.{NoneFollows}
 use Rattle.gx_audit.proofs.Only.{number_of}
 

@@ -3,7 +3,7 @@ use Rattle.std.proofs.Common.{◌≡◌, ℕ, ◌+◌, ◌*◌, ◌≤◌, List,
 use Rattle.gx_history.specs.declared.policy.PolicyData.{PolicyData}
 use Rattle.gx_history.specs.declared.record.RecordData.{RecordData}
 use Rattle.gx_audit_bytes.specs.declared.version.AuditVersion.TheVariants as versions
-use Rattle.gx_audit.specs.Auditing.{all_bytes, whole_audit, AreShown}
+use Rattle.gx_audit_bytes.specs.Audits.{all_bytes, whole_audit, AreShown}
 use Rattle.gx_audit_bytes.specs.Headers.{header_bytes}
 use Rattle.gx_audit_bytes.specs.Records.{record_bytes}
 use Rattle.gx_audit.specs.Replaying.{EndsAt, HoldsRecords, journal_size}

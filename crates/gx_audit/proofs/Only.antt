@@ -17,7 +17,8 @@ use Rattle.gx_audit_bytes.specs.Versions.{version_of}
 use Rattle.gx_audit_bytes.specs.Headers.{front_of}
 use Rattle.gx_audit_bytes.specs.Records.{record_bytes}
 use Rattle.gx_audit_bytes.specs.Reading.{record_of, IsShown}
-use Rattle.gx_audit.specs.Auditing.{all_bytes, whole_audit, AreShown, HasCutHeader, HasOtherHeader, IsAnswer, IsFaultAt, IsFirstFault, IsJudgement, IsOnlyAnswer}
+use Rattle.gx_audit_bytes.specs.Audits.{all_bytes, whole_audit, AreShown}
+use Rattle.gx_audit.specs.Auditing.{HasCutHeader, HasOtherHeader, IsAnswer, IsFaultAt, IsFirstFault, IsJudgement, IsOnlyAnswer}
 use Rattle.gx_audit_bytes.proofs.ReadBack.{both_true, fields_lie}
 use Rattle.gx_audit.proofs.Fronts.{version_known, begins_so, long_enough, same_header}
 

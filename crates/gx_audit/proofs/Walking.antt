@@ -14,18 +14,9 @@ use Rattle.gx_audit_bytes.specs.Headers.{front_of}
 use Rattle.gx_audit_bytes.specs.Records.{record_bytes}
 use Rattle.gx_audit_bytes.specs.Reading.{IsShown}
 use Rattle.gx_audit.specs.Replaying.{EndsAt, IsRecordsFault}
-use Rattle.gx_audit.specs.Auditing.{all_bytes, whole_audit, AreShown, IsAnswer, IsFaultAt, IsRecordFault, IsFirstFault, IsOneMore}
-
-pub no_bytes : (version : AuditVersion) → all_bytes version [] ≡ []
-unfolding all_bytes
-no_bytes version = refl
-
-pub more_bytes : (version : AuditVersion) (records : List RecordData) (r : RecordData) → all_bytes version (records ++ r ∷ []) ≡ all_bytes version records ++ record_bytes version r
-unfolding all_bytes
-more_bytes version [] r = append-nil (record_bytes version r)
-more_bytes version (first ∷ records) r =
-    ap (λ (bytes : List ℕ). record_bytes version first ++ bytes) (more_bytes version records r)
-    ∙ sym (append_assoc (record_bytes version first) (all_bytes version records) (record_bytes version r))
+use Rattle.gx_audit_bytes.specs.Audits.{all_bytes, whole_audit, AreShown}
+use Rattle.gx_audit_bytes.proofs.Joined.{no_bytes, more_bytes}
+use Rattle.gx_audit.specs.Auditing.{IsAnswer, IsFaultAt, IsRecordFault, IsFirstFault, IsOneMore}
 
 whole_more : (version : AuditVersion) (policy : PolicyData) (records : List RecordData) (r : RecordData)
     → whole_audit version policy (records ++ r ∷ []) ≡ whole_audit version policy records ++ record_bytes version r

@@ -1,6 +1,5 @@
 -- What the check of an audit answers.
-use Rattle.std.specs.Prelude.{◌≡◌, ◌≢◌, ℕ, ◌+◌, ◌<◌, ◌≤◌, List, [], ◌∷◌, ◌++◌, take, length, map, ◌⊎◌, Option, Some, Result, Ok, Err}
-use Rattle.std.specs.List.{concat, AllByRecursion}
+use Rattle.std.specs.Prelude.{◌≡◌, ◌≢◌, ℕ, ◌+◌, ◌<◌, ◌≤◌, List, [], ◌∷◌, ◌++◌, take, length, ◌⊎◌, Option, Some, Result, Ok, Err}
 use Rattle.gx_history.specs.declared.policy.PolicyData.{PolicyData}
 use Rattle.gx_history.specs.declared.record.RecordData.{RecordData}
 use Rattle.gx_history.specs.declared.record.Step.{Step}
@@ -10,25 +9,10 @@ use Rattle.gx_audit.specs.declared.fault.AuditFault.TheVariants as faults
 use Rattle.gx_audit_bytes.specs.declared.version.AuditVersion.{AuditVersion}
 use Rattle.gx_audit_bytes.specs.declared.version.AuditVersion.TheVariants as versions
 use Rattle.gx_audit_bytes.specs.Versions.{version_of}
-use Rattle.gx_audit_bytes.specs.Headers.{front_of, header_bytes}
+use Rattle.gx_audit_bytes.specs.Audits.{record_size, whole_audit, AreShown}
+use Rattle.gx_audit_bytes.specs.Headers.{header_bytes}
 use Rattle.gx_audit_bytes.specs.Records.{record_bytes}
 use Rattle.gx_audit_bytes.specs.Reading.{record_of, IsShown}
-
--- how many bytes a record has, and a header
-abbrev pub record_size : ℕ
-record_size = 128
-
--- the bytes of the records, one behind the other
-unfoldable pub all_bytes : AuditVersion → List RecordData → List ℕ
-all_bytes version records = concat (map (record_bytes version) records)
-
--- each record is one that its bytes show
-abbrev pub AreShown : AuditVersion → List RecordData → Type 0
-AreShown version records = AllByRecursion (IsShown version) records
-
--- an audit: in version 1 the records' bytes alone, in version 2 the policy's header, and then those
-abbrev pub whole_audit : AuditVersion → PolicyData → List RecordData → List ℕ
-whole_audit version policy records = front_of version policy ++ all_bytes version records
 
 -- the bytes are the audit of a legal day, in one of the versions, with so many records
 pub record IsLegalAudit (policy : PolicyData) (bytes : List ℕ) (count : ℕ) : Type 0 where

@@ -6,7 +6,8 @@ use Rattle.gx_audit.specs.declared.fault.AuditFault.{AuditFault}
 use Rattle.gx_audit.specs.declared.fault.AuditFault.TheVariants as faults
 use Rattle.gx_audit_bytes.specs.declared.version.AuditVersion.{AuditVersion}
 use Rattle.gx_audit_bytes.specs.declared.version.AuditVersion.TheVariants as versions
-use Rattle.gx_audit.specs.Auditing.{record_size, whole_audit, AreShown, IsFirstFault}
+use Rattle.gx_audit_bytes.specs.Audits.{record_size, whole_audit, AreShown}
+use Rattle.gx_audit.specs.Auditing.{IsFirstFault}
 use Rattle.gx_audit_bytes.specs.Headers.{header_bytes}
 
 -- the bytes are the audit of these records up to this place, behind which too few are left for another record

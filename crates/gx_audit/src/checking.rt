@@ -2,7 +2,7 @@
 
 ghost use Rattle.std.specs.Prelude.{◌≡◌, ◌≢◌, ◌+◌, ◌-◌, ◌<◌, ◌≤◌, ◌^◌, IsTrue, IsFalse, IfOk, IfErr, OnOk, Err, ◌++◌, [], length, take, drop, Some};
 ghost use Rattle.gx_history.specs.Verdicts.{next, IsLegal};
-ghost use Rattle.gx_core.specs.declared.outcome.StepFault.TheVariants as stepping;
+ghost use Rattle.gx_answers.specs.declared.outcome.StepFault.TheVariants as stepping;
 ghost use Rattle.gx_audit.specs.Auditing.{with_left, IsAnswer, IsOneMore, IsOnlyAnswer, IsRecordFault, NoneFollows};
 ghost use Rattle.gx_audit_bytes.specs.Reading.{record_of, IsAskableStep, IsShown};
 ghost use Rattle.gx_audit.specs.Replaying.{EndsAt, IsHeaderFault, IsRecordsFault};
@@ -11,10 +11,11 @@ ghost use Rattle.gx_audit_bytes.specs.Records.{record_bytes};
 ghost use Rattle.gx_audit_bytes.specs.Versions.{version_of};
 
 use crate::fault::AuditFault;
+use gx_answers::{Outcome, StepFault};
 use gx_audit_bytes::{
     AuditVersion, RECORD_SIZE, has_bytes, read_record_in, same_bytes, whole, write_header,
 };
-use gx_core::{Gate, Outcome, StepFault};
+use gx_core::Gate;
 use gx_history::policy::Policy;
 use gx_history::record::{RecordData, Step};
 use std::alloc::Global;

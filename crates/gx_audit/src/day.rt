@@ -1,43 +1,14 @@
 //! A day's records as bytes.
 
-ghost use Rattle.std.specs.Prelude.{◌≡◌, ◌++◌, IfOk, OnOk, length};
-ghost use Rattle.gx_audit.specs.Auditing.{all_bytes, whole_audit, AreShown, IsLegalAudit};
+ghost use Rattle.std.specs.Prelude.{◌≡◌, IfOk, length};
+ghost use Rattle.gx_audit.specs.Auditing.{IsLegalAudit};
+ghost use Rattle.gx_audit_bytes.specs.Audits.{whole_audit};
 ghost use Rattle.gx_audit_bytes.specs.Headers.{front_of, header_bytes};
-ghost use Rattle.gx_audit_bytes.specs.Reading.{IsShown};
-ghost use Rattle.gx_audit_bytes.specs.Records.{record_bytes};
 
-use gx_audit_bytes::{AuditVersion, RECORD_SIZE, write_header, write_record_in};
+use gx_audit_bytes::{AuditVersion, RECORD_SIZE, audit_bytes, write_header};
 use gx_core::Gate;
-use gx_history::record::Record;
 use gx_units::OutOfMemory;
 use std::alloc::Global;
-
-/// Puts the record's bytes last.
-fn put(version: AuditVersion, bytes: &mut Vec<u8>, given: &Record) -> Result<(), OutOfMemory>
-    ensures ok { OnOk result (bytes.new.items
-        ≡ bytes.old.items ++ record_bytes version given.now) }
-    ensures shown { IsShown version given.now }
-{
-    bytes.extend_from_slice(&write_record_in(version, given))?;
-    Ok(())
-}
-
-/// The bytes of the records in this version, one behind the other.
-#[tactic(auto, using(crate::proofs::Whole::none_yet))]
-pub fn audit_bytes(
-    alloc: Global,
-    version: AuditVersion,
-    records: &[Record],
-) -> Result<Vec<u8>, OutOfMemory>
-    ensures bytes { IfOk result (λ v. v.items ≡ all_bytes version records.now) }
-    ensures shown { IfOk result (λ v. AreShown version records.now) }
-{
-    let mut bytes = Vec::new(alloc);
-    for given in records {
-        put(version, &mut bytes, given)?;
-    }
-    Ok(bytes)
-}
 
 /// The header of the gate's policy. Takes no memory.
 pub fn header_of(gate: &Gate) -> [u8; RECORD_SIZE]

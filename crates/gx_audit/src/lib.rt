@@ -7,6 +7,6 @@ mod fault;
 mod replaying;
 
 pub use checking::{check_audit, check_record, record_at};
-pub use day::{audit_bytes, audit_of, header_of};
+pub use day::{audit_of, header_of};
 pub use fault::AuditFault;
 pub use replaying::replay;

@@ -5,3 +5,4 @@ pub mod Rules
 pub mod ReadBack
 pub mod Counts
 pub mod HeaderParts
+pub mod Joined

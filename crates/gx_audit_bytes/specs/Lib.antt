@@ -4,3 +4,4 @@ pub mod Versions
 pub mod Records
 pub mod Headers
 pub mod Reading
+pub mod Audits

@@ -3,15 +3,15 @@
 ghost use Rattle.std.specs.Prelude.{◌≡◌, ◌^◌, ◌<◌, ◌-◌, IfErr, OnErr, OnOk};
 ghost use Rattle.std.specs.Io.KnownBytes.{Appends};
 ghost use Rattle.gx_audit_bytes.specs.declared.version.AuditVersion.TheVariants as versions;
-ghost use Rattle.gx_audit.specs.Auditing.{all_bytes, whole_audit};
+ghost use Rattle.gx_audit_bytes.specs.Audits.{all_bytes, whole_audit};
 ghost use Rattle.gx_audit_bytes.specs.Headers.{header_bytes};
 ghost use Rattle.gx_auditing.specs.Faults.{IsBlamed};
 ghost use Rattle.gx_devices.specs.Devices.{IsFront};
 ghost use Rattle.gx_history.specs.Lists.{slice};
 
 use crate::fault::AuditingFault;
-use gx_audit::{audit_bytes, header_of};
-use gx_audit_bytes::AuditVersion;
+use gx_audit::header_of;
+use gx_audit_bytes::{AuditVersion, audit_bytes};
 use gx_core::Gate;
 use gx_devices::{Counted, write_whole};
 use std::alloc::Global;

@@ -28,9 +28,9 @@ use Rattle.gx_history.specs.declared.live_order.LiveOrder.{LiveOrder}
 use Rattle.gx_orders.specs.InForce.{orders_in_force}
 use Rattle.gx_orders.specs.LiveOrders.{OrdersData, first_waiting}
 use Rattle.gx_keepers.specs.declared.keepers.Keepers.{Keepers}
-use Rattle.gx_core.specs.Gates.{GateData, matched_by}
+use Rattle.gx_answers.specs.Gates.{GateData, matched_by}
 use Rattle.gx_core.specs.Kept.{IsKept}
-use Rattle.gx_core.specs.Matches.{MatchEffect, settled_gate}
+use Rattle.gx_answers.specs.Matches.{MatchEffect, settled_gate}
 
 -- the first that waits, against the best that rests on the other side, as they are kept
 met_by_kept : (policy : PolicyData) (history : List RecordData) (k : Keepers) → IsKept policy history k → next_met k.orders k.book ≡ matching policy history

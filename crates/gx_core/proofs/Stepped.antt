@@ -7,9 +7,9 @@ use Rattle.gx_history.specs.declared.record.RecordData.{RecordData}
 use Rattle.gx_history.specs.declared.record.Step.TheVariants as steps
 use Rattle.gx_history.specs.declared.policy.PolicyData.{PolicyData}
 use Rattle.gx_history.specs.Verdicts.{next, after_step}
-use Rattle.gx_core.specs.Asking.{stepped}
-use Rattle.gx_core.specs.Gates.{GateData, left_by}
-use Rattle.gx_core.specs.declared.outcome.Outcome.{Outcome}
+use Rattle.gx_answers.specs.Asking.{stepped}
+use Rattle.gx_answers.specs.Gates.{GateData, left_by}
+use Rattle.gx_answers.specs.declared.outcome.Outcome.{Outcome}
 
 same_gate : (p q : PolicyData) (r s : List RecordData) (after : GateData) → after ≡ record { policy = p; records = r } → p ≡ q → r ≡ s → after ≡ record { policy = q; records = s }
 same_gate p q r s after h e f =

@@ -10,22 +10,23 @@ ghost use Rattle.gx_history.specs.People.{user_in};
 ghost use Rattle.gx_history.specs.Showing.{is_askable};
 ghost use Rattle.gx_history.specs.Streams.{stream};
 ghost use Rattle.gx_history.specs.Verdicts.{last_moment, verdict, IsLegal};
-ghost use Rattle.gx_core.specs.declared.outcome.StepFault.TheVariants as faults;
-ghost use Rattle.gx_core.specs.Gates.{left_by, matched_by};
-ghost use Rattle.gx_core.specs.Logins.{login_answered};
-ghost use Rattle.gx_core.specs.Matches.{matches_left, matching_of, next_match, settled_gate, with_match, HasMatched};
-ghost use Rattle.gx_core.specs.Told.{copies_of, ends_before, login_of, reads, stream_of};
-ghost use Rattle.gx_core.specs.Steps.{has_its_places, next_of, verdict_of, with_record, EndsKills, HasEffect};
-ghost use Rattle.gx_core.specs.Steps.{IsFull, IsJudged, NoneHeldWhereNoneAsked, NoneOnSideWhereNoneAsked};
+ghost use Rattle.gx_answers.specs.declared.outcome.StepFault.TheVariants as faults;
+ghost use Rattle.gx_answers.specs.Gates.{left_by, matched_by};
+ghost use Rattle.gx_answers.specs.Logins.{login_answered};
+ghost use Rattle.gx_answers.specs.Matches.{matches_left, matching_of, next_match, settled_gate, with_match, HasMatched};
+ghost use Rattle.gx_answers.specs.Told.{copies_of, ends_before, login_of, reads, stream_of};
+ghost use Rattle.gx_answers.specs.Steps.{has_its_places, next_of, verdict_of, with_record};
+ghost use Rattle.gx_core.specs.Effects.{EndsKills, HasEffect};
+ghost use Rattle.gx_answers.specs.Steps.{IsFull, IsJudged};
+ghost use Rattle.gx_core.specs.Effects.{NoneHeldWhereNoneAsked, NoneOnSideWhereNoneAsked};
 
 use crate::login::{login_answered, login_asked};
-use crate::matching::record_of_match;
-use crate::outcome::{LoginAnswer, Outcome, StepFault};
 use crate::places::{first_history, keep_for, keep_one};
-use crate::pulling::{Pulled, pull};
+use crate::pulling::pull;
+use gx_answers::{LoginAnswer, Outcome, Pulled, StepFault, record_of, record_of_match};
 use gx_history::history::History;
 use gx_history::policy::Policy;
-use gx_history::record::{Asked, Record, RecordData, Request, Step, Verdict};
+use gx_history::record::{Asked, Record, Request, Verdict};
 use gx_history::slices::slice;
 use gx_keepers::apply::carry_on;
 use gx_keepers::keepers::Keepers;
@@ -34,18 +35,6 @@ use gx_keepers::next_record::{NextMatch, NextRecord};
 use gx_units::{AccountName, Moment, OutOfMemory, Password, SessionName, UserName};
 use std::alloc::Global;
 use std::marker::Model;
-
-/// The record of a request with this outcome.
-pub fn record_of(a: &Asked, outcome: Outcome) -> RecordData
-    ensures { result ≡ left_by a.now outcome }
-{
-    RecordData {
-        number: outcome.number,
-        moment: outcome.moment,
-        step: Step::Asked(*a),
-        verdict: outcome.verdict,
-    }
-}
 
 /// A policy, and the records of a day under it, the oldest first; and what it keeps of these.
 ///
@@ -58,7 +47,7 @@ pub struct Gate {
 }
 
 impl Model for Gate {
-    ghost use Rattle.gx_core.specs.Gates.{GateData};
+    ghost use Rattle.gx_answers.specs.Gates.{GateData};
     ghost use Rattle.gx_core.specs.Kept.{IsWhole};
 
     ghost Value = { GateData };

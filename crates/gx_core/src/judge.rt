@@ -7,13 +7,13 @@ ghost use Rattle.gx_history.specs.People.{account_named, account_of, role_in};
 ghost use Rattle.gx_history.specs.Showing.{answers, is_askable, is_showable};
 ghost use Rattle.gx_history.specs.Verdicts.{moment_of, next, verdict};
 ghost use Rattle.gx_people.specs.Entitled.{holds_in_role};
-ghost use Rattle.gx_core.specs.Gates.{left_by};
+ghost use Rattle.gx_answers.specs.Gates.{left_by};
 ghost use Rattle.gx_core.specs.Known.{accounts_held, change_asked, has_used, is_available_after, names_known, order_asked, power_held, role_asking};
-ghost use Rattle.gx_core.specs.Steps.{next_of, verdict_of};
-ghost use Rattle.gx_core.specs.Told.{stream_of};
+ghost use Rattle.gx_answers.specs.Steps.{next_of, verdict_of};
+ghost use Rattle.gx_answers.specs.Told.{stream_of};
 
 use crate::gate::Gate;
-use crate::outcome::Outcome;
+use gx_answers::Outcome;
 use gx_decide::decide;
 use gx_desk::Action;
 use gx_history::facts::Facts;

@@ -2,9 +2,9 @@
 
 ghost use Rattle.std.specs.Prelude.{◌≡◌};
 ghost use Rattle.gx_history.specs.Logins.{session_is, first_wanted};
-ghost use Rattle.gx_core.specs.Logins.{login_answer_after, login_asked_of};
+ghost use Rattle.gx_answers.specs.Logins.{login_answer_after, login_asked_of};
 
-use crate::outcome::LoginAnswer;
+use gx_answers::LoginAnswer;
 use gx_history::policy::Policy;
 use gx_history::record::{Login, Request, RuleName, Verdict};
 use gx_people::people::People;

@@ -2,27 +2,15 @@
 
 ghost use Rattle.std.specs.Prelude.{◌≡◌, ◌≤◌, ◌<◌, length, IsTrue, Some};
 ghost use Rattle.gx_history.specs.Showing.{is_showable};
-ghost use Rattle.gx_core.specs.Gates.{matched_by};
-ghost use Rattle.gx_core.specs.Matches.{first_of, matching_of, next_match};
+ghost use Rattle.gx_answers.specs.Gates.{matched_by};
+ghost use Rattle.gx_answers.specs.Matches.{matching_of, next_match};
+ghost use Rattle.gx_core.specs.Known.{first_of};
 
 use crate::gate::Gate;
-use crate::outcome::Outcome;
+use gx_answers::Outcome;
 use gx_history::live_order::LiveOrder;
-use gx_history::record::{RecordData, Step};
 use gx_market::meeting::{best_against, met};
 use gx_units::Moment;
-
-/// The record of a matching step with this outcome.
-pub fn record_of_match(handed: Moment, outcome: Outcome) -> RecordData
-    ensures { result ≡ matched_by handed outcome }
-{
-    RecordData {
-        number: outcome.number,
-        moment: outcome.moment,
-        step: Step::Matching(handed),
-        verdict: outcome.verdict,
-    }
-}
 
 impl Gate {
     /// The first order that waits to be matched.

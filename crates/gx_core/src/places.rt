@@ -1,11 +1,11 @@
 //! The places of records.
 
 ghost use Rattle.std.specs.Prelude.{◌≡◌, ◌+◌, ◌-◌, ◌<◌, ◌≤◌, ◌^◌, [], length, IfErr, IfOk, IsFalse, IsOk, IsTrue, OnOk};
-ghost use Rattle.gx_core.specs.declared.outcome.StepFault.TheVariants as faults;
+ghost use Rattle.gx_answers.specs.declared.outcome.StepFault.TheVariants as faults;
 ghost use Rattle.gx_history.specs.Verdicts.{day_limit};
 ghost use Rattle.gx_places.specs.Places.{has_kept_places, most_record_places};
 
-use crate::outcome::StepFault;
+use gx_answers::StepFault;
 use gx_history::history::History;
 use gx_history::policy::Policy;
 use gx_history::record::{Asked, Verdict};

@@ -1,5 +1,5 @@
 -- What is written in parts.
-use Rattle.std.proofs.Common.{◌≡◌, ℕ, ◌+◌, ◌-◌, ◌≤◌, sym, ap, ◌∙◌, subst, List, [], append-nil, take-append-drop, length, take, drop, Option, None, Some, Result, Ok, Err, OnOk, OnErr, arith}
+use Rattle.std.proofs.Common.{◌≡◌, ℕ, ◌+◌, ◌-◌, ◌≤◌, sym, ap, ◌∙◌, subst, List, [], ◌++◌, append-nil, append_assoc, take-append-drop, length, take, drop, Option, None, Some, Result, Ok, Err, OnOk, OnErr, arith}
 use Rattle.std.proofs.lemmas.List.{take_rest}
 use Rattle.std.proofs.Math.Seq.{take-add}
 use Rattle.std.specs.Prelude.{IfErr}
@@ -65,3 +65,15 @@ if_err (Err e) P Q f p = f e p
 pub on_ok : {T E : Type 0} (r : Result T E) (P Q : Type 0) → (P → Q) → OnOk r P → OnOk r Q
 on_ok (Ok x) P Q f p = f p
 on_ok (Err e) P Q f p = tt
+
+-- text behind text
+pub front_behind : (text more : List ℕ) (output mid left : Option (List ℕ)) → Appends output mid text → IsFront mid left more → IsFront output left (text ++ more)
+front_behind text more output mid left w f = record {
+  front = text ++ f.front;
+  rest = f.rest;
+  written = Appends-trans output mid left text f.front w f.written;
+  whole = ap (λ t. text ++ t) f.whole ∙ sym (append_assoc text f.front f.rest);
+}
+
+pub front_longer : (text more : List ℕ) (output left : Option (List ℕ)) → IsFront output left text → IsFront output left (text ++ more)
+front_longer text more output left f = record { front = f.front; rest = f.rest ++ more; written = f.written; whole = ap (λ t. t ++ more) f.whole ∙ append_assoc f.front f.rest more }

@@ -10,7 +10,7 @@ use Rattle.gx_devices.specs.Devices.{IsFront}
 use Rattle.gx_history.specs.declared.record.RecordData.{RecordData}
 use Rattle.gx_history.specs.Lists.{slice}
 use Rattle.gx_audit_bytes.specs.declared.version.AuditVersion.TheVariants as versions
-use Rattle.gx_audit.specs.Auditing.{all_bytes}
+use Rattle.gx_audit_bytes.specs.Audits.{all_bytes}
 use Rattle.gx_audit_bytes.specs.Records.{record_bytes}
 use Rattle.gx_journal.specs.Journals.{added, journal_bytes, IsGrown}
 

@@ -4,7 +4,7 @@ use Rattle.std.specs.Io.KnownBytes.{append_known}
 use Rattle.gx_devices.specs.Devices.{IsFront}
 use Rattle.gx_history.specs.declared.record.RecordData.{RecordData}
 use Rattle.gx_audit_bytes.specs.declared.version.AuditVersion.TheVariants as versions
-use Rattle.gx_audit.specs.Auditing.{all_bytes}
+use Rattle.gx_audit_bytes.specs.Audits.{all_bytes}
 use Rattle.gx_pass.specs.declared.view.Holds.{Holds}
 use Rattle.gx_pass.specs.Views.{holds}
 use Rattle.gx_journal.specs.declared.fault.JournalFault.{JournalFault}

@@ -5,14 +5,14 @@ ghost use mathlib.Core.List.{IsPrefix};
 ghost use Rattle.gx_devices.specs.Devices.{IsFront};
 ghost use Rattle.gx_history.specs.Lists.{slice};
 ghost use Rattle.gx_pass.specs.Views.{retold};
-ghost use Rattle.gx_shared.specs.Acts.{IsLater};
+ghost use Rattle.gx_door.specs.Acts.{IsLater};
 ghost use Rattle.gx_journal.specs.Journals.{added, is_broken, journal_bytes, known, IsGrown, IsKept};
 
 use crate::fault::JournalFault;
 use crate::name::JournalName;
 use crate::tape::Tape;
+use gx_door::Door;
 use gx_history::record::Record;
-use gx_shared::Door;
 use gx_units::OutOfMemory;
 use std::alloc::Global;
 use std::io::Write;
@@ -176,7 +176,7 @@ impl<D: Door, W: Write, J: JournalName> Journal<D, W, J> {
     }
 
     /// The pass, and the device with the day's records that are on it.
-    pub(crate) fn into_parts(self) -> (D::Ticket, Tape<W>)
+    pub fn into_parts(self) -> (D::Ticket, Tape<W>)
         ensures met { D.held result.0 ≡ self.met }
         ensures tape { result.1 ≡ self.tape }
         ensures kept { IsKept J.begun J.count J.earlier self }

@@ -4,10 +4,10 @@ ghost use Rattle.std.specs.Prelude.{◌≡◌, ◌≤◌, length};
 
 use crate::journal::Journal;
 use crate::name::JournalName;
-use gx_core::{LoginAnswer, Outcome, Pulled, StepFault};
+use gx_answers::{LoginAnswer, Outcome, Pulled, StepFault};
+use gx_door::{Door, PullFault};
 use gx_history::record::{Record, Request};
 use gx_pass::PassFault;
-use gx_shared::{Door, PullFault};
 use gx_units::{Moment, OutOfMemory, Password, SessionName, UserName};
 use std::alloc::Global;
 use std::io::Write;

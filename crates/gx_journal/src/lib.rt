@@ -10,14 +10,10 @@ mod fault;
 mod journal;
 mod journaled;
 mod name;
-mod rest;
-mod resuming;
-mod serving;
 mod tape;
 
 pub use fault::JournalFault;
 pub use journal::Journal;
 pub use journaled::Journaled;
 pub use name::JournalName;
-pub use resuming::{Resumed, resume};
-pub use serving::{Kept, close_kept, serve_journaled};
+pub use tape::Tape;

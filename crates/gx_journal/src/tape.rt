@@ -7,8 +7,7 @@ ghost use Rattle.gx_journal.specs.declared.fault.JournalFault.TheVariants as fau
 ghost use Rattle.gx_journal.specs.Journals.{is_broken, journal_bytes, IsBlamed};
 
 use crate::fault::JournalFault;
-use gx_audit::audit_bytes;
-use gx_audit_bytes::AuditVersion;
+use gx_audit_bytes::{AuditVersion, audit_bytes};
 use gx_devices::{Counted, write_whole};
 use gx_history::record::Record;
 use std::alloc::Global;
@@ -17,7 +16,7 @@ use std::marker::Model;
 
 /// A device that the day's records are put on, each as its 128 bytes in an audit of version 2. Behind its first fault
 /// nothing is put on it any more. Contracts see what the device holds, how many records are on it, and the fault.
-pub(crate) struct Tape<W: Write> {
+pub struct Tape<W: Write> {
     alloc: Global,
     writer: Counted<W>,
     done: u64,
@@ -62,7 +61,7 @@ fn put_on<W: Write>(
 
 impl<W: Write> Tape<W> {
     /// A device with so many of the day's records.
-    pub(crate) fn new(alloc: Global, done: u64, device: W) -> Tape<W>
+    pub fn new(alloc: Global, done: u64, device: W) -> Tape<W>
         ensures contents { result.contents ≡ W.contents device }
         ensures done { result.done ≡ done }
         ensures fault { result.fault ≡ None }
@@ -76,21 +75,21 @@ impl<W: Write> Tape<W> {
     }
 
     /// How many records are on it.
-    pub(crate) fn done(&self) -> u64
+    pub fn done(&self) -> u64
         ensures { result ≡ self.now.done }
     {
         self.done
     }
 
     /// Whether nothing is put on it any more.
-    pub(crate) fn is_broken(&self) -> bool
+    pub fn is_broken(&self) -> bool
         ensures { result ≡ is_broken self.now }
     {
         self.fault.is_some()
     }
 
     /// Puts the records on it, in one call of the device if that takes them. Answers whether it did.
-    pub(crate) fn put(&mut self, records: &[Record]) -> bool
+    pub fn put(&mut self, records: &[Record]) -> bool
         requires room { self.old.done + length records.now < 2 ^ 64 }
         ensures answer { IsTrue result → self.new.fault ≡ None }
         ensures whole { IsTrue result → Appends
@@ -119,7 +118,7 @@ impl<W: Write> Tape<W> {
     }
 
     /// Puts nothing on it any more.
-    pub(crate) fn give_up(&mut self, fault: JournalFault)
+    pub fn give_up(&mut self, fault: JournalFault)
         ensures fault { IsTrue (is_broken self.new) }
         ensures contents { self.new.contents ≡ self.old.contents }
         ensures done { self.new.done ≡ self.old.done }
@@ -130,7 +129,7 @@ impl<W: Write> Tape<W> {
     }
 
     /// The device, and why nothing was put on it any more, if so.
-    pub(crate) fn into_parts(self) -> (W, Option<JournalFault>)
+    pub fn into_parts(self) -> (W, Option<JournalFault>)
         ensures contents { W.contents result.0 ≡ self.contents }
         ensures fault { result.1 ≡ self.fault }
     {

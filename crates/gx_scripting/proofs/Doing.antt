@@ -8,11 +8,11 @@ use Rattle.gx_history.specs.declared.record.Step.TheVariants as steps
 use Rattle.gx_history.specs.declared.record.Verdict.{Verdict}
 use Rattle.gx_history.specs.declared.report.Report.{Report}
 use Rattle.gx_history.specs.Verdicts.{next, step_verdict, verdict, day_limit}
-use Rattle.gx_core.specs.Gates.{GateData, left_by}
-use Rattle.gx_core.specs.Steps.{has_its_places}
-use Rattle.gx_core.specs.declared.outcome.Outcome.{Outcome}
-use Rattle.gx_core.specs.declared.outcome.StepFault.{StepFault}
-use Rattle.gx_core.specs.Asking.{stepped}
+use Rattle.gx_answers.specs.Gates.{GateData, left_by}
+use Rattle.gx_answers.specs.Steps.{has_its_places}
+use Rattle.gx_answers.specs.declared.outcome.Outcome.{Outcome}
+use Rattle.gx_answers.specs.declared.outcome.StepFault.{StepFault}
+use Rattle.gx_answers.specs.Asking.{stepped}
 use Rattle.gx_script.specs.Printing.{outcome_line, refused_line}
 use Rattle.gx_devices.proofs.Stopping.{first_same}
 use Rattle.gx_scripting.specs.Leaving.{IsHalf}

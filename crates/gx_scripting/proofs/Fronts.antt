@@ -7,7 +7,7 @@ use Rattle.std.proofs.lemmas.List.Sums.{fold-append}
 use Rattle.gx_devices.specs.Devices.{IsFront}
 use Rattle.gx_devices.specs.Stopping.{AreFirst}
 use Rattle.gx_devices.proofs.Stopping.{Leads, first_same, leads_same, leads_then, trail_leads}
-use Rattle.gx_core.specs.Gates.{GateData}
+use Rattle.gx_answers.specs.Gates.{GateData}
 use Rattle.gx_scripting.specs.declared.script_fault.ScriptFault.{ScriptFault}
 use Rattle.gx_scripting.specs.declared.script_fault.ScriptFault.TheVariants as faults
 use Rattle.gx_scripting.specs.Scripting.{Printed, line_effect, ScriptRun, unread, with_line, on_line, cut_of, after_lines, script_of}

@@ -10,9 +10,9 @@ use Rattle.gx_history.specs.Verdicts.{next, verdict}
 use Rattle.gx_effects.proofs.Settling.{settled_adds}
 use Rattle.gx_devices.specs.Stopping.{AreFirst}
 use Rattle.gx_devices.proofs.Stopping.{first_same, first_then}
-use Rattle.gx_core.specs.Gates.{GateData}
-use Rattle.gx_core.specs.Asking.{asked_by, stepped}
-use Rattle.gx_core.specs.Matches.{next_match}
+use Rattle.gx_answers.specs.Gates.{GateData}
+use Rattle.gx_answers.specs.Asking.{asked_by, stepped}
+use Rattle.gx_answers.specs.Matches.{next_match}
 use Rattle.gx_script.specs.declared.line.ScriptLine.{ScriptLine}
 use Rattle.gx_script.specs.declared.line.ScriptLine.TheVariants.{Skipped, Step, Match, Settle, Stream}
 use Rattle.gx_script.specs.Printing.{outcome_line, refused_line}

@@ -3,7 +3,7 @@ use Rattle.std.proofs.Common.{◌≡◌, ℕ, ◌+◌, ◌-◌, ◌<◌, ◌≤�
 use Rattle.std.specs.Prelude.{fold, slice_index}
 use Rattle.std.proofs.lemmas.Bool.{and_parts, ltb-true, lt-ltb}
 use Rattle.std.proofs.lemmas.List.Sums.{fold-append}
-use Rattle.gx_core.specs.Gates.{GateData}
+use Rattle.gx_answers.specs.Gates.{GateData}
 use Rattle.gx_script.specs.Words.{◌>>=◌}
 use Rattle.gx_script.specs.ScriptLines.{without_cr, is_too_long, line_within, line_of}
 use Rattle.gx_scripting.specs.Scripting.{Printed, effect_of, line_effect, ScriptRun, unread, with_line, on_line, Cut, on_byte, cut_of, after_lines, script_of, is_settled}

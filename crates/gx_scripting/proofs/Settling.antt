@@ -13,9 +13,9 @@ use Rattle.gx_history.specs.Verdicts.{IsLegal, day_limit, next, step_verdict}
 use Rattle.gx_effects.proofs.Orderly.{legal_is_orderly}
 use Rattle.gx_effects.proofs.Settling.{settled_adds, settled_idle, settled_step}
 use Rattle.gx_market.specs.Meeting.{match_record}
-use Rattle.gx_core.specs.Gates.{GateData}
-use Rattle.gx_core.specs.Matches.{matching_of, next_match}
-use Rattle.gx_core.specs.declared.outcome.StepFault.{StepFault}
+use Rattle.gx_answers.specs.Gates.{GateData}
+use Rattle.gx_answers.specs.Matches.{matching_of, next_match}
+use Rattle.gx_answers.specs.declared.outcome.StepFault.{StepFault}
 use Rattle.gx_script.specs.Printing.{idle_line, outcome_line, refused_line}
 use Rattle.gx_scripting.specs.Leaving.{IsHalf}
 use Rattle.gx_scripting.specs.Scripting.{Printed, is_full, last_line, makes_none, match_by, match_of, most_records, record_lines, settle_of}

@@ -1,7 +1,7 @@
 -- What a line leaves where it could not be done.
 use Rattle.std.specs.Prelude.{◌≡◌, ◌⊎◌, Option, Some, None}
 use Rattle.gx_devices.specs.Stopping.{AreFirst}
-use Rattle.gx_core.specs.Gates.{GateData}
+use Rattle.gx_answers.specs.Gates.{GateData}
 use Rattle.gx_scripting.specs.declared.script_fault.LineFault.{LineFault}
 use Rattle.gx_scripting.specs.declared.script_fault.LineFault.TheVariants as line_faults
 use Rattle.gx_scripting.specs.Scripting.{Printed}

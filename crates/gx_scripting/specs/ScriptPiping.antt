@@ -1,7 +1,7 @@
 -- What `run_script` did to a reader, a writer and a gate.
 use Rattle.std.specs.Prelude.{◌≡◌, ℕ, ◌+◌, ◌<◌, ◌≤◌, true, length, ◌⊎◌, List, [], ◌∷◌, ◌++◌, Option, Some, None, IfSome}
 use Rattle.std.specs.Io.KnownBytes.{Consumes, Appends, IsAtEnd}
-use Rattle.gx_core.specs.Gates.{GateData}
+use Rattle.gx_answers.specs.Gates.{GateData}
 use Rattle.gx_scripting.specs.declared.script_fault.ScriptFault.{ScriptFault}
 use Rattle.gx_scripting.specs.declared.script_fault.ScriptFault.TheVariants as faults
 use Rattle.gx_devices.specs.Devices.{IsUnfailing}

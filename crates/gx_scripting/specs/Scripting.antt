@@ -10,15 +10,15 @@ use Rattle.gx_history.specs.Logins.{blank_session}
 use Rattle.gx_history.specs.People.{user_in}
 use Rattle.gx_history.specs.Streams.{stream}
 use Rattle.gx_history.specs.Verdicts.{verdict, day_limit}
-use Rattle.gx_core.specs.Gates.{GateData}
-use Rattle.gx_core.specs.Told.{login_of}
-use Rattle.gx_core.specs.Matches.{next_match, settled_gate}
-use Rattle.gx_core.specs.Steps.{has_its_places}
+use Rattle.gx_answers.specs.Gates.{GateData}
+use Rattle.gx_answers.specs.Told.{login_of}
+use Rattle.gx_answers.specs.Matches.{next_match, settled_gate}
+use Rattle.gx_answers.specs.Steps.{has_its_places}
 use Rattle.gx_script.specs.declared.line.ScriptStep.{ScriptStep}
 use Rattle.gx_script.specs.declared.line.ScriptStep.TheVariants.{Login, Logout, Enter, Replace, Cancel, Command, Raw}
 use Rattle.gx_script.specs.declared.line.ScriptLine.{ScriptLine}
 use Rattle.gx_script.specs.declared.line.ScriptLine.TheVariants.{Skipped, Step, Match, Settle, Stream}
-use Rattle.gx_core.specs.Asking.{asked_by, stepped}
+use Rattle.gx_answers.specs.Asking.{asked_by, stepped}
 use Rattle.gx_script.specs.Words.{◌>>=◌}
 use Rattle.gx_script.specs.ScriptLines.{line_of, is_too_long}
 use Rattle.gx_script.specs.Printing.{idle_line, outcome_line, refused_line, report_lines}

@@ -1,7 +1,7 @@
 //! Laws of scripts.
 
 ghost use Rattle.std.specs.Prelude.{◌≡◌, ℕ, List, ◌++◌, Option, IfSome, IsTrue};
-ghost use Rattle.gx_core.specs.Gates.{GateData};
+ghost use Rattle.gx_answers.specs.Gates.{GateData};
 ghost use Rattle.gx_devices.specs.Devices.{IsFront};
 ghost use Rattle.gx_devices.specs.Stopping.{AreFirst};
 ghost use Rattle.gx_scripting.specs.declared.script_fault.ScriptFault.{ScriptFault};

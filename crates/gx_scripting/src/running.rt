@@ -1,7 +1,7 @@
 //! What a line of a script does.
 
 ghost use Rattle.std.specs.Prelude.{◌≡◌, ◌+◌, ◌^◌, ◌<◌, ◌⊎◌, ◌++◌, [], length, Some, IsTrue, IsFalse, IfOk, IfErr, OnOk, OnErr};
-ghost use Rattle.gx_core.specs.Matches.{matches_left};
+ghost use Rattle.gx_answers.specs.Matches.{matches_left};
 ghost use Rattle.gx_history.specs.Showing.{has_its_first, is_askable};
 ghost use Rattle.gx_history.specs.Streams.{stream};
 ghost use Rattle.gx_script.specs.Printing.{report_lines};
@@ -12,7 +12,8 @@ ghost use Rattle.gx_scripting.specs.Scripting.{effect_of, line_effect};
 ghost use Rattle.gx_scripting.specs.Leaving.{IsHalf, Leaves};
 
 use crate::script_fault::LineFault;
-use gx_core::{Gate, StepFault, asked, count_of};
+use gx_answers::{StepFault, asked, count_of};
+use gx_core::Gate;
 use gx_history::record::{Asked, Request};
 use gx_script::{
     ScriptLine, ScriptStep, Wanted, Wrong, append, append_idle, append_outcome, append_refused,

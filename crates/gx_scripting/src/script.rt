@@ -2,7 +2,7 @@
 
 ghost use Rattle.std.specs.Prelude.{◌≡◌, ℕ, ◌+◌, ◌-◌, ◌^◌, ◌<◌, ◌≤◌};
 ghost use Rattle.std.specs.Prelude.{List, [], ◌++◌, length, position, Option, Some, None, IsTrue, IfErr, IfNone, IfSome, OnOk, OnErr};
-ghost use Rattle.gx_core.specs.Gates.{GateData};
+ghost use Rattle.gx_answers.specs.Gates.{GateData};
 ghost use Rattle.gx_devices.specs.Devices.{counted_on, IsUnfailing};
 ghost use Rattle.gx_scripting.specs.ScriptPiping.{EndsLine, StopsAtLine, IsSoFar, TakesPiece, StopsInPiece};
 ghost use Rattle.gx_scripting.specs.ScriptPiping.{IsScript, IsCutShort, IsAll, IsBlamedRightly};

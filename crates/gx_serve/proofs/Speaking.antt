@@ -8,12 +8,12 @@ use Rattle.std.proofs.KnownBytes.{Appends-nil, Appends-trans}
 use Rattle.gx_units.specs.declared.names.SessionName.{SessionName}
 use Rattle.gx_units.specs.declared.names.UserName.{UserName}
 use Rattle.gx_history.specs.declared.policy.PolicyData.{PolicyData}
-use Rattle.gx_core.specs.declared.outcome.LoginAnswer.{LoginAnswer}
-use Rattle.gx_core.specs.declared.outcome.LoginAnswer.TheVariants as answers
+use Rattle.gx_answers.specs.declared.outcome.LoginAnswer.{LoginAnswer}
+use Rattle.gx_answers.specs.declared.outcome.LoginAnswer.TheVariants as answers
 use Rattle.gx_devices.specs.Devices.{IsFront}
 use Rattle.gx_session.specs.declared.event.Control.TheVariants as controls
-use Rattle.gx_session.specs.Transcript.{control_bytes, reports_text}
-use Rattle.gx_session.proofs.Turning.{front_behind, front_longer}
+use Rattle.gx_session.specs.Sending.{control_bytes, reports_text}
+use Rattle.gx_devices.proofs.Known.{front_behind, front_longer}
 use Rattle.gx_serve.specs.declared.seat.Due.{Due}
 use Rattle.gx_serve.specs.declared.seat.Due.TheVariants as dues
 use Rattle.gx_serve.specs.declared.seat.Sign.TheVariants as signs

@@ -1,9 +1,9 @@
 -- What becomes of a session that two threads share, and of what it asks to send.
 use Rattle.std.specs.Prelude.{◌≡◌, ℕ, ◌⊎◌, Option, Some, None, IsTrue}
-use Rattle.gx_core.specs.declared.outcome.LoginAnswer.{LoginAnswer}
-use Rattle.gx_core.specs.declared.outcome.StepFault.{StepFault}
+use Rattle.gx_answers.specs.declared.outcome.LoginAnswer.{LoginAnswer}
+use Rattle.gx_answers.specs.declared.outcome.StepFault.{StepFault}
 use Rattle.gx_soup.specs.declared.packet.ClientPacket.{ClientPacket}
-use Rattle.gx_core.specs.declared.outcome.LoginAnswer.TheVariants as answers
+use Rattle.gx_answers.specs.declared.outcome.LoginAnswer.TheVariants as answers
 use Rattle.gx_session.specs.declared.event.Control.{Control}
 use Rattle.gx_session.specs.declared.event.Control.TheVariants as controls
 use Rattle.gx_serve.specs.declared.seat.Sign.{Sign}

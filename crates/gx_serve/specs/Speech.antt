@@ -10,14 +10,14 @@ use Rattle.gx_history.specs.declared.policy.PolicyData.{PolicyData}
 use Rattle.gx_history.specs.declared.record.RecordData.{RecordData}
 use Rattle.gx_history.specs.InForce.{line_of}
 use Rattle.gx_history.specs.Verdicts.{IsLegal}
-use Rattle.gx_core.specs.declared.outcome.LoginAnswer.{LoginAnswer}
-use Rattle.gx_core.specs.declared.outcome.LoginAnswer.TheVariants as answers
-use Rattle.gx_core.specs.declared.pulling.Pulled.{Pulled}
+use Rattle.gx_answers.specs.declared.outcome.LoginAnswer.{LoginAnswer}
+use Rattle.gx_answers.specs.declared.outcome.LoginAnswer.TheVariants as answers
+use Rattle.gx_answers.specs.declared.pulled.Pulled.{Pulled}
 use Rattle.gx_devices.specs.Devices.{IsFront}
 use Rattle.gx_session.specs.declared.event.Control.{Control}
 use Rattle.gx_session.specs.declared.event.Control.TheVariants as controls
-use Rattle.gx_session.specs.Transcript.{control_bytes, reports_text}
-use Rattle.gx_shared.specs.Acts.{gate_at, most_pulled, IsPulled}
+use Rattle.gx_session.specs.Sending.{control_bytes, reports_text}
+use Rattle.gx_door.specs.Acts.{gate_at, most_pulled, IsPulled}
 use Rattle.gx_serve.specs.declared.seat.Due.{Due}
 use Rattle.gx_serve.specs.declared.seat.Due.TheVariants as dues
 use Rattle.gx_serve.specs.declared.seat.Sign.{Sign}

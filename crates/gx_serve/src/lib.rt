@@ -2,7 +2,7 @@
 //!
 //! Each connection has a reader, which takes packets and asks the gate, and a writer, which alone
 //! writes. They share a [`Link`]: the session and the pass, under a lock that nobody holds while he
-//! reads or writes. A matcher makes matching steps. All of them are generic over the [`Door`](gx_shared::Door)
+//! reads or writes. A matcher makes matching steps. All of them are generic over the [`Door`](gx_door::Door)
 //! that they ask, the reader and the writer.
 #![tactic(auto)]
 
@@ -20,5 +20,5 @@ pub use fault::ServeFault;
 pub use link::Link;
 pub use matching::match_on;
 pub use reading::read_on;
-pub use serving::{Served, serve, serve_door};
+pub use serving::serve_door;
 pub use writing::write_on;

@@ -3,10 +3,10 @@
 ghost use Rattle.gx_serve.specs.Speech.{IsDue};
 
 use crate::seat::{Due, Greeting, Seat};
-use gx_core::LoginAnswer;
+use gx_answers::LoginAnswer;
+use gx_door::Door;
 use gx_lobby::{Stop, Watch, now};
 use gx_session::Event;
-use gx_shared::Door;
 use gx_soup::ClientPacket;
 use gx_units::UserName;
 use std::sync::{Condvar, Mutex, Wait};

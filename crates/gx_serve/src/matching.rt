@@ -1,7 +1,7 @@
 //! The matcher.
 
+use gx_door::Door;
 use gx_lobby::{Bell, now};
-use gx_shared::Door;
 use std::sync::Wait;
 use std::time::Clock;
 

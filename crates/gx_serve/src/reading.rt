@@ -1,11 +1,11 @@
 //! The reader of a connection.
 
 use crate::link::Link;
-use gx_core::StepFault;
+use gx_answers::StepFault;
 use gx_devices::Counted;
+use gx_door::Door;
 use gx_lobby::Bell;
 use gx_session::Event;
-use gx_shared::Door;
 use gx_soup::{Feeder, SoupFault};
 use std::alloc::Global;
 use std::io::Read;

@@ -11,11 +11,11 @@ ghost use Rattle.gx_serve.specs.declared.seat.Greeting.TheVariants as greetings;
 ghost use Rattle.gx_serve.specs.Seats.{answer_after, sign_after, WasAnswered, WasTaken, WasTold};
 ghost use Rattle.gx_serve.specs.Speech.{IsDue};
 
-use gx_core::{LoginAnswer, Pulled, StepFault};
+use gx_answers::{LoginAnswer, Pulled, StepFault};
+use gx_door::{Door, PullFault};
 use gx_history::record::Request;
 use gx_lobby::Watch;
 use gx_session::{Control, Event, Next, Phase, Session};
-use gx_shared::{Door, PullFault};
 use gx_soup::{ClientPacket, LoginRequest};
 use gx_units::{Moment, UserName};
 use std::sync::Wait;

@@ -4,17 +4,17 @@ ghost use Rattle.std.specs.Prelude.{◌≡◌, ◌-◌, ◌^◌, ◌<◌, IfErr,
 ghost use Rattle.std.specs.Io.KnownBytes.{Appends};
 ghost use Rattle.gx_devices.specs.Devices.{IsFront};
 ghost use Rattle.gx_session.specs.Faults.{IsBlamed};
-ghost use Rattle.gx_session.specs.Transcript.{control_bytes};
+ghost use Rattle.gx_session.specs.Sending.{control_bytes};
 ghost use Rattle.gx_serve.specs.Speech.{answer_control, due_text, is_last, next_after, sign_control};
 ghost use Rattle.gx_serve.specs.Speech.{greeted_by, IfOn, IsGreeted, WasCut, WasCutOff, WasSaid, WasSpoken};
 
 use crate::link::Link;
 use crate::seat::{Due, Sign};
-use gx_core::{LoginAnswer, StepFault};
+use gx_answers::{LoginAnswer, StepFault};
 use gx_devices::Counted;
+use gx_door::Door;
 use gx_lobby::{Stop, Watch};
 use gx_session::{Control, Event, SendFault, send_control, send_pulled};
-use gx_shared::Door;
 use gx_units::UserName;
 use std::alloc::Global;
 use std::io::Write;

@@ -4,7 +4,7 @@ use Rattle.gx_history.specs.declared.policy.PolicyData.{PolicyData}
 use Rattle.gx_policyfile.specs.declared.fault.FaultKind.{FaultKind}
 use Rattle.gx_policyfile.specs.Policies.{means}
 use Rattle.gx_policyfile.specs.Sample.{sample}
-use Rattle.gx_session.specs.declared.fault.PipeFault.TheVariants as pipe_faults
+use Rattle.gx_pipe.specs.declared.fault.PipeFault.TheVariants as pipe_faults
 use Rattle.gx_server.specs.declared.program_fault.ProgramFault.{ProgramFault}
 use Rattle.gx_server.specs.declared.program_fault.ProgramFault.TheVariants.{Pipe, Policy}
 use Rattle.gx_server.specs.Policies.{policy_line}

@@ -6,9 +6,9 @@ use Rattle.gx_policyfile.specs.declared.fault.FaultKind.{FaultKind}
 use Rattle.gx_policyfile.specs.Field.{is_memory}
 use Rattle.gx_policyfile.specs.Telling.{kind_words}
 use Rattle.gx_script.specs.Printing.{line_end}
-use Rattle.gx_session.specs.Faults.{fault_words}
-use Rattle.gx_session.specs.declared.fault.PipeFault.{PipeFault}
-use Rattle.gx_session.specs.declared.fault.PipeFault.TheVariants as pipe_faults
+use Rattle.gx_pipe.specs.Faults.{fault_words}
+use Rattle.gx_pipe.specs.declared.fault.PipeFault.{PipeFault}
+use Rattle.gx_pipe.specs.declared.fault.PipeFault.TheVariants as pipe_faults
 use Rattle.gx_scripting.specs.declared.script_fault.ScriptFault.{ScriptFault}
 use Rattle.gx_scripting.specs.declared.script_fault.ScriptFault.TheVariants as script_faults
 use Rattle.gx_server.specs.declared.program_fault.Device.{Device}

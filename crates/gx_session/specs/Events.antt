@@ -1,8 +1,8 @@
 -- What follows a row of happens.
 use Rattle.std.specs.Prelude.{ℕ, Bool, true, false, ◌&&◌, is_none, List, [], ◌∷◌, IsTrue}
 use Rattle.gx_history.specs.Showing.{has_its_first}
-use Rattle.gx_core.specs.declared.outcome.LoginAnswer.{LoginAnswer}
-use Rattle.gx_core.specs.declared.outcome.LoginAnswer.TheVariants as answers
+use Rattle.gx_answers.specs.declared.outcome.LoginAnswer.{LoginAnswer}
+use Rattle.gx_answers.specs.declared.outcome.LoginAnswer.TheVariants as answers
 use Rattle.gx_session.specs.Happenings.{Happening}
 use Rattle.gx_session.specs.Happenings as happens
 use Rattle.gx_session.specs.declared.event.Next.{Next}

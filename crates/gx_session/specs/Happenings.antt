@@ -1,8 +1,8 @@
 -- What happens to a session, as its table sees it.
 use Rattle.std.specs.Prelude.{ℕ, Bool}
 use Rattle.gx_soup.specs.declared.packet.ClientPacket.{ClientPacket}
-use Rattle.gx_core.specs.declared.outcome.LoginAnswer.{LoginAnswer}
-use Rattle.gx_core.specs.declared.outcome.StepFault.{StepFault}
+use Rattle.gx_answers.specs.declared.outcome.LoginAnswer.{LoginAnswer}
+use Rattle.gx_answers.specs.declared.outcome.StepFault.{StepFault}
 use Rattle.gx_session.specs.declared.event.Event.{Event}
 use Rattle.gx_session.specs.declared.event.Event.TheVariants as events
 

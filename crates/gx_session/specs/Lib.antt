@@ -1,9 +1,5 @@
 pub mod Happenings
 pub mod Table
 pub mod Events
+pub mod Sending
 pub mod Faults
-pub mod Steps
-pub mod Transcript
-pub mod Piping
-pub mod Serving
-pub mod Fronts

@@ -3,7 +3,7 @@ use Rattle.std.specs.Prelude.{ℕ, ◌-◌, max, nat_lt, nat_le, Bool, ◌||◌,
 use Rattle.gx_soup.specs.declared.packet.ClientPacket.{ClientPacket}
 use Rattle.gx_soup.specs.declared.packet.ClientPacket.TheVariants as client
 use Rattle.gx_history.specs.Payloads.{request_of}
-use Rattle.gx_core.specs.declared.outcome.LoginAnswer.TheVariants as answers
+use Rattle.gx_answers.specs.declared.outcome.LoginAnswer.TheVariants as answers
 use Rattle.gx_session.specs.declared.event.Control.{Control}
 use Rattle.gx_session.specs.declared.event.Control.TheVariants as controls
 use Rattle.gx_session.specs.declared.event.Next.{Next}

@@ -4,11 +4,11 @@ ghost use Rattle.std.specs.Prelude.{◌≡◌, ◌-◌, ◌^◌, ◌<◌, [], �
 ghost use Rattle.std.specs.Io.KnownBytes.{Appends};
 ghost use Rattle.gx_devices.specs.Devices.{IsFront};
 ghost use Rattle.gx_session.specs.Faults.{IsBlamed};
-ghost use Rattle.gx_session.specs.Transcript.{control_bytes, report_packet, reports_text};
+ghost use Rattle.gx_session.specs.Sending.{control_bytes, report_packet, reports_text};
 
 use crate::event::Control;
 use crate::fault::SendFault;
-use gx_core::Pulled;
+use gx_answers::Pulled;
 use gx_devices::{Counted, write_whole};
 use gx_history::report::Report;
 use gx_ouch::MESSAGE_ROOM;

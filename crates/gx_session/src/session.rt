@@ -9,7 +9,7 @@ ghost use Rattle.gx_session.specs.Happenings.{happening};
 ghost use Rattle.gx_session.specs.Events.{CanAsk};
 
 use crate::event::{Control, Event, Next, Reply};
-use gx_core::LoginAnswer;
+use gx_answers::LoginAnswer;
 use gx_history::record::Request;
 use gx_soup::ClientPacket;
 use std::marker::Model;

@@ -4,8 +4,8 @@ use Rattle.std.specs.Prelude.{option_map}
 use Rattle.std.proofs.lemmas.Option.{none-some}
 use Rattle.gx_history.specs.Matching.{matching}
 use Rattle.gx_history.specs.Verdicts.{next, step_verdict}
-use Rattle.gx_core.specs.Gates.{GateData}
-use Rattle.gx_core.specs.Matches.{matching_of, next_match}
+use Rattle.gx_answers.specs.Gates.{GateData}
+use Rattle.gx_answers.specs.Matches.{matching_of, next_match}
 
 none_mapped : {X Y : Type 0} (f : X → Y) (o : Option X) → option_map f o ≡ None → o ≡ None
 none_mapped f None e = refl

@@ -27,11 +27,11 @@ use Rattle.gx_history_laws.proofs.Logouts.{logouts_are_granted}
 use Rattle.gx_history_laws.proofs.Pushing.{all_next}
 use Rattle.gx_effects.proofs.Lines.{logout_takes_effect}
 use Rattle.gx_places.specs.Places.{has_kept_places}
-use Rattle.gx_core.specs.declared.outcome.Outcome.{Outcome}
-use Rattle.gx_core.specs.declared.outcome.StepFault.{StepFault}
-use Rattle.gx_core.specs.Gates.{GateData, left_by}
-use Rattle.gx_core.specs.Steps.{has_its_places, next_of, verdict_of, with_record}
-use Rattle.gx_shared.specs.Acts.{asked_on}
+use Rattle.gx_answers.specs.declared.outcome.Outcome.{Outcome}
+use Rattle.gx_answers.specs.declared.outcome.StepFault.{StepFault}
+use Rattle.gx_answers.specs.Gates.{GateData, left_by}
+use Rattle.gx_answers.specs.Steps.{has_its_places, next_of, verdict_of, with_record}
+use Rattle.gx_door.specs.Acts.{asked_on}
 use Rattle.gx_shared.specs.Logouts.{AddsLogouts, IsGrantedLogout, IsOff}
 
 -- No rule forbids the Logout of a user who is on his line.

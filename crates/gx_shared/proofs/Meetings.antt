@@ -5,17 +5,17 @@ use Rattle.gx_history.specs.declared.policy.PolicyData.{PolicyData}
 use Rattle.gx_history.specs.declared.record.Asked.{Asked}
 use Rattle.gx_history.specs.declared.record.RecordData.{RecordData}
 use Rattle.gx_history.specs.Verdicts.{IsLegal}
-use Rattle.gx_core.specs.declared.outcome.Outcome.{Outcome}
-use Rattle.gx_core.specs.declared.outcome.StepFault.{StepFault}
-use Rattle.gx_core.specs.Gates.{GateData, left_by, matched_by}
-use Rattle.gx_core.specs.Matches.{with_match}
-use Rattle.gx_core.specs.Steps.{with_record}
+use Rattle.gx_answers.specs.declared.outcome.Outcome.{Outcome}
+use Rattle.gx_answers.specs.declared.outcome.StepFault.{StepFault}
+use Rattle.gx_answers.specs.Gates.{GateData, left_by, matched_by}
+use Rattle.gx_answers.specs.Matches.{with_match}
+use Rattle.gx_answers.specs.Steps.{with_record}
 use Rattle.gx_pass.specs.declared.view.Holds.{Holds}
 use Rattle.gx_pass.specs.Rules.{IsMet}
 use Rattle.gx_pass.specs.Views.{holds, mine}
 use Rattle.gx_pass.proofs.Fronts.{prefix_trans, prefix_length}
 use Rattle.gx_pass.proofs.Lines.{of_line_other, of_line_own}
-use Rattle.gx_shared.specs.Acts.{AddsOwn, IsLater}
+use Rattle.gx_door.specs.Acts.{AddsOwn, IsLater}
 
 -- the pass holds all records of the gate
 abbrev HoldsAll : (h is : Holds) → List RecordData → Type 0

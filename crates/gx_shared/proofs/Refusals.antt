@@ -2,11 +2,11 @@
 use Rattle.std.proofs.Common.{◌≡◌, Bool, true, false, Result, Ok, Err, IfErr, OnErr, is_ok, refl, ap, subst}
 use Rattle.gx_history.specs.declared.policy.PolicyData.{PolicyData}
 use Rattle.gx_history.specs.declared.record.Asked.{Asked}
-use Rattle.gx_core.specs.declared.outcome.StepFault.{StepFault}
-use Rattle.gx_core.specs.declared.outcome.StepFault.TheVariants as faults
-use Rattle.gx_core.specs.Gates.{GateData}
-use Rattle.gx_core.specs.Steps.{IsFull, has_its_places}
-use Rattle.gx_shared.specs.Acts.{IsToldFull, MayBeRefused, gate_at}
+use Rattle.gx_answers.specs.declared.outcome.StepFault.{StepFault}
+use Rattle.gx_answers.specs.declared.outcome.StepFault.TheVariants as faults
+use Rattle.gx_answers.specs.Gates.{GateData}
+use Rattle.gx_answers.specs.Steps.{IsFull, has_its_places}
+use Rattle.gx_door.specs.Acts.{IsToldFull, MayBeRefused, gate_at}
 
 -- it is no granted Kill or Logout
 pub is_no_granted_end : {T : Type 0} (gate : GateData) (a : Asked) (r : Result T StepFault) → (has_its_places gate a ≡ true → is_ok r ≡ true) → OnErr r (MayBeRefused gate a)

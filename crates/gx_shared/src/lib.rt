@@ -5,14 +5,10 @@
 #![tactic(auto)]
 
 mod desk;
-mod door;
-mod fault;
 mod leaving;
 mod resuming;
 mod shared;
 mod steps;
 
-pub use door::Door;
-pub use fault::PullFault;
 pub use leaving::log_out_all;
 pub use shared::SharedGate;

@@ -1,5 +1,5 @@
 use Rattle.std.proofs.Common.{◌≡◌, ◌≤◌, ◌-◌, ◌++◌, length, drop}
-use Rattle.gx_audit.specs.Auditing.{whole_audit, AreShown}
+use Rattle.gx_audit_bytes.specs.Audits.{whole_audit, AreShown}
 use Rattle.gx_audit.proofs.checking.follow_records.Given as goal
 
 abbrev pub invariant-loop-at : goal.invariant-loop-at

@@ -1,7 +1,7 @@
 use Rattle.std.proofs.Common.{◌≡◌, ◌≤◌, ◌-◌, take}
 use Rattle.std.specs.Io.KnownBytes.{Appends}
 use Rattle.gx_audit_bytes.specs.declared.version.AuditVersion.TheVariants as versions
-use Rattle.gx_audit.specs.Auditing.{all_bytes}
+use Rattle.gx_audit_bytes.specs.Audits.{all_bytes}
 use Rattle.gx_auditing.proofs.keeping.write_records.Given as goal
 
 abbrev pub invariant-loop-done : goal.invariant-loop-done

@@ -1,4 +1,4 @@
-use Rattle.gx_core.specs.Matches.{matches_left}
+use Rattle.gx_answers.specs.Matches.{matches_left}
 use Rattle.gx_scripting.proofs.Settling.{Settles}
 use Rattle.gx_scripting.proofs.running.settle_lines.Given as goal
 

@@ -1,5 +1,5 @@
 use Rattle.std.proofs.Common.{◌≡◌, ℕ, ◌+◌, ◌≤◌, List, ◌++◌, length}
-use Rattle.gx_core.specs.Gates.{GateData}
+use Rattle.gx_answers.specs.Gates.{GateData}
 use Rattle.gx_scripting.specs.ScriptPiping.{IsSoFar, TakesPiece}
 use Rattle.gx_scripting.proofs.script.take_piece.Given as goal
 

@@ -1,6 +1,6 @@
 use Rattle.std.proofs.Common.{◌≡◌, take}
 use Rattle.std.specs.Prelude.{flat_map}
-use Rattle.gx_session.specs.Transcript.{report_packet}
+use Rattle.gx_session.specs.Sending.{report_packet}
 use Rattle.gx_session.proofs.sending.reports_text.Given as goal
 
 abbrev pub invariant-loop-report : goal.invariant-loop-report

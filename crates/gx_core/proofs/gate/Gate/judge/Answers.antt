@@ -5,7 +5,7 @@ use Rattle.gx_history.specs.Showing.{answers}
 use Rattle.gx_history.specs.Verdicts.{facts_now, moment_of, verdict}
 use Rattle.gx_history_laws.proofs.Showable.{verdict_is_shown}
 use Rattle.gx_decide.proofs.Agreeing.{decided_is_the_verdict}
-use Rattle.gx_core.specs.Gates.{GateData}
+use Rattle.gx_answers.specs.Gates.{GateData}
 use Rattle.gx_core.proofs.gate.Gate.judge.Goals as goal
 
 pub returns-clause-verdict : goal.returns-clause-verdict

@@ -7,9 +7,10 @@ use Rattle.gx_history.specs.Matched.{AreUncrossed}
 use Rattle.gx_history.specs.Settling.{most_matches}
 use Rattle.gx_effects.proofs.Orderly.{legal_is_orderly}
 use Rattle.gx_effects.proofs.Settling.{match_leaves_fewer}
-use Rattle.gx_core.specs.Gates.{GateData, matched_by}
+use Rattle.gx_answers.specs.Gates.{GateData, matched_by}
 use Rattle.gx_core.specs.Kept.{IsWhole}
-use Rattle.gx_core.specs.Matches.{HasMatched, MatchEffect, first_of, matches_left, matching_of, next_match, settled_gate}
+use Rattle.gx_answers.specs.Matches.{HasMatched, MatchEffect, matches_left, matching_of, next_match, settled_gate}
+use Rattle.gx_core.specs.Known.{first_of}
 use Rattle.gx_core.proofs.Keeping.{AreCarried, as_before, keep_still, keep_within, takes_match, told_then}
 use Rattle.gx_core.proofs.Matched.{first_is_known, match_effect_of, never_crossed_now, nothing_is_met, nothing_is_next, settles_on}
 use Rattle.gx_core.proofs.gate.Gate.match_one.Goals as goal

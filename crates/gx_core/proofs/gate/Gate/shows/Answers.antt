@@ -4,7 +4,7 @@ use Rattle.std.specs.Prelude.{Option}
 use Rattle.gx_units.specs.declared.names.UserName.{UserName}
 use Rattle.gx_history.specs.Asking.{sees_now}
 use Rattle.gx_people.specs.Entitled.{sees}
-use Rattle.gx_core.specs.Gates.{GateData}
+use Rattle.gx_answers.specs.Gates.{GateData}
 use Rattle.gx_core.proofs.Commanding.{sights_are_known}
 use Rattle.gx_core.proofs.gate.Gate.shows.Goals as goal
 

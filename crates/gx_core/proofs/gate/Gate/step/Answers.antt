@@ -8,9 +8,10 @@ use Rattle.gx_history_laws.proofs.Granting.{denied_names_first, granted_exactly}
 use Rattle.gx_effects.proofs.Lifting.{kill_ends_by_lift}
 use Rattle.std.specs.Prelude.{is_ok}
 use Rattle.gx_places.specs.Places.{has_kept_places}
-use Rattle.gx_core.specs.Gates.{GateData, left_by}
+use Rattle.gx_answers.specs.Gates.{GateData, left_by}
 use Rattle.gx_core.specs.Kept.{IsWhole}
-use Rattle.gx_core.specs.Steps.{HasEffect, IsJudged, VerdictEffect, next_of}
+use Rattle.gx_answers.specs.Steps.{IsJudged, next_of}
+use Rattle.gx_core.specs.Effects.{HasEffect, VerdictEffect}
 use Rattle.gx_core.proofs.Effecting.{effect_of}
 use Rattle.gx_core.proofs.Keeping.{AreCarried, as_before, asked_fits, asked_has_place, keep_asked, keep_still, takes_asked, told_then}
 use Rattle.gx_core.proofs.gate.Gate.step.Goals as goal

@@ -3,10 +3,10 @@ use Rattle.gx_history.specs.declared.policy.PolicyData.{PolicyData}
 use Rattle.gx_history.specs.declared.record.Asked.{Asked}
 use Rattle.gx_history.specs.declared.record.RecordData.{RecordData}
 use Rattle.gx_history.specs.Verdicts.{IsLegal}
-use Rattle.gx_core.specs.Gates.{left_by}
+use Rattle.gx_answers.specs.Gates.{left_by}
 use Rattle.gx_pass.specs.Rules.{IsMet}
 use Rattle.gx_pass.specs.Views.{holds}
-use Rattle.gx_shared.specs.Acts.{asked_on}
+use Rattle.gx_door.specs.Acts.{asked_on}
 use Rattle.gx_shared.proofs.Meetings.{adds_own, goes_later, step_begins}
 use Rattle.gx_shared.proofs.Refusals.{stays_refused}
 use Rattle.gx_shared.proofs.desk.Desk.act.Goals as goal

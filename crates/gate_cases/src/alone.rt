@@ -1,0 +1,97 @@
+//! Runs on gates of their own.
+
+use crate::runs::{End, put_verdicts, run_kind, run_on};
+use gx_cases::RunsExamples;
+use gx_core::Gate;
+use gx_devices::Counted;
+use gx_history::policy::Policy;
+use gx_server::open_gate;
+use gx_trials::{Asks, Ended, Hears, Kind, LARGE, Limits, RunsAlone, Turn, put_waited};
+use gx_units::OutOfMemory;
+use std::alloc::Global;
+use std::cell::Cell;
+
+/// Puts what the run of a connection left: its records, how it ended, and whether it wrote no front of the whole answer.
+fn put_left(
+    alloc: Global,
+    out: &mut String,
+    gate: &Gate,
+    ended: &Ended<End>,
+    whole: &[u8],
+) -> Result<(), OutOfMemory> {
+    put_verdicts(alloc, out, gate, 1)?;
+    ended.put_front(out, whole)
+}
+
+/// Runs inputs, each on a gate of its own under this policy.
+#[derive(Clone, Copy)]
+pub(crate) struct Alone<'a> {
+    pub(crate) alloc: Global,
+    pub(crate) policy: &'a Policy,
+}
+
+impl RunsAlone for Alone<'_> {
+    fn written(&self, kind: Kind, limits: Limits, input: &[u8]) -> Result<Vec<u8>, OutOfMemory> {
+        let mut gate = Gate::open(self.alloc, self.policy)?;
+        let written = run_on(kind, self.alloc, &mut gate, limits, input).written;
+        gate.close();
+        Ok(written)
+    }
+
+    fn put_left(
+        &self,
+        out: &mut String,
+        limits: Limits,
+        input: &[u8],
+        whole: &[u8],
+    ) -> Result<(usize, bool), OutOfMemory> {
+        let mut gate = Gate::open(self.alloc, self.policy)?;
+        let ended = run_on(Kind::Pipe, self.alloc, &mut gate, limits, input);
+        let put = put_left(self.alloc, out, &gate, &ended, whole);
+        gate.close();
+        put.and(Ok((ended.written.len(), ended.is_done)))
+    }
+
+    fn put_waited(
+        &self,
+        out: &mut String,
+        kind: Kind,
+        limits: Limits,
+        input: &[u8],
+        turns: &[Turn],
+    ) -> Result<(), OutOfMemory> {
+        let mut gate = Gate::open(self.alloc, self.policy)?;
+        let passed_on = Cell::new(0);
+        let mut reader = Counted::new(Asks::new(input, turns, limits.piece, &passed_on));
+        let mut writer = Counted::new(Hears::new(limits.sip, &passed_on));
+        let end = run_kind(kind, self.alloc, &mut gate, &mut reader, &mut writer);
+        gate.close();
+        put_waited(out, &end, turns.len())
+    }
+}
+
+/// Runs examples, each on a gate of its own.
+#[derive(Clone, Copy)]
+pub(crate) struct Examples {
+    pub(crate) alloc: Global,
+}
+
+impl RunsExamples for Examples {
+    fn told_under(
+        &self,
+        file: Option<&[u8]>,
+        kind: Kind,
+        input: &[u8],
+        stored: &[u8],
+    ) -> &'static str {
+        match open_gate(self.alloc, file) {
+            Ok(gate) => {
+                let mut gate = gate;
+                let ended = run_on(kind, self.alloc, &mut gate, LARGE, input);
+                gate.close();
+                ended.told_beside(stored)
+            }
+            Err(_) => "not run",
+        }
+    }
+}

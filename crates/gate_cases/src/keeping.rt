@@ -1,0 +1,149 @@
+//! Plays at a door whose records are kept, on devices in memory that take little or fail.
+
+ghost use Rattle.std.specs.Prelude.{◌≡◌, []};
+
+use crate::conversations::put_texts;
+use gx_asking::{ALICE, BOB, Ended, put, three_passes};
+use gx_audit::audit_of;
+use gx_audit_bytes::AuditVersion;
+use gx_core::Gate;
+use gx_history::policy::Policy;
+use gx_host::{Kept, Resumed, close_kept, resume};
+use gx_journal::Journaled;
+use gx_pass::{Blank, GateName, Pass};
+use gx_shared::SharedGate;
+use gx_stage::{Paper, Play, Stage, Texts, attend_both, has_first_reports, longer_file};
+use gx_units::{OutOfMemory, UserName};
+use std::alloc::Global;
+use std::marker::Brand;
+use std::sync::Wait;
+use std::thread::Threads;
+use std::time::Clock;
+
+/// Puts at the end whether the journal is the audit of the closed gate.
+pub(crate) fn put_whole(
+    alloc: Global,
+    gate: &Gate,
+    file: &[u8],
+    out: &mut String,
+) -> Result<(), Ended> {
+    let audit = audit_of(alloc, AuditVersion::Two, gate)?;
+    if audit.as_slice() == file {
+        put(out, "the journal is the audit\n")
+    } else {
+        put(out, "the journal is not the audit\n")
+    }
+}
+
+/// Whether what a user was sent are the first of the reports that the journal's day has for him.
+fn is_kept(gate: &Gate, user: UserName, text: &[u8]) -> Result<bool, OutOfMemory> {
+    let owed = gate.reports(user, 1, u64::MAX)?;
+    Ok(has_first_reports(text, owed.reports.as_slice()))
+}
+
+/// Whether all that both were sent is in the journal's day.
+fn are_kept(gate: &Gate, texts: &Texts) -> Result<bool, OutOfMemory> {
+    let (alice, bob) = texts;
+    Ok(is_kept(gate, ALICE.user, alice.as_slice())? && is_kept(gate, BOB.user, bob.as_slice())?)
+}
+
+/// Puts at the end whether both were told only of what a journal holds that failed.
+fn put_told(
+    alloc: Global,
+    policy: &Policy,
+    file: &[u8],
+    texts: &Texts,
+    out: &mut String,
+) -> Result<(), Ended> {
+    let Ok(Resumed { gate, kept: _ }) = resume(alloc, policy, file) else {
+        return put(out, "the journal is not legal\n");
+    };
+    let kept = are_kept(&gate, texts);
+    gate.close();
+    if kept? {
+        put(out, "all that both were told is in the journal\n")
+    } else {
+        put(out, "something was told that is not in the journal\n")
+    }
+}
+
+/// Puts at the end what was kept of a play, and what was told.
+fn put_kept(
+    alloc: Global,
+    policy: &Policy,
+    gate: &Gate,
+    paper: &Paper,
+    has_failed: bool,
+    texts: &Texts,
+    out: &mut String,
+) -> Result<(), Ended> {
+    let file = longer_file(alloc, policy, &[], paper.taken.as_slice())?;
+    if has_failed {
+        put(out, "the journal failed\n")?;
+        return put_told(alloc, policy, file.as_slice(), texts, out);
+    }
+    put_texts(alloc, policy, gate, texts, out)?;
+    put_whole(alloc, gate, file.as_slice(), out)
+}
+
+/// Plays at a new gate whose records are kept on this device, and tells of it.
+fn play_at<N: GateName + Send + Sync, R: Threads + Wait + Clock + Sync>(
+    rt: &R,
+    alloc: Global,
+    policy: &Policy,
+    shared: SharedGate<N>,
+    pass: Pass<N>,
+    stage: &Stage,
+    paper: Paper,
+    out: &mut String,
+) -> Result<(), Ended>
+    requires { pass.front ≡ [] }
+{
+    let passes = match three_passes(rt, &shared) {
+        Ok(passes) => passes,
+        Err(fault) => {
+            shared.let_go();
+            return Err(Ended::Pass(fault));
+        }
+    };
+    let door: Journaled<'_, SharedGate<N>, Paper, Brand> = Journaled::new(
+        alloc, &shared, pass, 0, paper,
+    );
+    let played = attend_both(rt, alloc, &door, stage, passes);
+    let journal = door.into_journal();
+    let Kept {
+        gate,
+        ended: _,
+        fault,
+        device,
+    } = close_kept(shared, journal, Ok(()));
+    let told = match played {
+        Some((_pass, texts)) => {
+            put_kept(alloc, policy, &gate, &device, fault.is_some(), &texts, out)
+        }
+        None => Err(Ended::OutOfMemory),
+    };
+    gate.close();
+    told
+}
+
+/// Runs a play on a gate of its own whose records are kept on this device, and tells of it.
+pub(crate) fn run_kept<N: GateName + Send + Sync, R: Threads + Wait + Clock + Sync>(
+    rt: &R,
+    alloc: Global,
+    policy: &Policy,
+    blank: Blank,
+    play: Play,
+    paper: Paper,
+    out: &mut String,
+) -> Result<(), Ended>
+    requires policy { policy.now ≡ N.policy }
+    requires blank { blank ≡ N.table }
+{
+    let stage = Stage::new(alloc, play)?;
+    let gate = Gate::open(alloc, policy)?;
+    match SharedGate::<N>::over(gate, blank) {
+        Ok((shared, pass)) => play_at(rt, alloc, policy, shared, pass, &stage, paper, out),
+        Err(fault) => Err(Ended::Pass(fault)),
+    }
+}

@@ -1,0 +1,52 @@
+-- What a matching step answers for: its verdict, and what it changes.
+use Rattle.std.specs.Prelude.{◌≡◌, ℕ, List, [], ◌∷◌, ◌++◌, Option, Some, None}
+use Rattle.gx_history.specs.declared.policy.PolicyData.{PolicyData}
+use Rattle.gx_history.specs.declared.record.RecordData.{RecordData}
+use Rattle.gx_history.specs.declared.record.Step.TheVariants as steps
+use Rattle.gx_history.specs.declared.record.Verdict.{Verdict}
+use Rattle.gx_history.specs.declared.record.Verdict.TheVariants as verdicts
+use Rattle.gx_history.specs.Matched.{ExpiresOrder, FillsOrders, RestsOrder}
+use Rattle.gx_history.specs.Matching.{matching}
+use Rattle.gx_history.specs.Settling.{AddsMatches, most_matches, settled}
+use Rattle.gx_history.specs.Verdicts.{next}
+use Rattle.gx_answers.specs.declared.outcome.Outcome.{Outcome}
+use Rattle.gx_answers.specs.Gates.{GateData, matched_by}
+
+-- the record that a matching step leaves, unless no order waits
+abbrev pub next_match : GateData → ℕ → Option RecordData
+next_match gate handed = next gate.policy gate.records (steps.Matching handed)
+
+-- what is matched next, if an order waits
+abbrev pub matching_of : GateData → Option Verdict
+matching_of gate = matching gate.policy gate.records
+
+-- the gate with the record of a matching step last, if one was made
+abbrev pub with_match : GateData → ℕ → Option Outcome → GateData
+with_match gate handed None = gate
+with_match gate handed (Some o) = record { policy = gate.policy; records = gate.records ++ matched_by handed o ∷ [] }
+
+-- matching steps at this moment until no order waits
+abbrev pub settled_gate : GateData → ℕ → GateData
+settled_gate gate moment = record { policy = gate.policy; records = settled gate.policy gate.records moment }
+
+-- some of the matching steps at this moment were made, and those that are left come to the same
+pub record IsSettling (before : GateData) (moment : ℕ) (now : GateData) : Type 0 where
+  pub policy_kept : now.policy ≡ before.policy
+  pub adds : AddsMatches before.records now.records moment
+  pub goes_on : settled_gate now moment ≡ settled_gate before moment
+
+-- the most matching steps that there can be
+abbrev pub matches_left : GateData → ℕ
+matches_left gate = most_matches gate.policy gate.records
+
+-- what a matching step of this verdict does
+abbrev pub MatchEffect : PolicyData → (before after : List RecordData) → RecordData → Verdict → Type 0
+MatchEffect policy before after r verdicts.Granted = ⊥
+MatchEffect policy before after r (verdicts.Denied rule) = ⊥
+MatchEffect policy before after r (verdicts.Filled f) = FillsOrders policy before after r f
+MatchEffect policy before after r (verdicts.Rested number) = RestsOrder policy before after number
+MatchEffect policy before after r (verdicts.Expired number) = ExpiresOrder policy before after r number
+
+-- what the matching step changes, by its verdict, and that it changes nothing else
+abbrev pub HasMatched : GateData → GateData → ℕ → Outcome → Type 0
+HasMatched old new handed o = MatchEffect old.policy old.records new.records (matched_by handed o) o.verdict

@@ -1,0 +1,133 @@
+//! What a case begins with: its title and its policy.
+
+use gx_history::policy::{Count, FileRule, Policy, RuleKind, Scope};
+use gx_policyfile::SAMPLE;
+use gx_trials::{halves, put, text_of};
+use gx_units::{AccountName, OutOfMemory, Symbol};
+use std::alloc::Global;
+use std::fmt::Write;
+
+fn kind_text(kind: &RuleKind) -> &'static str {
+    match kind {
+        RuleKind::Halt(_) => "halt",
+        RuleKind::Restricted(_) => "restricted",
+        RuleKind::NoShort => "no_short",
+        RuleKind::NoIso => "no_iso",
+        RuleKind::OddLot => "odd_lot",
+        RuleKind::OrderShares(_) => "order_shares",
+        RuleKind::OrderValue(_) => "order_value",
+        RuleKind::Collar(_) => "collar",
+        RuleKind::GrossShares(_, _) => "gross_shares",
+        RuleKind::GrossValue(_, _) => "gross_value",
+        RuleKind::NetShares(_, _) => "net_shares",
+        RuleKind::Rate(_, _) => "rate",
+        RuleKind::Repeat(_, _) => "repeat",
+    }
+}
+
+fn count_text(count: Count) -> &'static str {
+    match count {
+        Count::Each => "each",
+        Count::Together => "together",
+    }
+}
+
+/// Puts a name behind a space.
+fn put_name(out: &mut String, name: &[u8]) -> Result<(), OutOfMemory> {
+    put(out, " ")?;
+    put(out, text_of(name))
+}
+
+fn put_stocks(out: &mut String, stocks: &[Symbol]) -> Result<(), OutOfMemory> {
+    for stock in stocks {
+        put_name(out, &stock.bytes)?;
+    }
+    Ok(())
+}
+
+fn put_limit(out: &mut String, limit: u64) -> Result<(), OutOfMemory> {
+    write!(out, " {limit}")?;
+    Ok(())
+}
+
+/// Puts a limit, and what it counts.
+fn put_figure(out: &mut String, limit: u64, count: Count) -> Result<(), OutOfMemory> {
+    let count = count_text(count);
+    write!(out, " {limit} {count}")?;
+    Ok(())
+}
+
+/// Puts a limit, how many orders or how much time it looks at, and what it counts.
+fn put_counted(out: &mut String, limit: u64, over: u64, count: Count) -> Result<(), OutOfMemory> {
+    let count = count_text(count);
+    write!(out, " {limit} {over} {count}")?;
+    Ok(())
+}
+
+/// Puts what a rule of this kind says beside its kind.
+fn put_settings(out: &mut String, kind: &RuleKind) -> Result<(), OutOfMemory> {
+    match kind {
+        RuleKind::Halt(stocks) | RuleKind::Restricted(stocks) => put_stocks(out, stocks.as_slice()),
+        RuleKind::OrderShares(limit) | RuleKind::OrderValue(limit) | RuleKind::Collar(limit) => {
+            put_limit(out, *limit)
+        }
+        RuleKind::GrossShares(limit, count)
+        | RuleKind::GrossValue(limit, count)
+        | RuleKind::NetShares(limit, count) => put_figure(out, *limit, *count),
+        RuleKind::Rate(rate, count) => put_counted(out, rate.limit, rate.window, *count),
+        RuleKind::Repeat(repeat, count) => put_counted(out, repeat.limit, repeat.span, *count),
+        RuleKind::NoShort | RuleKind::NoIso | RuleKind::OddLot => Ok(()),
+    }
+}
+
+fn put_accounts(out: &mut String, accounts: &[AccountName]) -> Result<(), OutOfMemory> {
+    put(out, " for")?;
+    for account in accounts {
+        put_name(out, &account.bytes)?;
+    }
+    Ok(())
+}
+
+/// Puts the accounts that a rule is for, where it is not for all.
+fn put_scope(out: &mut String, scope: &Scope) -> Result<(), OutOfMemory> {
+    match scope {
+        Scope::Only(accounts) => put_accounts(out, accounts.as_slice()),
+        Scope::All => Ok(()),
+    }
+}
+
+/// Puts the name of a rule and its kind.
+fn put_kind(out: &mut String, rule: &FileRule) -> Result<(), OutOfMemory> {
+    put(out, text_of(&rule.name.bytes))?;
+    put(out, ": ")?;
+    put(out, kind_text(&rule.kind))
+}
+
+fn put_rule(out: &mut String, rule: &FileRule) -> Result<(), OutOfMemory> {
+    put_kind(out, rule)?;
+    put_settings(out, &rule.kind)?;
+    put_scope(out, &rule.scope)?;
+    put(out, "\n")
+}
+
+/// Puts the rules of a policy, a line each.
+pub fn put_rules(out: &mut String, policy: &Policy) -> Result<(), OutOfMemory> {
+    for rule in policy.rules() {
+        put_rule(out, rule)?;
+    }
+    Ok(())
+}
+
+/// The sample policy's file with a text replaced, as the lines `old:` and `new:` say.
+pub fn changed_sample(alloc: Global, change: &str) -> Result<String, OutOfMemory> {
+    let (old, new) = halves(change, "\nnew:");
+    let old = old.strip_prefix("old:").unwrap_or(old).trim();
+    Ok(SAMPLE.replacen(alloc, old, new.trim(), 1)?)
+}
+
+/// Puts the title of a case.
+pub fn put_title(out: &mut String, title: &str) -> Result<(), OutOfMemory> {
+    put(out, "== ")?;
+    put(out, title.strip_prefix("== ").unwrap_or(title))?;
+    put(out, "\n")
+}

@@ -1,0 +1,135 @@
+//! Sessions alone: what happens to one, and what it sends and what follows.
+
+use gx_answers::{LoginAnswer, StepFault};
+use gx_session::{Control, Event, Next, Reply, Session};
+use gx_soup::{ClientPacket, LoginRequest, Payload};
+use gx_trials::{bytes_of, halves, put};
+use gx_units::{LoginRejection, OutOfMemory, Password, SessionName, UserName};
+use std::alloc::Global;
+
+const BLANK: SessionName = SessionName {
+    bytes: *b"          ",
+};
+
+/// What a packet carries whose bytes are in hex.
+fn payload_of(alloc: Global, hex: &str) -> Result<Payload, OutOfMemory> {
+    let bytes = bytes_of(alloc, hex)?;
+    Ok(Payload::new(alloc, bytes.as_slice())?)
+}
+
+/// The packet that a word names, where it names one: its bytes are in hex.
+fn packet_of(alloc: Global, word: &str, hex: &str) -> Result<Option<ClientPacket>, OutOfMemory> {
+    match word {
+        "login" => Ok(Some(ClientPacket::Login(LoginRequest {
+            user: UserName { bytes: *b"ALICE " },
+            password: Password {
+                bytes: *b"APPLE     ",
+            },
+            session: BLANK,
+            wanted: 1,
+        }))),
+        "data" => Ok(Some(ClientPacket::Data(payload_of(alloc, hex)?))),
+        "heartbeat" => Ok(Some(ClientPacket::Heartbeat)),
+        "debug" => Ok(Some(ClientPacket::Debug)),
+        "logout" => Ok(Some(ClientPacket::Logout)),
+        _ => Ok(None),
+    }
+}
+
+fn pulled(count: &str, ended: bool) -> Option<Event<'static>> {
+    match count.parse() {
+        Ok(count) => Some(Event::Pulled { count, ended }),
+        Err(_) => None,
+    }
+}
+
+/// The event that a word names, where it names one that is no packet.
+fn event_of(word: &str, count: &str) -> Option<Event<'static>> {
+    match word {
+        "accepted" => Some(Event::Answered(LoginAnswer::Accepted {
+            session: BLANK,
+            next: 1,
+        })),
+        "rejected" => Some(Event::Answered(LoginAnswer::Rejected(LoginRejection::NotAuthorized))),
+        "pulled" => pulled(count, false),
+        "pulled-last" => pulled(count, true),
+        "refused" => Some(Event::Refused(StepFault::OutOfMemory)),
+        "tick" => Some(Event::Tick),
+        "fault" => Some(Event::Fault),
+        "end" => Some(Event::End),
+        _ => None,
+    }
+}
+
+fn sent_text(send: Option<Control>) -> &'static str {
+    match send {
+        None => "",
+        Some(Control::Accepted(_, _)) => "send accepted, ",
+        Some(Control::Rejected(_)) => "send rejected, ",
+        Some(Control::Heartbeat) => "send heartbeat, ",
+        Some(Control::EndOfSession) => "send end of session, ",
+    }
+}
+
+fn next_text(next: Next) -> &'static str {
+    match next {
+        Next::Idle => "idle\n",
+        Next::Login => "login\n",
+        Next::Act(_) => "act\n",
+        Next::Logout => "logout\n",
+        Next::Close => "close\n",
+    }
+}
+
+fn put_reply(out: &mut String, reply: Reply) -> Result<(), OutOfMemory> {
+    put(out, sent_text(reply.send))?;
+    put(out, next_text(reply.next))
+}
+
+/// Tells what follows the event that a word names.
+fn tell_event(
+    alloc: Global,
+    out: &mut String,
+    session: &mut Session,
+    moment: u64,
+    words: &str,
+) -> Result<(), OutOfMemory> {
+    let (word, rest) = halves(words, " ");
+    if let Some(packet) = packet_of(alloc, word, rest)? {
+        return put_reply(out, session.on(Event::Packet(&packet), moment));
+    }
+    match event_of(word, rest) {
+        Some(event) => put_reply(out, session.on(event, moment)),
+        None => put(out, "no such event\n"),
+    }
+}
+
+/// Tells what follows the event of a line, which begins with its moment.
+fn tell_line(
+    alloc: Global,
+    out: &mut String,
+    session: &mut Session,
+    line: &str,
+) -> Result<(), OutOfMemory> {
+    put(out, line)?;
+    put(out, ": ")?;
+    let (moment, words) = halves(line, " ");
+    match moment.parse() {
+        Ok(moment) => tell_event(alloc, out, session, moment, words),
+        Err(_) => put(out, "no moment\n"),
+    }
+}
+
+/// Tells what follows each event of a session that begins at this moment.
+pub fn tell_session(
+    alloc: Global,
+    out: &mut String,
+    begin: &str,
+    lines: &str,
+) -> Result<(), OutOfMemory> {
+    let mut session = Session::new(begin.parse().unwrap_or(0));
+    for line in lines.lines() {
+        tell_line(alloc, out, &mut session, line)?;
+    }
+    Ok(())
+}

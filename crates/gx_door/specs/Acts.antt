@@ -1,0 +1,85 @@
+-- What calls of a shared gate do to the pass, and what they answer.
+use Rattle.std.specs.Prelude.{◌≡◌, ◌↔◌, ℕ, ◌+◌, ◌≤◌, max, min, List, [], ◌∷◌, ◌++◌, length, IsFalse}
+use mathlib.Core.List.{IsPrefix}
+use Rattle.gx_units.specs.declared.names.Password.{Password}
+use Rattle.gx_units.specs.declared.names.SessionName.{SessionName}
+use Rattle.gx_units.specs.declared.names.UserName.{UserName}
+use Rattle.gx_units.specs.Spelling.{folded_password, folded_session, folded_user}
+use Rattle.gx_history.specs.declared.policy.PolicyData.{PolicyData}
+use Rattle.gx_history.specs.declared.record.Asked.{Asked}
+use Rattle.gx_history.specs.declared.record.RecordData.{RecordData}
+use Rattle.gx_history.specs.declared.record.Request.{Request}
+use Rattle.gx_history.specs.Lists.{slice}
+use Rattle.gx_history.specs.Logins.{login_asked}
+use Rattle.gx_history.specs.Verdicts.{IsLegal}
+use Rattle.gx_answers.specs.declared.outcome.LoginAnswer.{LoginAnswer}
+use Rattle.gx_answers.specs.declared.outcome.Outcome.{Outcome}
+use Rattle.gx_answers.specs.declared.outcome.StepFault.{StepFault}
+use Rattle.gx_answers.specs.declared.outcome.StepFault.TheVariants as faults
+use Rattle.gx_answers.specs.declared.pulled.Pulled.{Pulled}
+use Rattle.gx_answers.specs.Gates.{GateData, left_by}
+use Rattle.gx_answers.specs.Logins.{login_answered}
+use Rattle.gx_answers.specs.Steps.{IsFull, has_its_places}
+use Rattle.gx_answers.specs.Told.{ends_before, stream_of}
+use Rattle.gx_pass.specs.declared.view.Holds.{Holds}
+use Rattle.gx_pass.specs.Views.{mine}
+
+-- a gate with these records
+abbrev pub gate_at : PolicyData → List RecordData → GateData
+gate_at policy records = record { policy = policy; records = records }
+
+-- the gate as a pass has met it
+abbrev pub gate_met : PolicyData → Holds → GateData
+gate_met policy h = gate_at policy h.front
+
+-- a request on a line; the user's name is taken in upper case
+abbrev pub asked_on : ℕ → UserName → Request → ℕ → Asked
+asked_on line user request moment = record { line = line; user = folded_user user; request = request; handed = moment }
+
+-- a login on a line, with the right answers on its password and its session name
+abbrev pub login_on : PolicyData → ℕ → UserName → Password → SessionName → ℕ → ℕ → Asked
+login_on policy line user password session wanted moment =
+    asked_on line user (login_asked policy (folded_user user) (folded_password password) (folded_session session) wanted) moment
+
+-- the pass that comes back: what it has met is a legal history, begins with all that had been met, and is as long as had
+-- been told
+pub record IsLater (policy : PolicyData) (was is : Holds) : Type 0 where
+  pub line : is.line ≡ was.line
+  pub legal : IsLegal policy is.front
+  pub front : IsPrefix was.front is.front
+  pub told : was.told ≤ length is.front
+
+-- what was met ends with the record, behind all that had been met
+pub record EndsWith (was is : Holds) (r : RecordData) : Type 0 where
+  pub earlier : List RecordData
+  pub begins : IsPrefix was.front earlier
+  pub front : is.front ≡ earlier ++ r ∷ []
+
+-- what was met ends with the record, and it is one more of the pass's own
+pub record AddsOwn (was is : Holds) (r : RecordData) : Type 0 where
+  pub last : EndsWith was is r
+  pub own : mine is ≡ mine was ++ r ∷ []
+
+-- the login's record was added, and this is what the login is told after it
+pub record LogsIn (policy : PolicyData) (was is : Holds) (a : Asked) (wanted : ℕ) (answer : LoginAnswer) : Type 0 where
+  pub outcome : Outcome
+  pub adds : AddsOwn was is (left_by a outcome)
+  pub told : answer ≡ login_answered policy is.front a.user wanted outcome.verdict
+
+-- a step is refused as one of a full day exactly where the day is full
+abbrev pub IsToldFull : GateData → StepFault → Type 0
+IsToldFull gate fault = fault ≡ faults.DayFull ↔ IsFull gate
+
+-- these records do not make the request a granted Kill or Logout
+abbrev pub MayBeRefused : GateData → Asked → Type 0
+MayBeRefused gate a = IsFalse (has_its_places gate a)
+
+-- the most reports of one pull
+abbrev pub most_pulled : ℕ
+most_pulled = 256
+
+-- the user's reports from this number on, at most so many
+pub record IsPulled (gate : GateData) (user : UserName) (from most : ℕ) (p : Pulled) : Type 0 where
+  pub reports : p.reports ≡ slice (stream_of gate user) from (min most most_pulled)
+  pub next : p.next ≡ max 1 from + length p.reports
+  pub ended : p.ended ≡ ends_before gate user p.next

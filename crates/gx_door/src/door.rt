@@ -1,0 +1,169 @@
+//! What threads ask of a gate that they share.
+
+ghost use Rattle.std.specs.Prelude.{◌≡◌, ◌≢◌, ◌↔◌, ◌≤◌, [], length, IsTrue, IfErr, IfNone, IfOk, IfSome, OnErr, OnOk, Some, None, is_some};
+ghost use Rattle.gx_units.specs.Spelling.{folded_user};
+ghost use Rattle.gx_history.specs.declared.record.Request.TheVariants as requests;
+ghost use Rattle.gx_history.specs.InForce.{line_of};
+ghost use Rattle.gx_history.specs.Lists.{slice};
+ghost use Rattle.gx_history.specs.Showing.{has_its_first};
+ghost use Rattle.gx_history.specs.Verdicts.{IsLegal};
+ghost use Rattle.gx_answers.specs.Gates.{left_by, matched_by};
+ghost use Rattle.gx_answers.specs.Matches.{matching_of};
+ghost use Rattle.gx_pass.specs.Views.{mine, retold};
+ghost use Rattle.gx_door.specs.declared.fault.PullFault.TheVariants as pull_faults;
+ghost use Rattle.gx_door.specs.Acts.{asked_on, gate_met, login_on};
+ghost use Rattle.gx_door.specs.Acts.{AddsOwn, EndsWith, IsLater, IsPulled, IsToldFull, LogsIn, MayBeRefused};
+
+use crate::fault::PullFault;
+use gx_answers::{LoginAnswer, Outcome, Pulled, StepFault};
+use gx_history::record::{Record, Request};
+use gx_pass::PassFault;
+use gx_units::{Moment, OutOfMemory, Password, SessionName, UserName};
+use std::sync::Wait;
+
+/// A gate that threads share. Each call that takes a pass gives it back, with what was met.
+///
+/// A step is refused as one of a full day exactly where the day is full. A granted Kill or Logout is never refused: at
+/// `Err` what was met is what the request was judged on, and it does not make it one.
+pub trait Door {
+    ghost use Rattle.gx_history.specs.declared.policy.PolicyData.{PolicyData};
+    ghost use Rattle.gx_pass.specs.declared.view.Holds.{Holds};
+
+    /// A pass, as its holder sees it.
+    type Ticket: Drop;
+
+    // What the gate judges by.
+    ghost policy: { PolicyData };
+
+    // What the pass has met.
+    ghost held: { Self.Ticket → Holds };
+
+    /// A pass of a new line. It has met all records, of which none is of its line.
+    fn issue<R: Wait>(&self, rt: &R) -> Result<Self::Ticket, PassFault>
+        ensures legal { IfOk result (λ p. IsLegal policy (held p).front) }
+        ensures own { IfOk result (λ p. mine (held p) ≡ []) };
+
+    /// A login on the pass's line, and what it is told.
+    fn login<R: Wait>(
+        &self,
+        rt: &R,
+        pass: Self::Ticket,
+        user: UserName,
+        password: Password,
+        session: SessionName,
+        wanted: u64,
+        moment: Moment,
+    ) -> (Self::Ticket, Result<LoginAnswer, StepFault>)
+        ensures later { IsLater policy (held pass) (held result.0) }
+        ensures done { IfOk result.1 (LogsIn policy (held pass) (held result.0)
+            (login_on policy (held pass).line user password session wanted moment) wanted) }
+        ensures refused { OnErr result.1 (mine (held result.0) ≡ mine (held pass)) }
+        ensures full { IfErr result.1 (IsToldFull (gate_met policy (held result.0))) };
+
+    /// A request on the pass's line.
+    fn act<R: Wait>(
+        &self,
+        rt: &R,
+        pass: Self::Ticket,
+        user: UserName,
+        request: Request,
+        moment: Moment,
+    ) -> (Self::Ticket, Result<Outcome, StepFault>)
+        requires first { IsTrue (has_its_first request) }
+        ensures later { IsLater policy (held pass) (held result.0) }
+        ensures done { IfOk result.1 (λ o. AddsOwn (held pass) (held result.0)
+            (left_by (asked_on (held pass).line user request moment) o)) }
+        ensures refused { OnErr result.1 (mine (held result.0) ≡ mine (held pass)) }
+        ensures never_refused { OnErr result.1 (MayBeRefused (gate_met policy (held result.0))
+            (asked_on (held pass).line user request moment)) }
+        ensures full { IfErr result.1 (IsToldFull (gate_met policy (held result.0))) };
+
+    /// A matching step, whose record is nobody's own. `None` where no order waits.
+    fn match_one<R: Wait>(
+        &self,
+        rt: &R,
+        pass: Self::Ticket,
+        moment: Moment,
+    ) -> (Self::Ticket, Result<Option<Outcome>, StepFault>)
+        ensures later { IsLater policy (held pass) (held result.0) }
+        ensures own { mine (held result.0) ≡ mine (held pass) }
+        ensures found { IfOk result.1 (λ found. IfSome found (λ o.
+            EndsWith (held pass) (held result.0) (matched_by moment o))) }
+        ensures idle { IfOk result.1 (λ found. IfNone found
+            (matching_of (gate_met policy (held result.0)) ≡ None)) }
+        ensures waits { OnErr result.1
+            (IsTrue (is_some (matching_of (gate_met policy (held result.0))))) }
+        ensures full { IfErr result.1 (IsToldFull (gate_met policy (held result.0))) };
+
+    /// The reports of a user who is logged in on the pass's line, from this number on, 0 counting as 1, and at most so
+    /// many, 256 where more are asked for.
+    fn pull<R: Wait>(
+        &self,
+        rt: &R,
+        pass: Self::Ticket,
+        user: UserName,
+        from: u64,
+        most: u64,
+    ) -> (Self::Ticket, Result<Pulled, PullFault>)
+        ensures later { IsLater policy (held pass) (held result.0) }
+        ensures own { mine (held result.0) ≡ mine (held pass) }
+        ensures on { OnOk result.1
+            (line_of (held result.0).front (folded_user user) ≡ Some (held pass).line) }
+        ensures not_on { IfErr result.1 (λ e. e ≡ pull_faults.NotOn
+            ↔ line_of (held result.0).front (folded_user user) ≢ Some (held pass).line) }
+        ensures pulled { IfOk result.1
+            (IsPulled (gate_met policy (held result.0)) (folded_user user) from most) };
+
+    /// A logout on the pass's line.
+    fn logout<R: Wait>(
+        &self,
+        rt: &R,
+        pass: Self::Ticket,
+        user: UserName,
+        moment: Moment,
+    ) -> (Self::Ticket, Result<Outcome, StepFault>)
+        ensures later { IsLater policy (held pass) (held result.0) }
+        ensures done { IfOk result.1 (λ o. AddsOwn (held pass) (held result.0)
+            (left_by (asked_on (held pass).line user requests.Logout moment) o)) }
+        ensures refused { OnErr result.1 (mine (held result.0) ≡ mine (held pass)) }
+        ensures never_refused { OnErr result.1 (MayBeRefused (gate_met policy (held result.0))
+            (asked_on (held pass).line user requests.Logout moment)) }
+        ensures full { IfErr result.1 (IsToldFull (gate_met policy (held result.0))) };
+
+    /// The records from this number on, 0 counting as 1, and at most so many.
+    fn records<R: Wait>(
+        &self,
+        rt: &R,
+        pass: Self::Ticket,
+        from: u64,
+        most: u64,
+    ) -> (Self::Ticket, Result<Vec<Record>, OutOfMemory>)
+        ensures later { IsLater policy (held pass) (held result.0) }
+        ensures own { mine (held result.0) ≡ mine (held pass) }
+        ensures records { IfOk result.1
+            (λ v. v.items ≡ slice (held result.0).front from most) };
+
+    /// Whether what was done so far may be told: a door that keeps its records elsewhere keeps all that there are by
+    /// now, and answers false where it can't, and from then on. Whoever tells of records asks before.
+    fn keep<R: Wait>(&self, rt: &R) -> bool;
+
+    /// Both passes have met the same records.
+    fn meet<R: Wait>(
+        &self,
+        rt: &R,
+        one: Self::Ticket,
+        other: Self::Ticket,
+    ) -> (Self::Ticket, Self::Ticket)
+        ensures first { IsLater policy (held one) (held result.0) }
+        ensures second { IsLater policy (held other) (held result.1) }
+        ensures first_own { mine (held result.0) ≡ mine (held one) }
+        ensures second_own { mine (held result.1) ≡ mine (held other) }
+        ensures front { (held result.0).front ≡ (held result.1).front }
+        ensures apart { (held one).line ≢ (held other).line };
+
+    /// How many records there are: at least as many as were met, and as were told before. It waits for nobody.
+    fn length(&self, pass: &mut Self::Ticket) -> u64
+        ensures told { held pass.new ≡ retold (held pass.old) result }
+        ensures more { (held pass.old).told ≤ result }
+        ensures front { length (held pass.old).front ≤ result };
+}

@@ -1,0 +1,226 @@
+-- Where a connection that was cut short stops.
+use Rattle.std.proofs.Common.{◌≡◌, ℕ, ◌+◌, ◌<◌, ◌≤◌, inl, inr, false, cond, List, [], ◌∷◌, ◌++◌, length, take, drop, get_or, refl, sym, ap, ◌∙◌, subst, append_assoc, append-nil, take-append-drop, arith, Option}
+use Rattle.std.specs.Prelude.{fold}
+use Rattle.std.specs.Io.KnownBytes.{Consumes, Keeps}
+use Rattle.std.proofs.KnownBytes.{Appends-nil, Appends-trans, Consumes-trans, Consumes-kept}
+use Rattle.std.proofs.lemmas.List.{take_more}
+use Rattle.gx_soup.specs.declared.packet.ClientPacket.{ClientPacket}
+use Rattle.gx_soup.specs.declared.packet.SoupFault.{SoupFault}
+use Rattle.gx_soup.specs.Packets.{packets_of}
+use Rattle.gx_soup.specs.Feeding.{Held, HasRead, Gives}
+use Rattle.gx_soup.proofs.PacketLaws.{packets_grow}
+use Rattle.gx_history.specs.declared.record.RecordData.{RecordData}
+use Rattle.gx_answers.specs.Gates.{GateData}
+use Rattle.gx_devices.specs.Stopping.{AreFewer, Mark, MayEnd, Stops, trail}
+use Rattle.gx_devices.proofs.Stopping.{first_behind, first_same, trail_stops}
+use Rattle.gx_pipe.specs.declared.connection.Connection.{Connection}
+use Rattle.gx_pipe.specs.declared.fault.PipeFault.{PipeFault}
+use Rattle.gx_pipe.specs.declared.fault.PipeFault.TheVariants as faults
+use Rattle.gx_session.specs.Events.{is_over}
+use Rattle.gx_pipe.specs.Piping.{Standing, mark, cause_of, Refused, logout_of, IsTaken, IsGivenUp, IsMatchedInPart, row_of, matched_of, pull_marks, packet_marks, StopsIn, Follows, Broken, IsCutShort}
+use Rattle.gx_pipe.specs.Serving.{IsOnLine}
+use Rattle.gx_pipe.specs.Transcript.{Run, run_at, with_text, silent, and_then, ticked, answered, matched, pulled, handled, on_packet, run_of}
+use Rattle.gx_pipe.proofs.Growing.{match_going}
+use Rattle.gx_pipe.proofs.Marks.{packet_ends}
+use Rattle.gx_pipe.proofs.OnLine.{settling_keeps, row_keeps, match_keeps, packets_keep, run_keeps}
+use Rattle.gx_pipe.proofs.Runs.{Stands, fold_from}
+use Rattle.gx_pipe.proofs.Turning.{of_text, pauses, taken_behind}
+
+-- What stopped a packet.
+
+module _ (gate : GateData) (c : Connection) (packet : ClientPacket) (going : is_over c.session.phase ≡ false) where
+  abbrev row : Run
+  row = answered gate (ticked c) packet c.coming
+
+  handled_is : handled gate c packet ≡ with_text row.text (pulled (matched row.gate row.connection c.coming).gate row.connection c.coming)
+  unfolding handled matched
+  handled_is = ap (λ b. cond b (silent gate c) (and_then row (λ g k. and_then (matched g k c.coming) (λ h l. pulled h l c.coming)))) going
+
+  -- the packet was answered, and its matching steps made
+  pub take_done : (met then : GateData) (on : Connection) (output mid left : Option (List ℕ)) → IsTaken row met on output mid → then ≡ (matched met on c.coming).gate
+      → (now : GateData) (state : Connection) → IsTaken (pulled then on c.coming) now state mid left → IsTaken (handled gate c packet) now state output left
+  take_done met then on output mid left t settled now state p =
+      let gate_is : then ≡ (matched row.gate row.connection c.coming).gate = settled ∙ (ap (λ g. (matched g on c.coming).gate) t.gate ∙ ap (λ k. (matched row.gate k c.coming).gate) t.connection) in
+      let pulled_at : pulled then on c.coming ≡ pulled (matched row.gate row.connection c.coming).gate row.connection c.coming =
+      ap (λ g. pulled g on c.coming) gate_is ∙ ap (λ k. pulled (matched row.gate row.connection c.coming).gate k c.coming) t.connection in
+      subst (λ r. IsTaken r now state output left) (sym (handled_is ∙ ap (with_text row.text) (sym pulled_at)))
+      (taken_behind row.text (pulled then on c.coming) now state output mid left t.text p)
+
+  module _ (text : List ℕ) (more : List (Mark RecordData Standing)) where
+    abbrev start : Run
+    start = run_at gate c text
+
+    abbrev answered_there : Run
+    answered_there = row_of start packet
+
+    abbrev met_there : Run
+    met_there = matched_of answered_there c.coming
+
+    marks_are : packet_marks start packet ≡ mark answered_there ∷ mark met_there ∷ pull_marks met_there c.coming
+    marks_are = ap (λ b. cond b [] (mark answered_there ∷ mark met_there ∷ pull_marks met_there c.coming)) going
+
+    stops_there : (fault : PipeFault) (now : GateData) (state : Connection) (output left : Option (List ℕ)) → StopsIn start ((mark answered_there ∷ mark met_there ∷ pull_marks met_there c.coming) ++ more) fault now state output left
+        → StopsIn start (packet_marks start packet ++ more) fault now state output left
+    stops_there fault now state output left h = subst (λ ms. StopsIn start (ms ++ more) fault now state output left) (sym marks_are) h
+
+    pub answer_cut : (fault : PipeFault) (now : GateData) (state : Connection) (output left : Option (List ℕ)) → IsGivenUp gate (ticked c) row fault now state output left
+        → StopsIn start (packet_marks start packet ++ more) fault now state output left
+    answer_cut fault now state output left (inl h) = stops_there fault now state output left (record {
+      stop = mark start;
+      stops = inr (inl (inl (h.1.cause, record { made = first_same gate.records gate.records refl; left = h.0; text = refl; known = refl })));
+      gate = h.1.gate_is;
+      logout = h.1.logout;
+      line = λ k. k;
+      told = [];
+      text = sym (append-nil text);
+      written = h.1.written;
+    })
+    answer_cut fault now state output left (inr u) = stops_there fault now state output left (record {
+      stop = record { records = row.gate.records; text = text ++ u.text.front; known = record { policy = row.gate.policy; connection = row.connection } };
+      stops = inr (inl (inr (record {
+        records = refl;
+        known = refl;
+        begun = record { others = u.text.front; whole = refl };
+        left = first_behind text u.text.front row.text (record { others = u.text.rest; whole = u.text.whole });
+        sending = of_text (cause_of fault) text u.text.front u.sending;
+      })));
+      gate = u.gate;
+      logout = u.logout;
+      line = row_keeps gate c packet c.coming;
+      told = u.text.front;
+      text = refl;
+      written = u.text.written;
+    })
+
+    -- the packet was answered, and a matching step refused
+    pub match_cut : (fault : PipeFault) (then now : GateData) (on : Connection) (output left : Option (List ℕ)) → IsTaken row then on output left → IsMatchedInPart then on c.coming fault now
+        → StopsIn start (packet_marks start packet ++ more) fault now on output left
+    match_cut fault then now on output left t part =
+        let here : IsMatchedInPart row.gate row.connection c.coming fault now = subst (λ k. IsMatchedInPart row.gate k c.coming fault now) t.connection (subst (λ g. IsMatchedInPart g on c.coming fault now) t.gate part) in
+        stops_there fault now on output left (record {
+          stop = record { records = now.records; text = text ++ row.text; known = record { policy = row.gate.policy; connection = row.connection } };
+          stops = inr (inr (inr (inl (inl (
+            here.cause,
+            record {
+              made = record { others = here.matches.adds.more; whole = here.matches.adds.goes_on };
+              left = subst (λ (g : GateData). AreFewer now.records g.records) (sym (match_going row.gate row.connection c.coming here.goes_on)) here.left;
+              text = refl;
+              known = refl;
+            },
+          )))));
+          gate = ap (λ p. record { policy = p; records = now.records }) here.matches.policy_kept;
+          logout = ap logout_of t.connection;
+          line = λ k. subst (λ p. IsOnLine (record { policy = p; records = now.records }) row.connection) here.matches.policy_kept (settling_keeps row.gate now row.connection c.coming here.matches (row_keeps gate c packet c.coming k));
+          told = row.text;
+          text = refl;
+          written = t.text;
+        })
+
+    -- the packet was answered, its matching steps made, and the pull cut short
+    pub pull_cut : (met then : GateData) (on : Connection) (output mid left : Option (List ℕ)) → IsTaken row met on output mid → then ≡ (matched met on c.coming).gate
+        → (fault : PipeFault) (now : GateData) (state : Connection)
+        → ((text : List ℕ) (more : List (Mark RecordData Standing)) → StopsIn (run_at then on text) (pull_marks (run_at then on text) c.coming ++ more) fault now state mid left)
+        → StopsIn start (packet_marks start packet ++ more) fault now state output left
+    unfolding answered matched
+    pull_cut met then on output mid left t settled fault now state cut =
+        let gate_is : then ≡ met_there.gate = settled ∙ (ap (λ g. (matched g on c.coming).gate) t.gate ∙ ap (λ k. (matched row.gate k c.coming).gate) t.connection) in
+        let s : StopsIn met_there (pull_marks met_there c.coming ++ more) fault now state mid left =
+        subst (λ k. StopsIn (run_at met_there.gate k (text ++ row.text)) (pull_marks (run_at met_there.gate k (text ++ row.text)) c.coming ++ more) fault now state mid left) t.connection
+        (subst (λ g. StopsIn (run_at g on (text ++ row.text)) (pull_marks (run_at g on (text ++ row.text)) c.coming ++ more) fault now state mid left) gate_is (cut (text ++ row.text) more)) in
+        stops_there fault now state output left (record {
+          stop = s.stop;
+          stops = inr (inr (inr (inr s.stops)));
+          gate = s.gate;
+          logout = s.logout;
+          line = λ k. s.line (match_keeps row.gate row.connection c.coming (row_keeps gate c packet c.coming k));
+          told = row.text ++ s.told;
+          text = s.text ∙ append_assoc text row.text s.told;
+          written = Appends-trans output mid left row.text s.told t.text s.written;
+        })
+
+-- the packet at this place was cut short
+pub item_cut : (gate : GateData) (connection : Connection) (packets : List ClientPacket) (i : ℕ) (packet : ClientPacket) → i < length packets → packet ≡ get_or packets i packet → (then : GateData) (state : Connection) (output mid left : Option (List ℕ)) (fault : PipeFault) (now : GateData) (after : Connection)
+    → IsTaken (fold on_packet (silent gate connection) (take i packets)) then state output mid
+    → ((text : List ℕ) (more : List (Mark RecordData Standing)) → StopsIn (run_at then state text) (packet_marks (run_at then state text) packet ++ more) fault now after mid left)
+    → (text : List ℕ) → StopsIn (run_at gate connection text) (trail packet_marks on_packet (run_at gate connection text) packets) fault now after output left
+item_cut gate connection packets i packet within item then state output mid left fault now after taken cut text =
+    let others = drop (i + 1) packets in
+    let one : take (i + 1) packets ≡ take i packets ++ packet ∷ [] = take_more packets i packet within ∙ ap (λ p. take i packets ++ p ∷ []) (sym item) in
+    let all : take i packets ++ packet ∷ others ≡ packets =
+    sym (append_assoc (take i packets) (packet ∷ []) others) ∙ (ap (λ x. x ++ others) (sym one) ∙ take-append-drop (i + 1) packets) in
+    let start = run_at gate connection text in
+    let done = fold on_packet (silent gate connection) (take i packets) in
+    let there : run_at then state (text ++ done.text) ≡ fold on_packet start (take i packets) =
+    ap (λ g. run_at g state (text ++ done.text)) taken.gate ∙ ap (λ k. run_at done.gate k (text ++ done.text)) taken.connection ∙ sym (fold_from (take i packets) start) in
+    let s = cut (text ++ done.text) (trail packet_marks on_packet (on_packet (run_at then state (text ++ done.text)) packet) others) in
+    record {
+      stop = s.stop;
+      stops = subst (λ ps. Stops Refused (cause_of fault) (mark start) (trail packet_marks on_packet start ps) s.stop) all
+          (trail_stops mark packet_marks on_packet packet_ends Refused (cause_of fault) (take i packets) (packet ∷ others) start s.stop
+          (subst (λ r. Stops Refused (cause_of fault) (mark r) (trail packet_marks on_packet r (packet ∷ others)) s.stop) there s.stops));
+      gate = s.gate;
+      logout = s.logout;
+      line = λ k. s.line (subst (λ (r : Run). IsOnLine r.gate r.connection) (sym there) (packets_keep (take i packets) start k));
+      told = done.text ++ s.told;
+      text = s.text ∙ append_assoc text done.text s.told;
+      written = Appends-trans output mid left done.text s.told taken.text s.written;
+    }
+
+-- nothing of the piece was fed
+pub feed_cut : (before : GateData) (first : ℕ) (bytes piece : List ℕ) (gate : GateData) (connection : Connection) (feeder : Held) (output : Option (List ℕ)) → Follows before first bytes gate connection feeder
+    → Broken before first bytes piece faults.OutOfMemory gate connection output output
+feed_cut before first bytes piece gate connection feeder output follows =
+    let g = packets_grow bytes piece in
+    let run = run_of before first bytes in
+    record { packets = g.0; split = g.1; cut = pauses run (trail packet_marks on_packet run g.0) gate connection output follows.gate follows.connection }
+
+pub broken_by : (gate : GateData) (connection : Connection) (feeder feeder' : Held) (piece : List ℕ) (given : List ClientPacket) (told : Option SoupFault) (output left : Option (List ℕ)) (fault : PipeFault) (now : GateData) (state : Connection) → ((bytes : List ℕ) → HasRead feeder bytes → Gives given told feeder' bytes piece)
+    → ((text : List ℕ) → StopsIn (run_at gate connection text) (trail packet_marks on_packet (run_at gate connection text) given) fault now state output left)
+    → (before : GateData) (first : ℕ) (bytes : List ℕ) → Follows before first bytes gate connection feeder → Broken before first bytes piece fault now state output left
+broken_by gate connection feeder feeder' piece given told output left fault now state feeds cut before first bytes follows =
+    let run = run_of before first bytes in
+    record {
+      packets = given;
+      split = (feeds bytes follows.reads).packets;
+      cut =
+          subst (λ k. StopsIn (run_at run.gate k run.text) (trail packet_marks on_packet (run_at run.gate k run.text) given) fault now state output left) follows.connection
+          (subst (λ g. StopsIn (run_at g connection run.text) (trail packet_marks on_packet (run_at g connection run.text) given) fault now state output left) follows.gate (cut run.text));
+    }
+
+module _ (input left left' output written : Option (List ℕ)) (before : GateData) (first : ℕ) (gate : GateData) (connection : Connection) (feeder : Held) (s : Stands input left output written before first gate connection feeder) where
+  pub stands_on_line : IsOnLine gate connection
+  stands_on_line =
+      let run = run_of before first s.bytes in
+      subst (λ k. IsOnLine gate k) (sym s.follows.connection) (subst (λ g. IsOnLine g run.connection) (sym s.follows.gate) (run_keeps before first s.bytes))
+
+  -- all that was read is answered
+  pub fault_stands : (fault : PipeFault) (now : GateData) (state : Connection) → MayEnd (cause_of fault) → Keeps left left' → now ≡ gate → state ≡ connection → IsCutShort input left' output written before first fault now state
+  fault_stands fault now state may kept h e =
+      let run = run_of before first s.bytes in
+      record {
+        bytes = s.bytes;
+        piece = [];
+        consumed = subst (Consumes input left') (sym (append-nil s.bytes)) (Consumes-kept input left left' s.bytes s.consumed kept);
+        small = omega arith;
+        behind = written;
+        earlier = s.text;
+        broken = record {
+          packets = [];
+          split = ap (λ b. (packets_of b).packets) (append-nil s.bytes) ∙ sym (append-nil (packets_of s.bytes).packets);
+          cut = record {
+            stop = mark run;
+            stops = (may, refl);
+            gate = h ∙ s.follows.gate;
+            logout = ap logout_of (e ∙ s.follows.connection);
+            line = λ k. k;
+            told = [];
+            text = sym (append-nil run.text);
+            written = Appends-nil written;
+          };
+        };
+      }
+
+  pub fault_broken : (written' : Option (List ℕ)) (piece : List ℕ) (fault : PipeFault) (now : GateData) (state : Connection) → Consumes left left' piece → length piece ≤ 4096 → Broken before first s.bytes piece fault now state written written'
+      → IsCutShort input left' output written' before first fault now state
+  fault_broken written' piece fault now state took small b =
+      record { bytes = s.bytes; piece = piece; consumed = Consumes-trans input left left' s.bytes piece s.consumed took; small = small; behind = written; earlier = s.text; broken = b }

@@ -1,0 +1,105 @@
+-- Records are put behind those that are there.
+use Rattle.std.proofs.Common.{◌≡◌, ℕ, Bool, true, false, cond, [], ◌∷◌, ◌++◌, Option, Some, None, refl, ap}
+use Rattle.std.specs.Option.{option_map_or}
+use Rattle.gx_units.specs.declared.names.UserName.{UserName}
+use Rattle.gx_soup.specs.declared.packet.LoginRequest.{LoginRequest}
+use Rattle.gx_soup.specs.declared.packet.ClientPacket.{ClientPacket}
+use Rattle.gx_history.specs.declared.record.Asked.{Asked}
+use Rattle.gx_history.specs.declared.record.RecordData.{RecordData}
+use Rattle.gx_effects.proofs.Settling.{settled_adds}
+use Rattle.gx_devices.specs.Stopping.{AreFewer, AreFirst}
+use Rattle.gx_devices.proofs.Stopping.{first_same, first_then, fewer_then}
+use Rattle.gx_answers.specs.Gates.{GateData}
+use Rattle.gx_answers.specs.Asking.{stepped}
+use Rattle.gx_answers.specs.Matches.{settled_gate}
+use Rattle.gx_pipe.specs.declared.connection.Connection.{Connection}
+use Rattle.gx_session.specs.declared.event.Next.{Next}
+use Rattle.gx_session.specs.declared.event.Next.TheVariants as nexts
+use Rattle.gx_session.specs.Events.{asks_step, is_over}
+use Rattle.gx_session.specs.Happenings.{Happening}
+use Rattle.gx_session.specs.Happenings as happens
+use Rattle.gx_pipe.specs.Steps.{login_asked_at}
+use Rattle.gx_session.specs.Table.{turn}
+use Rattle.gx_pipe.specs.Transcript.{Run, acted, on_event, logged_in, login_in, with_login, answered, matched, finished}
+use Rattle.gx_pipe.proofs.Serving.{left_of, left_is}
+
+abbrev GoesOn : GateData → GateData → Type 0
+GoesOn before now = AreFirst before.records now.records
+
+here : (gate : GateData) → GoesOn gate gate
+here gate = first_same gate.records gate.records refl
+
+further : (a b c : GateData) → GoesOn a b → GoesOn b c → GoesOn a c
+further a b c h k = first_then a.records b.records c.records h k
+
+step_on : (gate : GateData) (a : Asked) → GoesOn gate (stepped gate a)
+step_on gate a = record { others = left_of gate a ∷ []; whole = ap (λ (found : Option RecordData). option_map_or (λ (r : RecordData). gate.records ++ r ∷ []) found gate.records) (left_is gate a) }
+
+-- and one at least
+step_adds : (gate : GateData) (a : Asked) → AreFewer gate.records (stepped gate a).records
+step_adds gate a = record { next = left_of gate a; others = []; whole = ap (λ (found : Option RecordData). option_map_or (λ (r : RecordData). gate.records ++ r ∷ []) found gate.records) (left_is gate a) }
+
+settle_on : (gate : GateData) (moment : ℕ) → GoesOn gate (settled_gate gate moment)
+settle_on gate moment = let adds = settled_adds gate.policy gate.records moment in record { others = adds.more; whole = adds.goes_on }
+
+act_on : (gate : GateData) (user : UserName) (moment : ℕ) (next : Next) → GoesOn gate (acted gate user moment next)
+act_on gate user moment nexts.Idle = here gate
+act_on gate user moment nexts.Login = here gate
+act_on gate user moment (nexts.Act request) = step_on gate _
+act_on gate user moment nexts.Logout = step_on gate _
+act_on gate user moment nexts.Close = here gate
+
+act_adds : (gate : GateData) (user : UserName) (moment : ℕ) (next : Next) → asks_step next ≡ true → AreFewer gate.records (acted gate user moment next).records
+act_adds gate user moment nexts.Idle h = cc
+act_adds gate user moment nexts.Login h = cc
+act_adds gate user moment (nexts.Act request) h = step_adds gate _
+act_adds gate user moment nexts.Logout h = step_adds gate _
+act_adds gate user moment nexts.Close h = cc
+
+pub event_adds : (gate : GateData) (c : Connection) (e : Happening) (moment : ℕ) → asks_step (turn c.session e moment).reply.next ≡ true → AreFewer gate.records (on_event gate c e moment).gate.records
+unfolding on_event
+event_adds gate c e moment h = act_adds gate c.user moment (turn c.session e moment).reply.next h
+
+pub event_on : (gate : GateData) (c : Connection) (e : Happening) (moment : ℕ) → GoesOn gate (on_event gate c e moment).gate
+unfolding on_event
+event_on gate c e moment = act_on gate c.user moment (turn c.session e moment).reply.next
+
+login_on : (gate : GateData) (c : Connection) (moment : ℕ) (login : Option LoginRequest) → GoesOn gate (with_login gate c moment login).gate
+unfolding logged_in
+login_on gate c moment None = here gate
+login_on gate c moment (Some login) =
+    let then = stepped gate (login_asked_at gate moment login) in
+    further gate then (with_login gate c moment (Some login)).gate (step_on gate (login_asked_at gate moment login)) (event_on then _ _ moment)
+
+pub login_adds : (gate : GateData) (c : Connection) (moment : ℕ) (login : LoginRequest) → AreFewer gate.records (logged_in gate c login moment).gate.records
+unfolding logged_in
+login_adds gate c moment login =
+    let then = stepped gate (login_asked_at gate moment login) in
+    fewer_then gate.records then.records (logged_in gate c login moment).gate.records (step_adds gate (login_asked_at gate moment login)) (event_on then _ _ moment)
+
+-- a login comes behind the packet that asks for it
+pub answer_on : (gate : GateData) (c : Connection) (packet : ClientPacket) (moment : ℕ) → GoesOn (on_event gate c (happens.Packet packet) moment).gate (answered gate c packet moment).gate
+unfolding answered
+answer_on gate c packet moment =
+    let told = on_event gate c (happens.Packet packet) moment in
+    login_on told.gate told.connection moment (login_in packet (turn c.session (happens.Packet packet) moment).reply.next)
+
+pub row_on : (gate : GateData) (c : Connection) (packet : ClientPacket) (moment : ℕ) → GoesOn gate (answered gate c packet moment).gate
+row_on gate c packet moment =
+    further gate (on_event gate c (happens.Packet packet) moment).gate (answered gate c packet moment).gate (event_on gate c (happens.Packet packet) moment) (answer_on gate c packet moment)
+
+pub match_on : (gate : GateData) (c : Connection) (moment : ℕ) → GoesOn gate (matched gate c moment).gate
+unfolding matched
+match_on gate c moment = at (is_over c.session.phase)
+  where
+    at : (b : Bool) → GoesOn gate (cond b gate (settled_gate gate moment))
+    at true = here gate
+    at false = settle_on gate moment
+
+pub finish_on : (run : Run) → GoesOn run.gate (finished run).gate
+unfolding finished
+finish_on run = event_on run.gate run.connection happens.End run.connection.session.heard
+
+pub match_going : (gate : GateData) (c : Connection) (moment : ℕ) → is_over c.session.phase ≡ false → (matched gate c moment).gate ≡ settled_gate gate moment
+unfolding matched
+match_going gate c moment h = ap (λ b. cond b gate (settled_gate gate moment)) h

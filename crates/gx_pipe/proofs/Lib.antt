@@ -1,0 +1,12 @@
+pub mod Endings
+pub mod Stepping
+pub mod Growing
+pub mod Turning
+pub mod Runs
+pub mod Marks
+pub mod Faults
+pub mod Leaving
+pub mod Serving
+pub mod OnLine
+pub mod Fronts
+pub mod NoneWaits

@@ -1,0 +1,174 @@
+-- Once a packet is taken and the session goes on, no order waits.
+use Rattle.std.proofs.Common.{◌≡◌, ℕ, ◌<◌, Bool, true, false, cond, List, [], ◌∷◌, ◌++◌, length, Option, None, Some, refl, ap, ◌∙◌, arith}
+use Rattle.std.specs.Prelude.{fold, IsFalse}
+use Rattle.std.specs.Option.{option_map_or}
+use Rattle.gx_units.specs.declared.names.UserName.{UserName}
+use Rattle.gx_soup.specs.declared.packet.LoginRequest.{LoginRequest}
+use Rattle.gx_soup.specs.declared.packet.ClientPacket.{ClientPacket}
+use Rattle.gx_soup.specs.Packets.{packets_of}
+use Rattle.gx_history.specs.declared.record.Asked.{Asked}
+use Rattle.gx_history.specs.declared.record.RecordData.{RecordData}
+use Rattle.gx_history.specs.declared.record.Step.TheVariants as steps
+use Rattle.gx_history.specs.InForce.{is_closed}
+use Rattle.gx_history.specs.Settling.{most_matches, settled}
+use Rattle.gx_history.specs.Verdicts.{next, IsLegal}
+use Rattle.gx_history_laws.proofs.Runs.{step_left}
+use Rattle.gx_effects.proofs.Orderly.{IsOrderly, legal_is_orderly, orderly_next}
+use Rattle.gx_effects.proofs.Settling.{match_is_orderly, settled_keeps, settled_ends}
+use Rattle.gx_answers.specs.Gates.{GateData}
+use Rattle.gx_answers.specs.Matches.{matching_of, settled_gate}
+use Rattle.gx_pipe.specs.declared.connection.Connection.{Connection}
+use Rattle.gx_session.specs.declared.event.Next.{Next}
+use Rattle.gx_session.specs.declared.event.Next.TheVariants as nexts
+use Rattle.gx_session.specs.declared.session.Phase.{Phase}
+use Rattle.gx_session.specs.declared.session.Phase.TheVariants.{Fresh, Waiting, On, Abandoned, Done}
+use Rattle.gx_session.specs.Events.{is_over}
+use Rattle.gx_session.specs.Happenings.{Happening}
+use Rattle.gx_session.specs.Happenings as happens
+use Rattle.gx_answers.specs.Asking.{stepped}
+use Rattle.gx_pipe.specs.Steps.{login_asked_at}
+use Rattle.gx_session.specs.Table.{turn}
+use Rattle.gx_pipe.specs.Transcript.{Run, opened_at, silent, and_then, acted, on_event, logged_in, login_in, with_login, answered, matched, unsent, is_on, sent, pulled, ticked, handled, on_packet, run_of}
+
+-- Each step keeps the records orderly.
+
+abbrev HasOrder : GateData → Type 0
+HasOrder gate = IsOrderly gate.policy gate.records
+
+stepped_has_order : (gate : GateData) (a : Asked) → HasOrder gate → HasOrder (stepped gate a)
+stepped_has_order gate a orderly = at (next gate.policy gate.records (steps.Asked a)) refl
+  where
+    at : (found : Option RecordData) → next gate.policy gate.records (steps.Asked a) ≡ found
+        → IsOrderly gate.policy (option_map_or (λ (r : RecordData). gate.records ++ r ∷ []) found gate.records)
+    at None e = orderly
+    at (Some r) e =
+        orderly_next gate.policy gate.records r orderly (ap (next gate.policy gate.records) (step_left gate.policy gate.records (steps.Asked a) r e) ∙ e)
+
+settled_has_order : (gate : GateData) (moment : ℕ) → HasOrder gate → HasOrder (settled_gate gate moment)
+unfolding settled
+settled_has_order gate moment orderly =
+    settled_keeps gate.policy moment (λ (h : List RecordData). IsOrderly gate.policy h) (λ h r o e. match_is_orderly gate.policy h moment r o e) (most_matches gate.policy gate.records) gate.records orderly
+
+acted_has_order : (gate : GateData) (user : UserName) (moment : ℕ) (next : Next) → HasOrder gate → HasOrder (acted gate user moment next)
+acted_has_order gate user moment nexts.Idle orderly = orderly
+acted_has_order gate user moment nexts.Login orderly = orderly
+acted_has_order gate user moment (nexts.Act request) orderly = stepped_has_order gate _ orderly
+acted_has_order gate user moment nexts.Logout orderly = stepped_has_order gate _ orderly
+acted_has_order gate user moment nexts.Close orderly = orderly
+
+event_has_order : (gate : GateData) (c : Connection) (e : Happening) (moment : ℕ) → HasOrder gate → HasOrder (on_event gate c e moment).gate
+unfolding on_event
+event_has_order gate c e moment orderly = acted_has_order gate c.user moment (turn c.session e moment).reply.next orderly
+
+login_has_order : (gate : GateData) (c : Connection) (moment : ℕ) (login : Option LoginRequest) → HasOrder gate → HasOrder (with_login gate c moment login).gate
+unfolding logged_in
+login_has_order gate c moment None orderly = orderly
+login_has_order gate c moment (Some login) orderly =
+    event_has_order (stepped gate (login_asked_at gate moment login)) _ _ moment (stepped_has_order gate (login_asked_at gate moment login) orderly)
+
+answer_has_order : (gate : GateData) (c : Connection) (packet : ClientPacket) (moment : ℕ) → HasOrder gate → HasOrder (answered gate c packet moment).gate
+unfolding answered
+answer_has_order gate c packet moment orderly =
+    let told = on_event gate c (happens.Packet packet) moment in
+    login_has_order told.gate told.connection moment (login_in packet (turn c.session (happens.Packet packet) moment).reply.next)
+    (event_has_order gate c (happens.Packet packet) moment orderly)
+
+match_has_order : (gate : GateData) (c : Connection) (moment : ℕ) → HasOrder gate → HasOrder (matched gate c moment).gate
+unfolding matched
+match_has_order gate c moment orderly = at (is_over c.session.phase)
+  where
+    at : (b : Bool) → HasOrder (cond b gate (settled_gate gate moment))
+    at true = orderly
+    at false = settled_has_order gate moment orderly
+
+pull_has_order : (gate : GateData) (c : Connection) (moment : ℕ) → HasOrder gate → HasOrder (pulled gate c moment).gate
+unfolding pulled sent
+pull_has_order gate c moment orderly = at (is_on c.session.phase)
+  where
+    at : (b : Bool) → HasOrder (cond b (sent gate c (unsent gate c) moment) (silent gate c)).gate
+    at true = event_has_order gate _ _ moment orderly
+    at false = orderly
+
+-- What a pull that leaves the session alive leaves.
+
+record GoesOn (gate : GateData) (c : Connection) (run : Run) : Type 0 where
+  same_gate : run.gate ≡ gate
+  alive : is_over c.session.phase ≡ false
+
+after_reports : (gate : GateData) (heard spoke : ℕ) (user : UserName) (number coming moment count : ℕ) (closed : Bool)
+    → let c : Connection = record { session = record { phase = On; heard = heard; sent = spoke }; user = user; next = number; coming = coming } in
+    let run = on_event gate c (happens.Pulled count closed) moment in
+    is_over run.connection.session.phase ≡ false → run.gate ≡ gate
+unfolding on_event turn
+after_reports gate heard spoke user number coming moment count true h = cc
+after_reports gate heard spoke user number coming moment count false h = refl
+
+after_pull : (gate : GateData) (phase : Phase) (heard spoke : ℕ) (user : UserName) (number coming moment : ℕ)
+    → let c : Connection = record { session = record { phase = phase; heard = heard; sent = spoke }; user = user; next = number; coming = coming } in
+    is_over (pulled gate c moment).connection.session.phase ≡ false → GoesOn gate c (pulled gate c moment)
+unfolding pulled sent
+after_pull gate Fresh heard spoke user number coming moment h = record { same_gate = refl; alive = refl }
+after_pull gate Waiting heard spoke user number coming moment h = record { same_gate = refl; alive = refl }
+after_pull gate On heard spoke user number coming moment h =
+    record { same_gate = after_reports gate heard spoke user _ coming moment _ (is_closed gate.records) h; alive = refl }
+after_pull gate Abandoned heard spoke user number coming moment h = cc
+after_pull gate Done heard spoke user number coming moment h = cc
+
+-- after one packet: the records are orderly, and where the session goes on no order waits
+record IsQuiet (run : Run) : Type 0 where
+  has_order : HasOrder run.gate
+  none_waits : is_over run.connection.session.phase ≡ false → matching_of run.gate ≡ None
+
+none_once_matched : (gate : GateData) (c : Connection) (moment : ℕ) → HasOrder gate → is_over c.session.phase ≡ false → matching_of (matched gate c moment).gate ≡ None
+unfolding matched
+none_once_matched gate c moment orderly alive =
+    ap (λ b. matching_of (cond b gate (settled_gate gate moment))) alive ∙ settled_ends gate.policy gate.records moment orderly
+
+quiet_pull : (gate : GateData) (c : Connection) (moment : ℕ) → HasOrder gate → IsQuiet (pulled (matched gate c moment).gate c moment)
+quiet_pull gate c moment orderly =
+    let now = (matched gate c moment).gate in
+    record {
+      has_order = pull_has_order now c moment (match_has_order gate c moment orderly);
+      none_waits = λ h.
+          let k = after_pull now c.session.phase c.session.heard c.session.sent c.user c.next c.coming moment h in
+          ap matching_of k.same_gate ∙ none_once_matched gate c moment orderly k.alive;
+    }
+
+abbrev taken : GateData → Connection → ClientPacket → Run
+taken gate c packet =
+    and_then (answered gate (ticked c) packet c.coming) (λ g k. and_then (matched g k c.coming) (λ g l. pulled g l c.coming))
+
+quiet_taken : (gate : GateData) (c : Connection) (packet : ClientPacket) → HasOrder gate → IsQuiet (taken gate c packet)
+unfolding matched
+quiet_taken gate c packet orderly =
+    let row = answered gate (ticked c) packet c.coming in
+    let q = quiet_pull row.gate row.connection c.coming (answer_has_order gate (ticked c) packet c.coming orderly) in
+    record { has_order = q.has_order; none_waits = q.none_waits }
+
+quiet_handled : (gate : GateData) (c : Connection) (packet : ClientPacket) → HasOrder gate → IsQuiet (handled gate c packet)
+unfolding handled
+quiet_handled gate c packet orderly = at (is_over c.session.phase) refl
+  where
+    at : (b : Bool) → is_over c.session.phase ≡ b → IsQuiet (cond b (silent gate c) (taken gate c packet))
+    at true over = record { has_order = orderly; none_waits = λ alive. cc }
+    at false over = quiet_taken gate c packet orderly
+
+quiet_next : (run : Run) (packet : ClientPacket) → HasOrder run.gate → IsQuiet (on_packet run packet)
+quiet_next run packet orderly =
+    let q = quiet_handled run.gate run.connection packet orderly in
+    record { has_order = q.has_order; none_waits = q.none_waits }
+
+quiet_all : (packets : List ClientPacket) (run : Run) → IsQuiet run → IsQuiet (fold on_packet run packets)
+quiet_all [] run quiet = quiet
+quiet_all (packet ∷ packets) run quiet = quiet_all packets (on_packet run packet) (quiet_next run packet quiet.has_order)
+
+none_waits_after : (gate : GateData) (c : Connection) (packets : List ClientPacket) → HasOrder gate → 0 < length packets → IsQuiet (fold on_packet (silent gate c) packets)
+none_waits_after gate c [] orderly some = absurd (omega arith)
+none_waits_after gate c (packet ∷ packets) orderly some = quiet_all packets (on_packet (silent gate c) packet) (quiet_next (silent gate c) packet orderly)
+
+-- after one packet at least, where the session goes on, no order waits
+pub none_waits : (gate : GateData) (first : ℕ) (bytes : List ℕ) → IsLegal gate.policy gate.records → 0 < length (packets_of bytes).packets
+    → IsFalse (is_over (run_of gate first bytes).connection.session.phase) → matching_of (run_of gate first bytes).gate ≡ None
+unfolding run_of
+none_waits gate first bytes legal some alive =
+    (none_waits_after gate (opened_at first) (packets_of bytes).packets (legal_is_orderly gate.policy gate.records legal) some).none_waits alive

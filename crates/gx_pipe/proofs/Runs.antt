@@ -1,0 +1,182 @@
+-- Laws of runs: text that stands before, a piece more, and the end.
+use Rattle.std.proofs.Common.{◌≡◌, ℕ, Bool, true, false, ◌||◌, ◌⊎◌, inl, inr, is_some, List, [], ◌∷◌, ◌++◌, refl, sym, ap, ◌∙◌, subst, append_assoc, append-nil, take, Option, None, Some, IfSome, cond}
+use Rattle.std.specs.Prelude.{fold}
+use Rattle.std.specs.Io.KnownBytes.{Appends, Consumes, IsAtEnd}
+use Rattle.std.proofs.KnownBytes.{Appends-nil, Appends-trans, Consumes-nil, Consumes-trans}
+use Rattle.std.proofs.lemmas.List.Sums.{fold-append}
+use Rattle.gx_soup.specs.declared.packet.ClientPacket.{ClientPacket}
+use Rattle.gx_soup.specs.declared.packet.SoupFault.{SoupFault}
+use Rattle.gx_soup.specs.Packets.{packets_of}
+use Rattle.gx_soup.proofs.PacketLaws.{nothing_after_fault, packets_grow}
+use Rattle.gx_soup.specs.Feeding.{Held, HasRead, Gives}
+use Rattle.gx_answers.specs.Gates.{GateData}
+use Rattle.gx_pipe.specs.declared.connection.Connection.{Connection}
+use Rattle.gx_session.specs.Events.{is_over}
+use Rattle.gx_session.specs.Happenings as happens
+use Rattle.gx_session.specs.Table.{SessionData, row_in, turn}
+use Rattle.gx_session.specs.declared.session.Phase.{Phase}
+use Rattle.gx_session.specs.declared.session.Phase.TheVariants.{Fresh, Waiting, On, Abandoned, Done}
+use Rattle.gx_session.specs.Sending.{control_text}
+use Rattle.gx_pipe.specs.Transcript.{Run, and_then, on_event, answered, matched, pulled, ticked, with_text, silent, handled, on_packet, opened, opened_at, run_of, finished, pipe, is_ended}
+use Rattle.gx_pipe.specs.Piping.{IsTaken, Follows, Exchanged, IsTranscript, IsPipe}
+
+-- text that stands before stays before
+fold_behind : (ps : List ClientPacket) (before : List ℕ) (run : Run) → fold on_packet (with_text before run) ps ≡ with_text before (fold on_packet run ps)
+fold_behind [] before run = refl
+fold_behind (p ∷ ps) before run =
+    let h = handled run.gate run.connection p in
+    ap (λ t. fold on_packet (record { gate = h.gate; connection = h.connection; text = t }) ps) (append_assoc before run.text h.text) ∙ fold_behind ps before (on_packet run p)
+
+-- a run from another's end
+pub fold_from : (ps : List ClientPacket) (run : Run) → fold on_packet run ps ≡ with_text run.text (fold on_packet (silent run.gate run.connection) ps)
+fold_from ps run =
+    ap (λ t. fold on_packet (record { gate = run.gate; connection = run.connection; text = t }) ps) (sym (append-nil run.text)) ∙ fold_behind ps run.text (silent run.gate run.connection)
+
+pub run_nil : (before : GateData) (first : ℕ) → (packets_of []).packets ≡ [] → run_of before first [] ≡ opened before first
+unfolding run_of
+run_nil before first e = ap (fold on_packet (opened before first)) e
+
+run_more : (before : GateData) (first : ℕ) (bytes piece : List ℕ) (given : List ClientPacket) → (packets_of (bytes ++ piece)).packets ≡ (packets_of bytes).packets ++ given → run_of before first (bytes ++ piece) ≡ with_text (run_of before first bytes).text (fold on_packet (silent (run_of before first bytes).gate (run_of before first bytes).connection) given)
+unfolding run_of
+run_more before first bytes piece given e =
+    ap (fold on_packet (opened before first)) e ∙ (fold-append on_packet (opened before first) (packets_of bytes).packets given ∙ fold_from given (fold on_packet (opened before first) (packets_of bytes).packets))
+
+over_is : (before : GateData) (first : ℕ) (bytes : List ℕ) (fault : Option SoupFault) (connection : Connection) → fault ≡ (packets_of bytes).fault → connection ≡ (run_of before first bytes).connection → (is_some fault || is_over connection.session.phase) ≡ is_ended before first bytes
+unfolding is_ended
+over_is before first bytes fault connection f s = rw (f, s) refl
+
+-- a piece that was fed, answered and written
+pub exchanged : (before : GateData) (first : ℕ) (bytes piece : List ℕ) (gate gate' : GateData) (connection connection' : Connection) (feeder feeder' : Held) (given : List ClientPacket) (told : Option SoupFault) (text : List ℕ) (output written : Option (List ℕ)) → Gives given told feeder' bytes piece → fold on_packet (silent gate connection) given ≡ record { gate = gate'; connection = connection'; text = text } → Appends output written text → Follows before first bytes gate connection feeder → Exchanged before first bytes piece (is_some told || is_over connection'.session.phase) gate' connection' feeder' output written
+exchanged before first bytes piece gate gate' connection connection' feeder feeder' given told text output written gives makes wrote follows =
+    let run = run_of before first bytes in
+    let e : run_of before first (bytes ++ piece) ≡ record { gate = gate'; connection = connection'; text = run.text ++ text } =
+    run_more before first bytes piece given gives.packets ∙ ap (with_text run.text) (ap (λ h. fold on_packet (silent h run.connection) given) (sym follows.gate) ∙ (ap (λ s. fold on_packet (silent gate s) given) (sym follows.connection) ∙ makes)) in
+    record {
+      follows = record { reads = gives.reads; gate = sym (ap (λ (r : Run). r.gate) e); connection = sym (ap (λ (r : Run). r.connection) e) };
+      ends = over_is before first (bytes ++ piece) told connection' gives.fault (sym (ap (λ (r : Run). r.connection) e));
+      text = text;
+      written = wrote;
+      more = ap (λ (r : Run). r.text) e;
+    }
+
+makes_taken : (run : Run) (gate : GateData) (connection : Connection) (output written : Option (List ℕ)) → IsTaken run gate connection output written → run ≡ record { gate = gate; connection = connection; text = run.text }
+makes_taken run gate connection output written t =
+    ap (λ h. record { gate = h; connection = run.connection; text = run.text }) (sym t.gate) ∙ ap (λ s. record { gate = gate; connection = s; text = run.text }) (sym t.connection)
+
+-- a piece that was fed, and its packets taken
+pub exchanged_by : (before : GateData) (first : ℕ) (bytes piece : List ℕ) (gate gate' : GateData) (connection connection' : Connection) (feeder feeder' : Held) (given : List ClientPacket) (told : Option SoupFault) (output written : Option (List ℕ)) → Gives given told feeder' bytes piece → IsTaken (fold on_packet (silent gate connection) given) gate' connection' output written → Follows before first bytes gate connection feeder → Exchanged before first bytes piece (is_some told || is_over connection'.session.phase) gate' connection' feeder' output written
+exchanged_by before first bytes piece gate gate' connection connection' feeder feeder' given told output written gives taken follows =
+    exchanged before first bytes piece gate gate' connection connection' feeder feeder' given told (fold on_packet (silent gate connection) given).text output written gives (makes_taken _ gate' connection' output written taken) taken.text follows
+
+-- before an iteration of `run_pipe`
+pub record Stands (input left output written : Option (List ℕ)) (before : GateData) (first : ℕ) (gate : GateData) (connection : Connection) (feeder : Held) : Type 0 where
+  pub bytes : List ℕ
+  pub consumed : Consumes input left bytes
+  pub follows : Follows before first bytes gate connection feeder
+  pub text : Appends output written (run_of before first bytes).text
+
+pub stands_first : (input output : Option (List ℕ)) (before : GateData) (first : ℕ) (feeder : Held) → (packets_of []).packets ≡ [] → HasRead feeder [] → Stands input input output output before first before (opened_at first) feeder
+stands_first input output before first feeder none reads =
+    let e = run_nil before first none in
+    record {
+      bytes = [];
+      consumed = Consumes-nil input;
+      follows = record { reads = reads; gate = rw e refl; connection = rw e refl };
+      text = rw e (Appends-nil output);
+    }
+
+abbrev pub stands_next : (input left left' output written written' : Option (List ℕ)) (before : GateData) (first : ℕ) (gate gate' : GateData) (connection connection' : Connection) (feeder feeder' : Held) (piece : List ℕ) (over : Bool) → (s : Stands input left output written before first gate connection feeder) → Consumes left left' piece → Exchanged before first s.bytes piece over gate' connection' feeder' written written' → Stands input left' output written' before first gate' connection' feeder'
+stands_next input left left' output written written' before first gate gate' connection connection' feeder feeder' piece over s took e = record {
+  bytes = s.bytes ++ piece;
+  consumed = Consumes-trans input left left' s.bytes piece s.consumed took;
+  follows = e.follows;
+  text = rw e.more (Appends-trans output written written' _ _ s.text e.written);
+}
+
+-- a read that gave nothing
+abbrev pub stands_still : (input left left' output written : Option (List ℕ)) (before : GateData) (first : ℕ) (gate : GateData) (connection : Connection) (feeder : Held) (buffer : List ℕ) (n : ℕ) → Stands input left output written before first gate connection feeder → Consumes left left' (take n buffer) → n ≡ 0 → Stands input left' output written before first gate connection feeder
+stands_still input left left' output written before first gate connection feeder buffer n s took none = record {
+  bytes = s.bytes;
+  consumed = subst (Consumes input left') (append-nil s.bytes) (Consumes-trans input left left' s.bytes [] s.consumed (subst (λ k. Consumes left left' (take k buffer)) none took));
+  follows = s.follows;
+  text = s.text;
+}
+
+row_end : (p : Phase) (silent quiet : Bool) → (row_in p happens.End silent quiet).reply.send ≡ None
+row_end Fresh silent quiet = refl
+row_end Waiting silent quiet = refl
+row_end On silent quiet = refl
+row_end Abandoned silent quiet = refl
+row_end Done silent quiet = refl
+
+-- nothing is sent at the end
+end_is_silent : (session : SessionData) (moment : ℕ) → (turn session happens.End moment).reply.send ≡ None
+unfolding turn
+end_is_silent session moment = row_end session.phase _ _
+
+finished_from : (run : Run) (gate : GateData) (connection : Connection) → gate ≡ run.gate → connection ≡ run.connection → (finished run).gate ≡ (finished (silent gate connection)).gate
+unfolding finished
+finished_from run gate connection h s =
+    ap (λ x. (on_event x run.connection happens.End run.connection.session.heard).gate) (sym h) ∙ ap (λ (x : Connection). (on_event gate x happens.End x.session.heard).gate) (sym s)
+
+pub finished_text : (run : Run) → (finished run).text ≡ run.text
+unfolding finished on_event
+finished_text run =
+    ap (λ c. run.text ++ control_text c) (end_is_silent run.connection.session run.connection.session.heard) ∙ append-nil run.text
+
+pipe_history : (before : GateData) (first : ℕ) (bytes : List ℕ) (gate : GateData) (connection : Connection) → gate ≡ (run_of before first bytes).gate → connection ≡ (run_of before first bytes).connection → (pipe before first bytes).gate ≡ (finished (silent gate connection)).gate
+unfolding pipe
+pipe_history before first bytes gate connection h s = finished_from (run_of before first bytes) gate connection h s
+
+pub pipe_text : (before : GateData) (first : ℕ) (bytes : List ℕ) → (pipe before first bytes).text ≡ (run_of before first bytes).text
+unfolding pipe
+pipe_text before first bytes = finished_text (run_of before first bytes)
+
+-- the end of a connection
+pub ended : (input left output written : Option (List ℕ)) (before : GateData) (first : ℕ) (gate gate' : GateData) (connection : Connection) (feeder : Held) → (s : Stands input left output written before first gate connection feeder) → gate' ≡ (finished (silent gate connection)).gate → IsAtEnd left ⊎ (is_ended before first s.bytes ≡ true) → IsTranscript input left output written before first gate'
+ended input left output written before first gate gate' connection feeder s f whole = record {
+  bytes = s.bytes;
+  consumed = s.consumed;
+  gate = f ∙ sym (pipe_history before first s.bytes gate connection s.follows.gate s.follows.connection);
+  text = rw (pipe_text before first s.bytes) s.text;
+  whole = whole;
+}
+
+pub on_done : (run : Run) (p : ClientPacket) → is_over run.connection.session.phase ≡ true → on_packet run p ≡ run
+unfolding handled
+on_done run p h =
+    ap (λ b. with_text run.text (cond b (silent run.gate run.connection) (and_then (answered run.gate (ticked run.connection) p run.connection.coming) (λ g c. and_then (matched g c run.connection.coming) (λ g c. pulled g c run.connection.coming))))) h
+    ∙ ap (λ t. record { gate = run.gate; connection = run.connection; text = t }) (append-nil run.text)
+
+fold_done : (ps : List ClientPacket) (run : Run) → is_over run.connection.session.phase ≡ true → fold on_packet run ps ≡ run
+fold_done [] run h = refl
+fold_done (p ∷ ps) run h =
+    let still : on_packet run p ≡ run = on_done run p h in
+    ap (λ r. fold on_packet r ps) still ∙ fold_done ps run h
+
+over_follows : (before : GateData) (first : ℕ) (bytes more : List ℕ) → (fault : Bool) → (done : Bool) → fault ≡ is_some (packets_of bytes).fault → done ≡ is_over (run_of before first bytes).connection.session.phase → (fault || done) ≡ true → run_of before first (bytes ++ more) ≡ run_of before first bytes
+unfolding run_of
+over_follows before first bytes more true done f d h =
+    ap (λ s. fold on_packet (opened before first) s.packets) (nothing_after_fault bytes more (sym f))
+over_follows before first bytes more false true f d h =
+    let g = packets_grow bytes more in
+    ap (fold on_packet (opened before first)) g.1 ∙ (fold-append on_packet (opened before first) (packets_of bytes).packets g.0 ∙ fold_done g.0 (fold on_packet (opened before first) (packets_of bytes).packets) (sym d))
+over_follows before first bytes more false false f d h = cc
+
+-- once the connection is over, nothing that follows counts
+pub nothing_follows : (before : GateData) (first : ℕ) (bytes more : List ℕ) → is_ended before first bytes ≡ true → pipe before first (bytes ++ more) ≡ pipe before first bytes
+unfolding pipe is_ended
+nothing_follows before first bytes more h = ap finished (over_follows before first bytes more _ _ refl refl h)
+
+all_bytes : (input left output written : Option (List ℕ)) (before : GateData) (first : ℕ) (after : GateData) (bytes : List ℕ) → Consumes input left bytes → after ≡ (pipe before first bytes).gate → Appends output written (pipe before first bytes).text → IsAtEnd left ⊎ (is_ended before first bytes ≡ true) → IfSome input (λ all. IsPipe all output written before first after)
+all_bytes None left output written before first after bytes took h t w = tt
+all_bytes (Some all) None output written before first after bytes took h t w = absurd took
+all_bytes (Some all) (Some rest) output written before first after bytes took h t (inl end) =
+    let e : all ≡ bytes = took ∙ (ap (λ r. bytes ++ r) end ∙ append-nil bytes) in
+    subst (λ b. IsPipe b output written before first after) (sym e) (record { gate = h; text = t })
+all_bytes (Some all) (Some rest) output written before first after bytes took h t (inr over) =
+    let e : pipe before first bytes ≡ pipe before first all = sym (nothing_follows before first bytes rest over) ∙ ap (pipe before first) (sym took) in
+    record { gate = h ∙ ap (λ (r : Run). r.gate) e; text = subst (λ (r : Run). Appends output written r.text) e t }
+
+pub all_of_transcript : (input left output written : Option (List ℕ)) (before : GateData) (first : ℕ) (after : GateData) → IsTranscript input left output written before first after → IfSome input (λ all. IsPipe all output written before first after)
+all_of_transcript input left output written before first after t = all_bytes input left output written before first after t.bytes t.consumed t.gate t.text t.whole

@@ -1,0 +1,349 @@
+-- What a connection was sent: the session table keeps it from packet to packet.
+use Rattle.std.proofs.Common.{◌≡◌, ℕ, ◌+◌, ◌-◌, ◌≤◌, max, Bool, true, false, cond, not, ◌&&◌, ◌==◌, nat_le, List, [], ◌∷◌, ◌++◌, length, drop, Option, None, Some, refl, sym, ap, ◌∙◌, subst, append-nil, append_assoc, arith, length-append, length-drop}
+use Rattle.std.specs.Prelude.{fold}
+use Rattle.std.specs.List.{flat_map, AllByRecursion}
+use Rattle.std.specs.Option.{option_map_or}
+use Rattle.std.proofs.lemmas.Bool.Decides.{nat_tests}
+use Rattle.std.proofs.lemmas.List.{drop-append-le, drop_at}
+use Rattle.gx_units.specs.Spelling.{folded_user}
+use Rattle.gx_units.specs.declared.names.LoginRejection.{LoginRejection}
+use Rattle.gx_units.specs.declared.names.LoginRejection.TheVariants as rejections
+use Rattle.gx_units.specs.declared.names.SessionName.{SessionName}
+use Rattle.gx_units.specs.declared.names.UserName.{UserName}
+use Rattle.gx_soup.specs.declared.packet.LoginRequest.{LoginRequest}
+use Rattle.gx_soup.specs.declared.packet.ClientPacket.{ClientPacket}
+use Rattle.gx_soup.specs.declared.packet.ClientPacket.TheVariants as client
+use Rattle.gx_soup.specs.declared.packet.ServerPacket.TheVariants as server
+use Rattle.gx_soup.specs.Writing.{server_bytes}
+use Rattle.gx_soup.specs.Packets.{packets_of}
+use Rattle.gx_history.specs.declared.policy.PolicyData.{PolicyData}
+use Rattle.gx_history.specs.declared.record.Asked.{Asked}
+use Rattle.gx_history.specs.declared.record.RecordData.{RecordData}
+use Rattle.gx_history.specs.declared.record.RuleName.{RuleName}
+use Rattle.gx_history.specs.declared.record.RuleName.TheVariants.{L1, L2, L3, G1, G2, G3, I1, I2, I3, P1, P2, P3, P4, P5, P6, P7, P8, P9, P10, P11, P12, Q1, Q2, Q3, Q4, File}
+use Rattle.gx_history.specs.declared.record.Step.TheVariants as steps
+use Rattle.gx_history.specs.declared.record.Verdict.{Verdict}
+use Rattle.gx_history.specs.declared.record.Verdict.TheVariants as verdicts
+use Rattle.gx_history.specs.declared.report.Report.{Report}
+use Rattle.gx_history.specs.Asking.{facts}
+use Rattle.gx_history.specs.Logins.{first_wanted}
+use Rattle.gx_history.specs.Payloads.{request_of}
+use Rattle.gx_history.specs.Requests.{asked}
+use Rattle.gx_history.specs.RuleNames.{rules_before}
+use Rattle.gx_history.specs.Rules.{forbids}
+use Rattle.gx_history.specs.Streams.{stream, reports_of}
+use Rattle.gx_history.specs.Verdicts.{next, verdict, facts_now, moment_of}
+use Rattle.gx_history_laws.proofs.Granting.{granted_passes_before, left_by_request}
+use Rattle.gx_history_laws.proofs.NextReports.{stream_next}
+use Rattle.gx_history_laws.proofs.Order.{none_among}
+use Rattle.gx_history_laws.proofs.Owners.{all_both}
+use Rattle.gx_effects.proofs.Settling.{settled_adds}
+use Rattle.gx_answers.specs.Gates.{GateData}
+use Rattle.gx_answers.specs.Matches.{settled_gate}
+use Rattle.gx_answers.specs.Logins.{login_answered}
+use Rattle.gx_answers.specs.declared.outcome.LoginAnswer.{LoginAnswer}
+use Rattle.gx_answers.specs.declared.outcome.LoginAnswer.TheVariants as answers
+use Rattle.gx_history.specs.InForce.{is_closed}
+use Rattle.gx_pipe.specs.declared.connection.Connection.{Connection}
+use Rattle.gx_session.specs.declared.session.Phase.{Phase}
+use Rattle.gx_session.specs.declared.session.Phase.TheVariants.{Fresh, Waiting, On, Abandoned, Done}
+use Rattle.gx_session.specs.Happenings as happens
+use Rattle.gx_pipe.specs.Serving.{owed, IsServed, HasOnlyMatched, Serves}
+use Rattle.gx_answers.specs.Asking.{asked_by, stepped}
+use Rattle.gx_pipe.specs.Steps.{login_asked_at, login_told}
+use Rattle.gx_session.specs.Table.{turn}
+use Rattle.gx_session.specs.Sending.{report_packet, reports_text}
+use Rattle.gx_pipe.specs.Transcript.{Run, with_text, on_event, first_told, logged_in, answered, sent, matched, pulled, handled, on_packet, opened, run_of, later}
+
+-- reports that come one after the other are spelled one after the other
+spelled_on : (xs ys : List Report) → flat_map report_packet (xs ++ ys) ≡ flat_map report_packet xs ++ flat_map report_packet ys
+spelled_on [] ys = refl
+spelled_on (x ∷ xs) ys =
+    ap (λ rest. report_packet x ++ rest) (spelled_on xs ys) ∙ sym (append_assoc (report_packet x) (flat_map report_packet xs) (flat_map report_packet ys))
+
+-- the record that a request leaves
+unfoldable pub left_of : GateData → Asked → RecordData
+left_of gate a = record {
+  number = length gate.records + 1;
+  moment = moment_of gate.records (steps.Asked a);
+  step = steps.Asked a;
+  verdict = verdict gate.policy gate.records a;
+}
+
+pub left_is : (gate : GateData) (a : Asked) → next gate.policy gate.records (steps.Asked a) ≡ Some (left_of gate a)
+unfolding left_of
+left_is gate a = left_by_request gate.policy gate.records a
+
+-- a step's record adds reports behind those that are there
+stream_on : (gate : GateData) (a : Asked) (user : UserName) → (more : List Report) × (owed (stepped gate a) user ≡ owed gate user ++ more)
+stream_on gate a user = (
+  reports_of gate.policy (folded_user user) (gate.records, left_of gate a),
+  ap (λ (o : Option RecordData). stream gate.policy (option_map_or (λ (x : RecordData). gate.records ++ x ∷ []) o gate.records) (folded_user user)) (left_is gate a)
+      ∙ stream_next gate.policy gate.records (left_of gate a) (folded_user user),
+)
+
+-- records add reports behind those that are there
+stream_grows : (policy : PolicyData) (history more : List RecordData) (user : UserName) → (reports : List Report) × (stream policy (history ++ more) user ≡ stream policy history user ++ reports)
+stream_grows policy history [] user = ([], ap (λ h. stream policy h user) (append-nil history) ∙ sym (append-nil (stream policy history user)))
+stream_grows policy history (r ∷ more) user =
+    let rest = stream_grows policy (history ++ r ∷ []) more user in
+    let news = reports_of policy user (history, r) in (
+      news ++ rest.0,
+      ap (λ h. stream policy h user) (sym (append_assoc history (r ∷ []) more))
+          ∙ (rest.1 ∙ (ap (λ s. s ++ rest.0) (stream_next policy history r user) ∙ append_assoc (stream policy history user) news rest.0)),
+    )
+
+-- matching steps add reports behind those that are there
+settled_on : (gate : GateData) (moment : ℕ) (user : UserName) → (more : List Report) × (owed (settled_gate gate moment) user ≡ owed gate user ++ more)
+settled_on gate moment user =
+    let adds = settled_adds gate.policy gate.records moment in
+    let grown = stream_grows gate.policy gate.records adds.more (folded_user user) in
+    (grown.0, ap (λ h. stream gate.policy h (folded_user user)) adds.goes_on ∙ grown.1)
+
+-- and so do a step and the matching steps that follow it
+step_settled_on : (gate : GateData) (a : Asked) (moment : ℕ) (user : UserName) → (more : List Report) × (owed (settled_gate (stepped gate a) moment) user ≡ owed gate user ++ more)
+step_settled_on gate a moment user =
+    let one = stream_on gate a user in
+    let rest = settled_on (stepped gate a) moment user in
+    (one.0 ++ rest.0, rest.1 ∙ (ap (λ s. s ++ rest.0) one.1 ∙ append_assoc (owed gate user) one.0 rest.0))
+
+-- matching steps ask for nothing
+ask_nothing : (moment : ℕ) (rs : List RecordData) → AllByRecursion (λ (r : RecordData). r.step ≡ steps.Matching moment) rs → AllByRecursion (λ (r : RecordData). asked r.step ≡ None) rs
+ask_nothing moment [] h = tt
+ask_nothing moment (r ∷ rs) h = (ap asked h.0, ask_nothing moment rs h.1)
+
+only_matched : (before gate : GateData) (moment : ℕ) → HasOnlyMatched before gate → HasOnlyMatched before (settled_gate gate moment)
+only_matched before gate moment h =
+    let adds = settled_adds gate.policy gate.records moment in
+    record {
+      policy_kept = h.policy_kept;
+      more = h.more ++ adds.more;
+      goes_on = adds.goes_on ∙ (ap (λ (rs : List RecordData). rs ++ adds.more) h.goes_on ∙ append_assoc before.records h.more adds.more);
+      are_matches = all_both (λ (r : RecordData). asked r.step ≡ None) h.more adds.more h.are_matches (ask_nothing moment adds.more adds.are_matches);
+    }
+
+-- what was sent, once more reports were sent behind it
+served_more : (gate gate' : GateData) (text : List ℕ) (user : UserName) (next : ℕ) (more : List Report) → IsServed gate text user next
+    → gate'.policy ≡ gate.policy → owed gate' user ≡ owed gate user ++ more
+    → IsServed gate' (text ++ ([] ++ flat_map report_packet (drop (next - 1) (owed gate' user)))) user (max 1 next + length (drop (next - 1) (owed gate' user)))
+served_more gate gate' text user next more h p e =
+    let old = owed gate user in
+    let now = owed gate' user in
+    let front = server_bytes (server.Accepted gate.policy.session h.from) in
+    let first : length old ≡ next - 1 = omega (arith, h.follows) in
+    let reach : h.from - 1 ≤ length old = omega (arith, h.is_available) in
+    let news : drop (next - 1) now ≡ more = ap (drop (next - 1)) e ∙ drop_at old more (next - 1) first in
+    let kept : drop (h.from - 1) now ≡ drop (h.from - 1) old ++ more = ap (drop (h.from - 1)) e ∙ drop-append-le (h.from - 1) old more reach in
+    let longer : length now ≡ length old + length more = ap length e ∙ length-append old more in
+    record {
+      from = h.from;
+      sent =
+          ap (λ t. t ++ flat_map report_packet (drop (next - 1) now)) h.sent
+          ∙ (ap (λ ms. (front ++ flat_map report_packet (drop (h.from - 1) old)) ++ flat_map report_packet ms) news
+          ∙ (append_assoc front (flat_map report_packet (drop (h.from - 1) old)) (flat_map report_packet more)
+          ∙ (ap (λ t. front ++ t) (sym (spelled_on (drop (h.from - 1) old) more))
+          ∙ (ap (λ ms. front ++ flat_map report_packet ms) (sym kept)
+          ∙ ap (λ (q : PolicyData). server_bytes (server.Accepted q.session h.from) ++ flat_map report_packet (drop (h.from - 1) now)) (sym p)))));
+      counts_from_one = h.counts_from_one;
+      is_available = omega (arith, longer, h.is_available);
+      follows = omega (arith, longer, h.follows, ap length news);
+    }
+
+-- the first reports, behind Login Accepted
+served_first : (gate : GateData) (text : List ℕ) (user : UserName) (name : SessionName) (from : ℕ) → text ≡ [] → name ≡ gate.policy.session → 1 ≤ from
+    → from ≤ length (owed gate user) + 1
+    → IsServed gate (text ++ (server_bytes (server.Accepted name from) ++ flat_map report_packet (drop (from - 1) (owed gate user)))) user (max 1 from + length (drop (from - 1) (owed gate user)))
+served_first gate text user name from none named one there = record {
+  from = from;
+  sent =
+      ap (λ t. t ++ (server_bytes (server.Accepted name from) ++ flat_map report_packet (drop (from - 1) (owed gate user)))) none
+      ∙ ap (λ n. server_bytes (server.Accepted n from) ++ flat_map report_packet (drop (from - 1) (owed gate user))) named;
+  counts_from_one = one;
+  is_available = there;
+  follows = omega (arith, length-drop (from - 1) (owed gate user));
+}
+
+not_false : (b : Bool) → not b ≡ false → b ≡ true
+not_false true h = refl
+not_false false h = cc
+
+second_true : (a b : Bool) → (a && b) ≡ true → b ≡ true
+second_true true b h = h
+second_true false b h = cc
+
+no_bar : (gate : GateData) (a : Asked) → verdict gate.policy gate.records a ≡ verdicts.Granted → forbids L3 (facts_now gate.policy gate.records a) a.request ≡ false
+unfolding rules_before left_of
+no_bar gate a granted =
+    none_among (λ (name : RuleName). forbids name (facts_now gate.policy gate.records a) a.request) (L1 ∷ L2 ∷ []) L3 (drop 3 rules_before)
+    (granted_passes_before gate.policy gate.records a (left_of gate a) (left_is gate a) granted)
+
+-- a login that is granted asked for a report that is there, or for the next one
+number_is_there : (gate : GateData) (moment : ℕ) (login : LoginRequest) → verdict gate.policy gate.records (login_asked_at gate moment login) ≡ verdicts.Granted
+    → nat_le login.wanted (length (owed gate login.user) + 1) ≡ true
+unfolding facts
+number_is_there gate moment login granted =
+    second_true _ _ (not_false _ (no_bar gate (login_asked_at gate moment login) granted))
+
+le_is : (m n : ℕ) → nat_le m n ≡ true → m ≤ n
+le_is m n h = grind (arith, nat_tests)
+
+first_within : (wanted old now : ℕ) → (none : Bool) → (wanted == 0) ≡ none → wanted ≤ old + 1 → old ≤ now
+    → (1 ≤ cond none (max 1 now) wanted) × (cond none (max 1 now) wanted ≤ now + 1)
+first_within wanted old now true e w o = (omega arith, omega arith)
+first_within wanted old now false e w o = (grind (arith, nat_tests), omega arith)
+
+-- an answer that accepts comes of a granted login alone
+pub rejects : (policy : PolicyData) (history : List RecordData) (user : UserName) (wanted : ℕ) (rule : RuleName)
+    → (reason : LoginRejection) × (login_answered policy history user wanted (verdicts.Denied rule) ≡ answers.Rejected reason)
+rejects policy history user wanted L1 = (rejections.NotAuthorized, refl)
+rejects policy history user wanted L2 = (rejections.NotAuthorized, refl)
+rejects policy history user wanted L3 = (rejections.SessionNotAvailable, refl)
+rejects policy history user wanted G1 = (rejections.NotAuthorized, refl)
+rejects policy history user wanted G2 = (rejections.NotAuthorized, refl)
+rejects policy history user wanted G3 = (rejections.NotAuthorized, refl)
+rejects policy history user wanted I1 = (rejections.NotAuthorized, refl)
+rejects policy history user wanted I2 = (rejections.NotAuthorized, refl)
+rejects policy history user wanted I3 = (rejections.NotAuthorized, refl)
+rejects policy history user wanted P1 = (rejections.NotAuthorized, refl)
+rejects policy history user wanted P2 = (rejections.NotAuthorized, refl)
+rejects policy history user wanted P3 = (rejections.NotAuthorized, refl)
+rejects policy history user wanted P4 = (rejections.NotAuthorized, refl)
+rejects policy history user wanted P5 = (rejections.NotAuthorized, refl)
+rejects policy history user wanted P6 = (rejections.NotAuthorized, refl)
+rejects policy history user wanted P7 = (rejections.NotAuthorized, refl)
+rejects policy history user wanted P8 = (rejections.NotAuthorized, refl)
+rejects policy history user wanted P9 = (rejections.NotAuthorized, refl)
+rejects policy history user wanted P10 = (rejections.NotAuthorized, refl)
+rejects policy history user wanted P11 = (rejections.NotAuthorized, refl)
+rejects policy history user wanted P12 = (rejections.NotAuthorized, refl)
+rejects policy history user wanted Q1 = (rejections.NotAuthorized, refl)
+rejects policy history user wanted Q2 = (rejections.NotAuthorized, refl)
+rejects policy history user wanted Q3 = (rejections.NotAuthorized, refl)
+rejects policy history user wanted Q4 = (rejections.NotAuthorized, refl)
+rejects policy history user wanted (File rule) = (rejections.NotAuthorized, refl)
+
+pub never : {P : Type 0} (answer : LoginAnswer) (reason : LoginRejection) (name : SessionName) (from : ℕ) → answer ≡ answers.Rejected reason → answer ≡ answers.Accepted name from → P
+never answer reason name from e f = cc
+
+record IsAcceptance (gate : GateData) (moment : ℕ) (login : LoginRequest) (name : SessionName) (from : ℕ) : Type 0 where
+  named : name ≡ gate.policy.session
+  counts_from_one : 1 ≤ from
+  is_there : from ≤ length (owed (stepped gate (login_asked_at gate moment login)) login.user) + 1
+
+accepted_by : (gate : GateData) (moment : ℕ) (login : LoginRequest) (name : SessionName) (from : ℕ) (v : Verdict)
+    → verdict gate.policy gate.records (login_asked_at gate moment login) ≡ v
+    → login_answered gate.policy (stepped gate (login_asked_at gate moment login)).records (folded_user login.user) login.wanted v ≡ answers.Accepted name from
+    → IsAcceptance gate moment login name from
+accepted_by gate moment login name from verdicts.Granted granted e =
+    let a = login_asked_at gate moment login in
+    let now = owed (stepped gate a) login.user in
+    let more = stream_on gate a login.user in
+    let there = le_is login.wanted (length (owed gate login.user) + 1) (number_is_there gate moment login granted) in
+    let longer : length now ≡ length (owed gate login.user) + length more.0 = ap length more.1 ∙ length-append (owed gate login.user) more.0 in
+    let bounds = first_within login.wanted (length (owed gate login.user)) (length now) (login.wanted == 0) refl there (omega (arith, longer)) in
+    let same : first_wanted (length now) login.wanted ≡ from = cc in
+    record { named = cc; counts_from_one = omega (arith, same, bounds.0); is_there = omega (arith, same, bounds.1) }
+accepted_by gate moment login name from (verdicts.Denied rule) denied e =
+    let r = rejects gate.policy (stepped gate (login_asked_at gate moment login)).records (folded_user login.user) login.wanted rule in
+    never _ r.0 name from r.1 e
+accepted_by gate moment login name from (verdicts.Filled f) other e = cc
+accepted_by gate moment login name from (verdicts.Rested o) other e = cc
+accepted_by gate moment login name from (verdicts.Expired o) other e = cc
+
+accepted_is : (gate : GateData) (moment : ℕ) (login : LoginRequest) (name : SessionName) (from : ℕ) → login_told gate moment login ≡ answers.Accepted name from
+    → IsAcceptance gate moment login name from
+unfolding login_told
+accepted_is gate moment login name from e = accepted_by gate moment login name from _ refl e
+
+-- what a run was sent
+abbrev ServesRun : GateData → Run → Type 0
+ServesRun before run = Serves before run.gate run.text run.connection.user run.connection.next run.connection.session.phase
+
+-- once reports are sent, the session goes on, or, where the day is closed, is over
+after_reports : (before gate : GateData) (text : List ℕ) (heard spoke : ℕ) (user : UserName) (next coming moment count : ℕ) (closed : Bool) → IsServed gate text user next
+    → ServesRun before (with_text text (on_event gate (record { session = record { phase = On; heard = heard; sent = spoke }; user = user; next = next; coming = coming }) (happens.Pulled count closed) moment))
+unfolding on_event turn
+after_reports before gate text heard spoke user next coming moment count true h = tt
+after_reports before gate text heard spoke user next coming moment count false h = subst (λ t. IsServed gate t user next) (sym (append-nil text)) h
+
+-- all reports that are there are sent behind what was
+after_pull : (before gate : GateData) (text front : List ℕ) (heard spoke : ℕ) (user : UserName) (next coming moment : ℕ)
+    → IsServed gate (text ++ (front ++ flat_map report_packet (drop (next - 1) (owed gate user)))) user (max 1 next + length (drop (next - 1) (owed gate user)))
+    → let c : Connection = record { session = record { phase = On; heard = heard; sent = spoke }; user = user; next = next; coming = coming } in
+    ServesRun before (with_text text (with_text front (pulled gate c moment)))
+unfolding pulled sent
+after_pull before gate text front heard spoke user next coming moment h =
+    let news = drop (next - 1) (owed gate user) in
+    let c : Connection = record { session = record { phase = On; heard = heard; sent = spoke }; user = user; next = max 1 next + length news; coming = coming } in
+    let last = on_event gate c (happens.Pulled (length news) (is_closed gate.records)) moment in
+    let e : (text ++ (front ++ reports_text news)) ++ last.text ≡ text ++ (front ++ (reports_text news ++ last.text)) =
+    append_assoc text (front ++ reports_text news) last.text ∙ ap (λ t. text ++ t) (append_assoc front (reports_text news) last.text) in
+    subst (λ t. Serves before last.gate t last.connection.user last.connection.next last.connection.session.phase) e
+    (after_reports before gate (text ++ (front ++ reports_text news)) heard spoke user (max 1 next + length news) coming moment (length news) (is_closed gate.records) h)
+
+abbrev login_run : GateData → ℕ → ℕ → LoginRequest → ℕ → ℕ → LoginAnswer → Run
+login_run gate heard spoke login coming moment answer =
+    on_event gate (record { session = record { phase = Waiting; heard = heard; sent = spoke }; user = login.user; next = first_told answer; coming = coming }) (happens.Answered answer) moment
+
+after_login : (before gate : GateData) (text : List ℕ) (heard spoke : ℕ) (login : LoginRequest) (coming moment : ℕ) → text ≡ [] → (answer : LoginAnswer)
+    → login_told gate moment login ≡ answer
+    → let run = login_run (stepped gate (login_asked_at gate moment login)) heard spoke login coming moment answer in
+    ServesRun before (with_text text (with_text run.text (pulled (matched run.gate run.connection moment).gate run.connection moment)))
+unfolding on_event turn matched pulled
+after_login before gate text heard spoke login coming moment none (answers.Accepted name from) e =
+    let asks = login_asked_at gate moment login in
+    let now = settled_gate (stepped gate asks) moment in
+    let k = accepted_is gate moment login name from e in
+    let more = settled_on (stepped gate asks) moment login.user in
+    let longer : length (owed now login.user) ≡ length (owed (stepped gate asks) login.user) + length more.0 = ap length more.1 ∙ length-append (owed (stepped gate asks) login.user) more.0 in
+    after_pull before now text (server_bytes (server.Accepted name from)) heard (max spoke moment) login.user from coming moment
+    (served_first now text login.user name from none k.named k.counts_from_one (omega (arith, longer, k.is_there)))
+after_login before gate text heard spoke login coming moment none (answers.Rejected reason) e = tt
+
+-- what was sent by one packet more
+serves_next : (before gate : GateData) (text : List ℕ) (phase : Phase) (heard spoke : ℕ) (user : UserName) (number coming : ℕ) (packet : ClientPacket) → Serves before gate text user number phase
+    → ServesRun before (on_packet (record { gate = gate; connection = record { session = record { phase = phase; heard = heard; sent = spoke }; user = user; next = number; coming = coming }; text = text }) packet)
+unfolding handled answered on_event turn logged_in matched pulled
+serves_next before gate text Fresh heard spoke user number coming (client.Login login) h =
+    after_login before gate text (max heard coming) spoke login (later coming) coming h.1 _ refl
+serves_next before gate text Fresh heard spoke user number coming (client.Data payload) h = tt
+serves_next before gate text Fresh heard spoke user number coming client.Logout h = tt
+serves_next before gate text Fresh heard spoke user number coming client.Heartbeat h = (only_matched before gate coming h.0, append-nil text ∙ h.1)
+serves_next before gate text Fresh heard spoke user number coming client.Debug h = (only_matched before gate coming h.0, append-nil text ∙ h.1)
+serves_next before gate text On heard spoke user number coming (client.Data payload) h =
+    let a = asked_by user (request_of payload) coming in
+    let more = step_settled_on gate a coming user in
+    after_pull before (settled_gate (stepped gate a) coming) text [] (max heard coming) spoke user number (later coming) coming
+    (served_more gate (settled_gate (stepped gate a) coming) text user number more.0 h refl more.1)
+serves_next before gate text On heard spoke user number coming (client.Login login) h = tt
+serves_next before gate text On heard spoke user number coming client.Logout h = tt
+serves_next before gate text On heard spoke user number coming client.Heartbeat h =
+    let more = settled_on gate coming user in
+    after_pull before (settled_gate gate coming) text [] (max heard coming) spoke user number (later coming) coming
+    (served_more gate (settled_gate gate coming) text user number more.0 h refl more.1)
+serves_next before gate text On heard spoke user number coming client.Debug h =
+    let more = settled_on gate coming user in
+    after_pull before (settled_gate gate coming) text [] (max heard coming) spoke user number (later coming) coming
+    (served_more gate (settled_gate gate coming) text user number more.0 h refl more.1)
+serves_next before gate text Waiting heard spoke user number coming packet h = absurd h
+serves_next before gate text Abandoned heard spoke user number coming packet h = absurd h
+serves_next before gate text Done heard spoke user number coming packet h = tt
+
+serves_all : (before : GateData) (packets : List ClientPacket) (run : Run) → ServesRun before run → ServesRun before (fold on_packet run packets)
+serves_all before [] run h = h
+serves_all before (packet ∷ packets) run h =
+    let c = run.connection in
+    serves_all before packets (on_packet run packet) (serves_next before run.gate run.text c.session.phase c.session.heard c.session.sent c.user c.next c.coming packet h)
+
+run_serves : (gate : GateData) (first : ℕ) (bytes : List ℕ) → ServesRun gate (run_of gate first bytes)
+unfolding run_of
+run_serves gate first bytes =
+    let nothing : HasOnlyMatched gate gate = record { policy_kept = refl; more = []; goes_on = sym (append-nil gate.records); are_matches = tt } in
+    serves_all gate (packets_of bytes).packets (opened gate first) (nothing, refl)
+
+pub served_in : (gate : GateData) (first : ℕ) (bytes : List ℕ) (phase : Phase) → (run_of gate first bytes).connection.session.phase ≡ phase
+    → let run = run_of gate first bytes in Serves gate run.gate run.text run.connection.user run.connection.next phase
+served_in gate first bytes phase e =
+    let run = run_of gate first bytes in
+    let P : Phase → Type 0 = λ x. Serves gate run.gate run.text run.connection.user run.connection.next x in
+    subst P e (run_serves gate first bytes)

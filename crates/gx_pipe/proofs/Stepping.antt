@@ -1,0 +1,121 @@
+-- What a step, matching steps and a pull make of a gate.
+use Rattle.std.specs.Prelude.{is_ok}
+use Rattle.std.proofs.lemmas.Bool.{cases_lt}
+use Rattle.gx_history.specs.Verdicts.{day_limit}
+use Rattle.gx_answers.specs.Steps.{IsFull}
+use Rattle.gx_answers.specs.declared.outcome.StepFault.{StepFault}
+use Rattle.gx_answers.specs.declared.outcome.StepFault.TheVariants as refusals
+use Rattle.gx_pipe.specs.Faults.{fault_of_step, HasRoom, IsToldFull}
+use Rattle.gx_devices.specs.Stopping.{AreFewer}
+use Rattle.gx_pipe.specs.Piping.{cause_of, Refused}
+use Rattle.std.proofs.Common.{◌≡◌, ℕ, ◌<◌, ◌≤◌, ◌⊎◌, inl, inr, subst, Bool, true, false, Result, Ok, Err, is_some, List, [], ◌∷◌, ◌++◌, length, Option, None, Some, option_map, refl, sym, ap, ◌∙◌, append-nil}
+use Rattle.gx_units.specs.Spelling.{folded_user}
+use Rattle.gx_units.specs.declared.names.UserName.{UserName}
+use Rattle.gx_soup.specs.declared.packet.LoginRequest.{LoginRequest}
+use Rattle.gx_history.specs.declared.record.Asked.{Asked}
+use Rattle.gx_history.specs.declared.record.RecordData.{RecordData}
+use Rattle.gx_history.specs.declared.record.Step.TheVariants as steps
+use Rattle.gx_history.specs.declared.record.Verdict.{Verdict}
+use Rattle.gx_history.specs.Verdicts.{next, verdict}
+use Rattle.gx_history_laws.proofs.Granting.{verdict_of_next}
+use Rattle.gx_history.specs.Matching.{matching}
+use Rattle.gx_history.specs.Settling.{AddsMatches}
+use Rattle.gx_history.specs.Verdicts.{IsLegal}
+use Rattle.gx_effects.proofs.Orderly.{legal_is_orderly}
+use Rattle.gx_effects.proofs.Settling.{settled_adds, settled_ends, settled_idle}
+use Rattle.gx_answers.specs.Gates.{GateData, left_by, matched_by}
+use Rattle.gx_answers.specs.Matches.{matching_of, next_match, with_match, settled_gate, IsSettling}
+use Rattle.gx_answers.specs.Logins.{login_answered}
+use Rattle.gx_answers.specs.declared.outcome.LoginAnswer.{LoginAnswer}
+use Rattle.gx_answers.specs.declared.outcome.Outcome.{Outcome}
+use Rattle.gx_core.proofs.Stepped.{stepped_is}
+use Rattle.gx_answers.specs.Asking.{stepped}
+use Rattle.gx_pipe.specs.Steps.{login_asked_at, login_told}
+
+-- what a login is told
+pub told_is : (gate : GateData) (moment : ℕ) (login : LoginRequest) (after : GateData) (a : Asked) (o : Outcome) (user : UserName) (answer : LoginAnswer)
+    → a ≡ login_asked_at gate moment login → after.policy ≡ gate.policy → next gate.policy gate.records (steps.Asked a) ≡ Some (left_by a o)
+    → after.records ≡ gate.records ++ left_by a o ∷ [] → user ≡ folded_user login.user
+    → answer ≡ login_answered after.policy after.records user login.wanted o.verdict → answer ≡ login_told gate moment login
+unfolding login_told
+told_is gate moment login after a o user answer asked p n r u e =
+    let s : after ≡ stepped gate a = stepped_is gate after a o p n r in
+    let v : o.verdict ≡ verdict gate.policy gate.records a = verdict_of_next gate.policy gate.records a (left_by a o) n in
+    e ∙ (ap (λ (x : GateData). login_answered x.policy x.records user login.wanted o.verdict) s
+    ∙ (ap (λ (x : UserName). login_answered gate.policy (stepped gate a).records x login.wanted o.verdict) u
+    ∙ (ap (λ (x : Verdict). login_answered gate.policy (stepped gate a).records (folded_user login.user) login.wanted x) v
+    ∙ ap (λ (x : Asked). login_answered gate.policy (stepped gate x).records (folded_user login.user) login.wanted (verdict gate.policy gate.records x)) asked)))
+
+-- where no step more is to be made, all are
+pub settled_here : (before now after : GateData) (moment : ℕ) (found : Option Outcome) → is_some found ≡ false → IsSettling before moment now
+    → next_match now moment ≡ option_map (matched_by moment) found → after ≡ with_match now moment found → after ≡ settled_gate before moment
+settled_here before now after moment None none s left e =
+    e ∙ (sym (ap (λ (rs : List RecordData). record { policy = now.policy; records = rs }) (settled_idle now.policy now.records moment left)) ∙ s.goes_on)
+settled_here before now after moment (Some o) none s left e = cc
+
+-- a step that is never refused was not
+pub was_refusable : {T E : Type 0} (sure : Bool) (r : Result T E) (e : E) → (sure ≡ true → is_ok r ≡ true) → r ≡ Err e → sure ≡ false
+was_refusable true r e never refused = let clash : false ≡ true = sym (ap is_ok refused) ∙ never refl in cc
+was_refusable false r e never refused = refl
+
+-- want of memory is told only where the day has room, and a full day only where it has none
+pub told_full : {T : Type 0} (gate after : GateData) (sure : Bool) (r : Result T StepFault) (e : StepFault) → after ≡ gate → (sure ≡ true → is_ok r ≡ true)
+    → (day_limit ≤ length gate.records → sure ≡ false → r ≡ Err refusals.DayFull) → (e ≡ refusals.DayFull → day_limit ≤ length gate.records) → r ≡ Err e → IsToldFull after e
+told_full gate after sure r refusals.DayFull same never full day is = subst (λ (g : GateData). day_limit ≤ length g.records) (sym same) (day refl)
+told_full gate after sure r refusals.OutOfMemory same never full day is = subst HasRoom (sym same) (by (cases_lt (length gate.records) day_limit))
+  where
+    not_both : day_limit ≤ length gate.records → (b : Bool) → sure ≡ b → ⊥
+    not_both h true is_sure = let clash : false ≡ true = sym (ap is_ok is) ∙ never is_sure in cc
+    not_both h false unsure = let clash : Err refusals.DayFull ≡ Err refusals.OutOfMemory = sym (full h unsure) ∙ is in cc
+
+    by : (length gate.records < day_limit) ⊎ (day_limit ≤ length gate.records) → HasRoom gate
+    by (inl h) = h
+    by (inr h) = absurd (not_both h sure refl)
+
+pub match_told_full : {T F : Type 0} (gate after : GateData) (found : Option F) (none : T) (r : Result T StepFault) (e : StepFault) → after ≡ gate → (found ≡ None → r ≡ Ok none)
+    → (is_some found ≡ true → day_limit ≤ length gate.records → r ≡ Err refusals.DayFull) → (e ≡ refusals.DayFull → day_limit ≤ length gate.records) → r ≡ Err e → IsToldFull after e
+match_told_full gate after found none r refusals.DayFull same idle full day is = subst (λ (g : GateData). day_limit ≤ length g.records) (sym same) (day refl)
+match_told_full {T} {F} gate after found none r refusals.OutOfMemory same idle full day is = subst HasRoom (sym same) (by (cases_lt (length gate.records) day_limit))
+  where
+    not_both : day_limit ≤ length gate.records → (x : Option F) → found ≡ x → ⊥
+    not_both h None idles = let clash : Err refusals.OutOfMemory ≡ Ok none = sym is ∙ idle idles in cc
+    not_both h (Some x) waits = let clash : Err refusals.DayFull ≡ Err refusals.OutOfMemory = sym (full (ap is_some waits) h) ∙ is in cc
+
+    by : (length gate.records < day_limit) ⊎ (day_limit ≤ length gate.records) → HasRoom gate
+    by (inl h) = h
+    by (inr h) = absurd (not_both h found refl)
+
+-- as a connection tells it
+pub of_step : (gate after : GateData) (e : StepFault) → after ≡ gate → IsToldFull after e → Refused (cause_of (fault_of_step e)) gate.records
+of_step gate after refusals.OutOfMemory same h = subst HasRoom same h
+of_step gate after refusals.DayFull same h = subst IsFull same h
+
+-- where an order waits, one record more is to be made
+pub settling_left : (before now : GateData) (moment : ℕ) → IsSettling before moment now → IsLegal now.policy now.records → is_some (matching_of now) ≡ true → AreFewer now.records (settled_gate before moment).records
+settling_left before now moment s legal waits =
+    subst (λ (g : GateData). AreFewer now.records g.records) s.goes_on (by adds.more adds.goes_on)
+  where
+    adds : AddsMatches now.records (settled_gate now moment).records moment
+    adds = settled_adds now.policy now.records moment
+
+    by : (more : List RecordData) → (settled_gate now moment).records ≡ now.records ++ more → AreFewer now.records (settled_gate now moment).records
+    by (r ∷ more) e = record { next = r; others = more; whole = e }
+    by [] e =
+        let none : matching_of now ≡ None =
+        ap (matching now.policy) (sym (e ∙ append-nil now.records)) ∙ settled_ends now.policy now.records moment (legal_is_orderly now.policy now.records legal) in
+        let clash : true ≡ false = sym waits ∙ ap is_some none in
+        cc
+
+-- so it was where a matching step was refused
+pub refused_left : {T : Type 0} (before now after : GateData) (moment : ℕ) (none : T) (r : Result T StepFault) (e : StepFault) → IsSettling before moment now → IsLegal now.policy now.records
+    → after ≡ now → (matching_of now ≡ None → r ≡ Ok none) → r ≡ Err e → AreFewer after.records (settled_gate before moment).records
+refused_left before now after moment none r e s legal same idle is =
+    subst (λ (g : GateData). AreFewer g.records (settled_gate before moment).records) (sym same) (settling_left before now moment s legal (by (matching_of now) refl))
+  where
+    by : (x : Option Verdict) → matching_of now ≡ x → is_some (matching_of now) ≡ true
+    by None k = let clash : Err e ≡ Ok none = sym is ∙ idle k in cc
+    by (Some v) k = ap is_some k
+
+pub of_matching : (gate : GateData) (e : StepFault) → IsToldFull gate e → Refused (cause_of (fault_of_step e)) gate.records
+of_matching gate refusals.OutOfMemory h = h
+of_matching gate refusals.DayFull h = h

@@ -1,0 +1,367 @@
+-- What an event, a login, a packet and a pull leave, whole or given up.
+use Rattle.std.proofs.Common.{◌≡◌, ℕ, ◌+◌, ◌-◌, ◌<◌, inl, inr, max, pred, nat_lt, Bool, true, false, ◌&&◌, cond, is_some, List, [], ◌∷◌, ◌++◌, length, take, drop, Option, Some, None, refl, sym, ap, ◌∙◌, subst, append_assoc, append-nil, arith, length-drop}
+use Rattle.std.proofs.lemmas.Bool.Decides.{nat_tests}
+use Rattle.std.specs.Io.KnownBytes.{Appends}
+use Rattle.std.proofs.KnownBytes.{Appends-nil, Appends-trans}
+use Rattle.gx_units.specs.Spelling.{folded_user}
+use Rattle.gx_units.specs.declared.names.UserName.{UserName}
+use Rattle.gx_soup.specs.declared.packet.LoginRequest.{LoginRequest}
+use Rattle.gx_soup.specs.declared.packet.ClientPacket.{ClientPacket}
+use Rattle.gx_soup.specs.declared.packet.ClientPacket.TheVariants as client
+use Rattle.gx_history.specs.declared.record.Request.TheVariants as requests
+use Rattle.gx_history.specs.declared.report.Report.{Report}
+use Rattle.gx_history.specs.InForce.{is_closed}
+use Rattle.gx_history.specs.Lists.{slice}
+use Rattle.gx_history.specs.Streams.{stream}
+use Rattle.gx_answers.specs.Gates.{GateData}
+use Rattle.gx_answers.specs.Told.{ends_before}
+use Rattle.gx_answers.specs.declared.outcome.LoginAnswer.{LoginAnswer}
+use Rattle.gx_answers.specs.declared.outcome.LoginAnswer.TheVariants as answers
+use Rattle.gx_pipe.specs.declared.connection.Connection.{Connection}
+use Rattle.gx_session.specs.declared.event.Control.{Control}
+use Rattle.gx_session.specs.declared.event.Next.{Next}
+use Rattle.gx_session.specs.declared.event.Reply.{Reply}
+use Rattle.gx_session.specs.declared.event.Next.TheVariants as nexts
+use Rattle.gx_pipe.specs.declared.fault.PipeFault.{PipeFault}
+use Rattle.gx_pipe.specs.declared.fault.PipeFault.TheVariants as faults
+use Rattle.gx_session.specs.declared.fault.SendFault.{SendFault}
+use Rattle.gx_session.specs.declared.fault.SendFault.TheVariants as send_faults
+use Rattle.gx_session.specs.declared.session.Phase.{Phase}
+use Rattle.gx_session.specs.declared.session.Phase.TheVariants.{Fresh, Waiting, On, Abandoned, Done}
+use Rattle.gx_devices.specs.Devices.{IsFront}
+use Rattle.gx_devices.specs.Stopping.{AreFewer, Cause, Memory, Full, Writing, Reading, IsOfSending, Mark}
+use Rattle.gx_devices.proofs.Stopping.{fewer_then, first_behind, first_same, stops_here}
+use Rattle.gx_history.specs.declared.record.RecordData.{RecordData}
+use Rattle.gx_pipe.specs.Serving.{IsOnLine}
+use Rattle.gx_pipe.proofs.Growing.{event_adds, answer_on, login_adds}
+use Rattle.gx_pipe.proofs.OnLine.{pull_keeps}
+use Rattle.gx_pipe.specs.Faults.{fault_of_send}
+use Rattle.gx_session.specs.Events.{asks_step}
+use Rattle.gx_session.specs.Happenings.{Happening}
+use Rattle.gx_session.specs.Happenings as happens
+use Rattle.gx_pipe.specs.Piping.{Standing, mark, cause_of, Refused, logout_of, IsTaken, IsUnwritten, IsGivenUp, IsTurnGivenUp, GivesAll, reported_of, told_of, pull_marks, StopsIn}
+use Rattle.gx_answers.specs.Asking.{asked_by, stepped}
+use Rattle.gx_pipe.specs.Steps.{login_asked_at, login_told}
+use Rattle.gx_session.specs.Table.{SessionData, row_in, turn}
+use Rattle.gx_session.specs.Sending.{control_bytes, control_text, reports_text}
+use Rattle.gx_pipe.specs.Transcript.{Run, run_at, and_then, with_text, silent, acted, on_event, first_told, logged_in, login_in, with_login, answered, sent, unsent, is_on, pulled}
+use Rattle.gx_core.proofs.Stepped.{all_taken}
+
+-- Rows of the table.
+
+row_answered : (p : Phase) (a : LoginAnswer) (silent quiet : Bool) → p ≡ Waiting → asks_step (row_in p (happens.Answered a) silent quiet).reply.next ≡ false
+row_answered Fresh a silent quiet h = cc
+row_answered Waiting (answers.Accepted name next) silent quiet h = refl
+row_answered Waiting (answers.Rejected reason) silent quiet h = refl
+row_answered On a silent quiet h = cc
+row_answered Abandoned a silent quiet h = cc
+row_answered Done a silent quiet h = cc
+
+answer_asks_nothing : (session : SessionData) (a : LoginAnswer) (moment : ℕ) → session.phase ≡ Waiting → asks_step (turn session (happens.Answered a) moment).reply.next ≡ false
+unfolding turn
+answer_asks_nothing session a moment h = row_answered session.phase a _ _ h
+
+row_packet : (p : Phase) (packet : ClientPacket) (silent quiet : Bool) → (row_in p (happens.Packet packet) silent quiet).reply.send ≡ None
+row_packet Fresh (client.Login login) silent quiet = refl
+row_packet Fresh (client.Data payload) silent quiet = refl
+row_packet Fresh client.Logout silent quiet = refl
+row_packet Fresh client.Heartbeat silent quiet = refl
+row_packet Fresh client.Debug silent quiet = refl
+row_packet Waiting packet silent quiet = refl
+row_packet On (client.Login login) silent quiet = refl
+row_packet On (client.Data payload) silent quiet = refl
+row_packet On client.Logout silent quiet = refl
+row_packet On client.Heartbeat silent quiet = refl
+row_packet On client.Debug silent quiet = refl
+row_packet Abandoned packet silent quiet = refl
+row_packet Done packet silent quiet = refl
+
+pub packet_is_silent : (session : SessionData) (packet : ClientPacket) (moment : ℕ) → (turn session (happens.Packet packet) moment).reply.send ≡ None
+unfolding turn
+packet_is_silent session packet moment = row_packet session.phase packet _ _
+
+-- a login is asked for by one who is not on, and then waits
+record WaitsFor (before after : Phase) : Type 0 where
+  fresh : is_on before ≡ false
+  waiting : after ≡ Waiting
+
+row_login : (p : Phase) (packet : ClientPacket) (silent quiet : Bool) → (row_in p (happens.Packet packet) silent quiet).reply.next ≡ nexts.Login → WaitsFor p (row_in p (happens.Packet packet) silent quiet).phase
+row_login Fresh (client.Login login) silent quiet h = record { fresh = refl; waiting = refl }
+row_login Fresh (client.Data payload) silent quiet h = cc
+row_login Fresh client.Logout silent quiet h = cc
+row_login Fresh client.Heartbeat silent quiet h = cc
+row_login Fresh client.Debug silent quiet h = cc
+row_login Waiting packet silent quiet h = cc
+row_login On (client.Login login) silent quiet h = cc
+row_login On (client.Data payload) silent quiet h = cc
+row_login On client.Logout silent quiet h = cc
+row_login On client.Heartbeat silent quiet h = cc
+row_login On client.Debug silent quiet h = cc
+row_login Abandoned packet silent quiet h = cc
+row_login Done packet silent quiet h = cc
+
+login_waits : (session : SessionData) (packet : ClientPacket) (moment : ℕ) → (turn session (happens.Packet packet) moment).reply.next ≡ nexts.Login → WaitsFor session.phase (turn session (happens.Packet packet) moment).session.phase
+unfolding turn
+login_waits session packet moment h = row_login session.phase packet _ _ h
+
+-- Text behind text.
+
+pub taken_behind : (text : List ℕ) (run : Run) (now : GateData) (state : Connection) (output mid left : Option (List ℕ)) → Appends output mid text → IsTaken run now state mid left → IsTaken (with_text text run) now state output left
+taken_behind text run now state output mid left w t = record { gate = t.gate; connection = t.connection; text = Appends-trans output mid left text run.text w t.text }
+
+-- nothing was written, where nothing may be
+pub of_text : (cause : Cause) (text front : List ℕ) → IsOfSending cause (front ≡ []) → IsOfSending cause (text ++ front ≡ text)
+of_text Memory text front none = ap (λ t. text ++ t) none ∙ append-nil text
+of_text Full text front h = absurd h
+of_text Writing text front h = tt
+of_text Reading text front h = absurd h
+
+-- a run that a growth stopped where it stood
+pub pauses : (run : Run) (marks : List (Mark RecordData Standing)) (now : GateData) (state : Connection) (output : Option (List ℕ)) → now ≡ run.gate → state ≡ run.connection → StopsIn run marks faults.OutOfMemory now state output output
+pauses run marks now state output same still = record {
+  stop = mark run;
+  stops = stops_here Refused (mark run) marks;
+  gate = same;
+  logout = ap logout_of still;
+  line = λ h. h;
+  told = [];
+  text = sym (append-nil run.text);
+  written = Appends-nil output;
+}
+
+-- a packet of the session's own was not sent
+pub unwritten : (run : Run) (fault : SendFault) (now : GateData) (state : Connection) (output left : Option (List ℕ)) → now ≡ run.gate → logout_of state ≡ logout_of run.connection → IsFront output left run.text
+    → (fault ≡ send_faults.OutOfMemory → Appends output left []) → IsUnwritten run (fault_of_send fault) now state output left
+unwritten run send_faults.OutOfMemory now state output left g l f none = record { gate = g; logout = l; text = record { front = []; rest = run.text; written = none refl; whole = refl }; sending = refl }
+unwritten run send_faults.WriteFailed now state output left g l f none = record { gate = g; logout = l; text = f; sending = tt }
+
+pub turn_unwritten : (gate : GateData) (c : Connection) (event : Happening) (moment : ℕ) (reply : Reply) (session : SessionData) (control : Control) (fault : SendFault) (now : GateData) (output left : Option (List ℕ)) → reply ≡ (turn c.session event moment).reply → session ≡ (turn c.session event moment).session
+    → reply.send ≡ Some control → now ≡ acted gate c.user moment reply.next → IsFront output left (control_bytes control) → (fault ≡ send_faults.OutOfMemory → Appends output left [])
+    → IsTurnGivenUp gate c event moment (fault_of_send fault) now (record c { session = session }) output left
+unfolding on_event
+turn_unwritten gate c event moment reply session control fault now output left r s sends acts f none =
+    let sent : (turn c.session event moment).reply.send ≡ Some control = ap (λ (x : Reply). x.send) (sym r) ∙ sends in
+    inr (
+      ap is_some sent,
+      unwritten (on_event gate c event moment) fault now (record c { session = session }) output left (acts ∙ ap (λ (x : Reply). acted gate c.user moment x.next) r)
+          (ap (λ (x : SessionData). logout_of (record c { session = x })) s) (subst (λ (x : Option Control). IsFront output left (control_text x)) (sym sent) f) none,
+    )
+
+-- A login.
+
+logged_in_is : (gate gate' : GateData) (c : Connection) (login : LoginRequest) (moment : ℕ) (answer : LoginAnswer) (next : ℕ) → gate' ≡ stepped gate (login_asked_at gate moment login) → answer ≡ login_told gate moment login → next ≡ first_told answer → logged_in gate c login moment ≡ on_event gate' (record c { user = login.user; next = next }) (happens.Answered answer) moment
+unfolding logged_in
+logged_in_is gate gate' c login moment answer next g a n =
+    ap (λ (x : LoginAnswer). on_event (stepped gate (login_asked_at gate moment login)) (record c { user = login.user; next = first_told x }) (happens.Answered x) moment) (sym a)
+    ∙ (ap (λ x. on_event x (record c { user = login.user; next = first_told answer }) (happens.Answered answer) moment) (sym g)
+    ∙ ap (λ k. on_event gate' (record c { user = login.user; next = k }) (happens.Answered answer) moment) (sym n))
+
+pub log_in_cut : (gate gate' : GateData) (c : Connection) (login : LoginRequest) (moment : ℕ) (answer : LoginAnswer) (next : ℕ) → c.session.phase ≡ Waiting → gate' ≡ stepped gate (login_asked_at gate moment login) → answer ≡ login_told gate moment login → next ≡ first_told answer → (fault : PipeFault) (now : GateData) (state : Connection) (output left : Option (List ℕ)) → IsTurnGivenUp gate' (record c { user = login.user; next = next }) (happens.Answered answer) moment fault now state output left → IsGivenUp gate c (logged_in gate c login moment) fault now state output left
+log_in_cut gate gate' c login moment answer next waiting g a n fault now state output left (inl h) =
+    let quiet = answer_asks_nothing c.session answer moment waiting in
+    let asks = h.0 in
+    cc
+log_in_cut gate gate' c login moment answer next waiting g a n fault now state output left (inr h) =
+    inr (subst (λ r. IsUnwritten r fault now state output left) (sym (logged_in_is gate gate' c login moment answer next g a n)) h.1)
+
+-- a login whose step was refused
+pub login_undone : (gate now : GateData) (c : Connection) (login : LoginRequest) (moment : ℕ) (fault : PipeFault) (output : Option (List ℕ)) → now ≡ gate → Refused (cause_of fault) gate.records
+    → IsGivenUp gate c (logged_in gate c login moment) fault now c output output
+login_undone gate now c login moment fault output same cause = inl (login_adds gate c moment login, record { gate_is = same; logout = refl; cause = cause; written = Appends-nil output })
+
+-- A packet.
+
+pub packet_cut : (gate : GateData) (c : Connection) (packet : ClientPacket) (moment : ℕ) (fault : PipeFault) (now : GateData) (state : Connection) (output left : Option (List ℕ)) → IsTurnGivenUp gate c (happens.Packet packet) moment fault now state output left → IsGivenUp gate c (answered gate c packet moment) fault now state output left
+packet_cut gate c packet moment fault now state output left (inl h) = inl (fewer_then _ _ _ (event_adds gate c (happens.Packet packet) moment h.0) (answer_on gate c packet moment), h.1)
+packet_cut gate c packet moment fault now state output left (inr h) =
+    let quiet = packet_is_silent c.session packet moment in
+    let sends = h.0 in
+    let clash : is_some {T = Control} None ≡ true = ap is_some (sym quiet) ∙ sends in
+    cc
+
+pub login_is_waiting : (gate : GateData) (c : Connection) (packet : ClientPacket) (moment : ℕ) (next : Next) (now : GateData) (state : Connection) (output left : Option (List ℕ)) → next ≡ (turn c.session (happens.Packet packet) moment).reply.next → next ≡ nexts.Login → IsTaken (on_event gate c (happens.Packet packet) moment) now state output left → state.session.phase ≡ Waiting
+unfolding on_event
+login_is_waiting gate c packet moment next now state output left n is t =
+    ap (λ (x : Connection). x.session.phase) t.connection ∙ (login_waits c.session packet moment (sym n ∙ is)).waiting
+
+-- A packet that asks for a login.
+
+module _ (gate : GateData) (c : Connection) (packet : ClientPacket) (moment : ℕ) (login : LoginRequest) (now : GateData) (state : Connection) (output mid : Option (List ℕ)) (asks : (turn c.session (happens.Packet packet) moment).reply.next ≡ nexts.Login) (is : packet ≡ client.Login login) (told : IsTaken (on_event gate c (happens.Packet packet) moment) now state output mid) where
+  same_gate : now ≡ gate
+  unfolding on_event
+  same_gate = told.gate ∙ ap (λ n. acted_by n) asks
+    where
+      acted_by : Next → GateData
+      acted_by n = acted gate c.user moment n
+
+  nothing_sent : Appends output mid []
+  unfolding on_event
+  nothing_sent = subst (λ s. Appends output mid (control_text s)) (packet_is_silent c.session packet moment) told.text
+
+  before_is_out : logout_of c ≡ None
+  before_is_out = ap (λ b. cond b (Some (asked_by c.user requests.Logout c.session.heard)) None) (login_waits c.session packet moment asks).fresh
+
+  after_is_out : logout_of state ≡ None
+  unfolding on_event
+  after_is_out =
+      ap logout_of told.connection
+      ∙ ap (λ p. cond (is_on p) (Some (asked_by c.user requests.Logout (turn c.session (happens.Packet packet) moment).session.heard)) None) (login_waits c.session packet moment asks).waiting
+
+  answered_is : answered gate c packet moment ≡ logged_in now state login moment
+  unfolding answered on_event
+  answered_is =
+      ap (λ s. with_text (control_text s) (with_login (on_event gate c (happens.Packet packet) moment).gate (on_event gate c (happens.Packet packet) moment).connection moment (login_in packet (turn c.session (happens.Packet packet) moment).reply.next))) (packet_is_silent c.session packet moment)
+      ∙ (ap (λ n. with_login (on_event gate c (happens.Packet packet) moment).gate (on_event gate c (happens.Packet packet) moment).connection moment (login_in packet n)) asks
+      ∙ (ap (λ p. with_login (on_event gate c (happens.Packet packet) moment).gate (on_event gate c (happens.Packet packet) moment).connection moment (login_in p nexts.Login)) is
+      ∙ (ap (λ x. logged_in x (on_event gate c (happens.Packet packet) moment).connection login moment) (sym told.gate)
+      ∙ ap (λ x. logged_in now x login moment) (sym told.connection))))
+
+  pub login_cut : (fault : PipeFault) (then : GateData) (after : Connection) (left : Option (List ℕ)) → IsGivenUp now state (logged_in now state login moment) fault then after mid left → IsGivenUp gate c (answered gate c packet moment) fault then after output left
+  login_cut fault then after left (inl h) =
+      let u = h.1 in
+      let fewer : AreFewer gate.records (answered gate c packet moment).gate.records =
+      subst (λ (r : Run). AreFewer gate.records r.gate.records) (sym answered_is) (subst (λ (g : GateData). AreFewer g.records (logged_in now state login moment).gate.records) same_gate h.0) in
+      inl (fewer, record { gate_is = u.gate_is ∙ same_gate; logout = u.logout ∙ (after_is_out ∙ sym before_is_out); cause = subst (λ (g : GateData). Refused (cause_of fault) g.records) same_gate u.cause; written = Appends-trans output mid left [] [] nothing_sent u.written })
+  login_cut fault then after left (inr u) =
+      inr (subst (λ r. IsUnwritten r fault then after output left) (sym answered_is) (record { gate = u.gate; logout = u.logout; text = record { front = u.text.front; rest = u.text.rest; written = Appends-trans output mid left [] u.text.front nothing_sent u.text.written; whole = u.text.whole }; sending = u.sending }))
+
+-- A pull.
+
+first_of : (next : ℕ) → pred (max 1 next) ≡ next - 1
+first_of next = grind arith
+
+past_all : (n next : ℕ) → nat_lt n (max 1 next + (n - (next - 1))) ≡ true
+past_all n next = grind (arith, nat_tests)
+
+-- fewer than were asked for are all
+pub gives_all : (gate : GateData) (c : Connection) (user : UserName) (reports : List Report) (next : ℕ) (ended : Bool) (most : ℕ) → user ≡ folded_user c.user → reports ≡ slice (stream gate.policy gate.records user) c.next most → length reports < most → next ≡ max 1 c.next + length reports → ended ≡ ends_before gate user next → GivesAll gate c reports next ended
+gives_all gate c user reports next ended most u given few n e =
+    let owed = stream gate.policy gate.records user in
+    let place : slice owed c.next most ≡ take most (drop (c.next - 1) owed) = ap (λ k. take most (drop k owed)) (first_of c.next) in
+    let IsFew : List Report → Type 0 = λ xs. length xs < most in
+    let taken : length (take most (drop (c.next - 1) owed)) < most = subst IsFew (given ∙ place) few in
+    let all : reports ≡ drop (c.next - 1) owed = given ∙ (place ∙ all_taken (drop (c.next - 1) owed) most taken) in
+    let left : length reports ≡ length owed - (c.next - 1) = ap length all ∙ length-drop (c.next - 1) owed in
+    let past : nat_lt (length owed) next ≡ true = ap (nat_lt (length owed)) (n ∙ ap (λ k. max 1 c.next + k) left) ∙ past_all (length owed) c.next in
+    record {
+      reports_are = all ∙ ap (λ x. drop (c.next - 1) (stream gate.policy gate.records x)) u;
+      next_is = n;
+      ended_is = e ∙ (ap (λ b. is_closed gate.records && b) past ∙ and_true (is_closed gate.records));
+    }
+  where
+    and_true : (b : Bool) → (b && true) ≡ b
+    and_true true = refl
+    and_true false = refl
+
+module _ (gate : GateData) (c : Connection) (moment : ℕ) (reports : List Report) (count next : ℕ) (ended : Bool) (on : is_on c.session.phase ≡ true) (all : GivesAll gate c reports next ended) (counted : count ≡ length reports) where
+  abbrev pub turned : Run
+  turned = on_event gate (record c { next = next }) (happens.Pulled count ended) moment
+
+  pulled_is : pulled gate c moment ≡ with_text (reports_text reports) turned
+  unfolding pulled sent
+  pulled_is =
+      ap (λ b. cond b (sent gate c (unsent gate c) moment) (silent gate c)) on
+      ∙ (ap (λ xs. sent gate c xs moment) (sym all.reports_are)
+      ∙ (ap (λ k. with_text (reports_text reports) (on_event gate (record c { next = k }) (happens.Pulled (length reports) (is_closed gate.records)) moment)) (sym all.next_is)
+      ∙ (ap (λ b. with_text (reports_text reports) (on_event gate (record c { next = next }) (happens.Pulled (length reports) b) moment)) (sym all.ended_is)
+      ∙ ap (λ n. with_text (reports_text reports) (on_event gate (record c { next = next }) (happens.Pulled n ended) moment)) (sym counted))))
+
+  pub pull_done : (now : GateData) (state : Connection) (output mid left : Option (List ℕ)) → Appends output mid (reports_text reports) → IsTaken turned now state mid left → IsTaken (pulled gate c moment) now state output left
+  pull_done now state output mid left w t =
+      subst (λ r. IsTaken r now state output left) (sym pulled_is) (taken_behind (reports_text reports) turned now state output mid left w t)
+
+  module _ (text : List ℕ) (more : List (Mark RecordData Standing)) where
+    abbrev here : Run
+    here = run_at gate c text
+
+    abbrev behind : Run
+    behind = run_at gate (record c { next = next }) (text ++ reports_text reports)
+
+    -- the marks are these
+    marks_are : pull_marks here moment ≡ mark behind ∷ mark (and_then behind (λ g k. on_event g k (happens.Pulled count ended) moment)) ∷ []
+    marks_are =
+        ap (λ b. cond b (mark (reported_of here) ∷ mark (told_of (reported_of here) (length (unsent gate c)) moment) ∷ []) []) on
+        ∙ ap (λ xs. marks_by (reports_text xs) (max 1 c.next + length xs) (length xs) (is_closed gate.records)) (sym all.reports_are)
+        ∙ ap (λ n. marks_by (reports_text reports) n (length reports) (is_closed gate.records)) (sym all.next_is)
+        ∙ ap (λ b. marks_by (reports_text reports) next (length reports) b) (sym all.ended_is)
+        ∙ ap (λ n. marks_by (reports_text reports) next n ended) (sym counted)
+      where
+        marks_by : List ℕ → ℕ → ℕ → Bool → List (Mark RecordData Standing)
+        marks_by told number n closed =
+            let run = run_at gate (record c { next = number }) (text ++ told) in
+            mark run ∷ mark (and_then run (λ g k. on_event g k (happens.Pulled n closed) moment)) ∷ []
+
+    stops_there : (fault : PipeFault) (now : GateData) (state : Connection) (output left : Option (List ℕ))
+        → StopsIn here ((mark behind ∷ mark (and_then behind (λ g k. on_event g k (happens.Pulled count ended) moment)) ∷ []) ++ more) fault now state output left
+        → StopsIn here (pull_marks here moment ++ more) fault now state output left
+    stops_there fault now state output left h = subst (λ ms. StopsIn here (ms ++ more) fault now state output left) (sym marks_are) h
+
+    pub pull_unsent : (fault : SendFault) (output left : Option (List ℕ)) → IsFront output left (reports_text reports) → (fault ≡ send_faults.OutOfMemory → Appends output left [])
+        → StopsIn here (pull_marks here moment ++ more) (fault_of_send fault) gate c output left
+    pull_unsent fault output left f none = stops_there (fault_of_send fault) gate c output left (sends fault f none)
+      where
+        at : (e : PipeFault) (front : IsFront output left (reports_text reports)) → IsOfSending (cause_of e) (front.front ≡ [])
+            → StopsIn here ((mark behind ∷ mark (and_then behind (λ g k. on_event g k (happens.Pulled count ended) moment)) ∷ []) ++ more) e gate c output left
+        at e front sending = record {
+          stop = record { records = gate.records; text = text ++ front.front; known = record { policy = gate.policy; connection = record c { next = next } } };
+          stops = inr (inl (inr (record {
+            records = refl;
+            known = refl;
+            begun = record { others = front.front; whole = refl };
+            left = first_behind text front.front (reports_text reports) (record { others = front.rest; whole = front.whole });
+            sending = of_text (cause_of e) text front.front sending;
+          })));
+          gate = refl;
+          logout = refl;
+          line = λ h. h;
+          told = front.front;
+          text = refl;
+          written = front.written;
+        }
+
+        sends : (e : SendFault) → IsFront output left (reports_text reports) → (e ≡ send_faults.OutOfMemory → Appends output left [])
+            → StopsIn here ((mark behind ∷ mark (and_then behind (λ g k. on_event g k (happens.Pulled count ended) moment)) ∷ []) ++ more) (fault_of_send e) gate c output left
+        sends send_faults.OutOfMemory front n = at faults.OutOfMemory (record { front = []; rest = reports_text reports; written = n refl; whole = refl }) refl
+        sends send_faults.WriteFailed front n = at faults.WriteFailed front tt
+
+    pub pull_unturned : (fault : PipeFault) (now : GateData) (state : Connection) (output mid left : Option (List ℕ)) → Appends output mid (reports_text reports) → IsTurnGivenUp gate (record c { next = next }) (happens.Pulled count ended) moment fault now state mid left
+        → StopsIn here (pull_marks here moment ++ more) fault now state output left
+    pull_unturned fault now state output mid left w (inl h) = stops_there fault now state output left (record {
+      stop = mark behind;
+      stops = inr (inr (inr (inl (inl (
+        h.1.cause,
+        record {
+          made = first_same gate.records gate.records refl;
+          left = event_adds gate (record c { next = next }) (happens.Pulled count ended) moment h.0;
+          text = refl;
+          known = refl;
+        },
+      )))));
+      gate = h.1.gate_is;
+      logout = h.1.logout;
+      line = λ k. k;
+      told = reports_text reports;
+      text = refl;
+      written = subst (Appends output left) (append-nil (reports_text reports)) (Appends-trans output mid left (reports_text reports) [] w h.1.written);
+    })
+    pull_unturned fault now state output mid left w (inr h) = stops_there fault now state output left (record {
+      stop = record { records = turned.gate.records; text = (text ++ reports_text reports) ++ h.1.text.front; known = record { policy = turned.gate.policy; connection = turned.connection } };
+      stops = inr (inr (inr (inl (inr (record {
+        records = refl;
+        known = refl;
+        begun = record { others = h.1.text.front; whole = refl };
+        left = first_behind (text ++ reports_text reports) h.1.text.front turned.text (record { others = h.1.text.rest; whole = h.1.text.whole });
+        sending = of_text (cause_of fault) (text ++ reports_text reports) h.1.text.front h.1.sending;
+      })))));
+      gate = h.1.gate;
+      logout = h.1.logout;
+      line = λ k. subst (λ (r : Run). IsOnLine r.gate r.connection) pulled_is (pull_keeps gate c moment k);
+      told = reports_text reports ++ h.1.text.front;
+      text = append_assoc text (reports_text reports) h.1.text.front;
+      written = Appends-trans output mid left (reports_text reports) h.1.text.front w h.1.text.written;
+    })
+
+-- a growth that no step asked for
+pub pull_pauses : (gate : GateData) (c : Connection) (moment : ℕ) (output : Option (List ℕ)) (text : List ℕ) (more : List (Mark RecordData Standing))
+    → StopsIn (run_at gate c text) (pull_marks (run_at gate c text) moment ++ more) faults.OutOfMemory gate c output output
+pull_pauses gate c moment output text more = pauses (run_at gate c text) (pull_marks (run_at gate c text) moment ++ more) gate c output refl refl

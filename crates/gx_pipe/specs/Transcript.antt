@@ -1,0 +1,170 @@
+-- The transcript of a connection: the gate and the text that all bytes of its input lead to, by the session table.
+use Rattle.std.specs.Prelude.{ℕ, ◌+◌, ◌-◌, ◌^◌, min, max, Bool, true, false, ◌||◌, if◌then◌else◌, is_some, Option, Some, None, List, [], ◌∷◌, ◌++◌, length, drop, fold}
+use Rattle.gx_units.specs.Spelling.{folded_user}
+use Rattle.gx_units.specs.declared.names.UserName.{UserName}
+use Rattle.gx_soup.specs.declared.packet.LoginRequest.{LoginRequest}
+use Rattle.gx_soup.specs.declared.packet.ClientPacket.{ClientPacket}
+use Rattle.gx_soup.specs.declared.packet.ClientPacket.TheVariants as client
+use Rattle.gx_soup.specs.Packets.{packets_of}
+use Rattle.gx_history.specs.declared.record.Request.TheVariants as requests
+use Rattle.gx_history.specs.declared.report.Report.{Report}
+use Rattle.gx_history.specs.InForce.{is_closed}
+use Rattle.gx_history.specs.Streams.{stream}
+use Rattle.gx_answers.specs.Gates.{GateData}
+use Rattle.gx_answers.specs.Matches.{settled_gate}
+use Rattle.gx_answers.specs.declared.outcome.LoginAnswer.{LoginAnswer}
+use Rattle.gx_answers.specs.declared.outcome.LoginAnswer.TheVariants as answers
+use Rattle.gx_pipe.specs.declared.connection.Connection.{Connection}
+use Rattle.gx_session.specs.declared.event.Next.{Next}
+use Rattle.gx_session.specs.declared.event.Next.TheVariants as nexts
+use Rattle.gx_session.specs.declared.session.Phase.{Phase}
+use Rattle.gx_session.specs.declared.session.Phase.TheVariants.{Fresh, Waiting, On, Abandoned, Done}
+use Rattle.gx_session.specs.Events.{is_over}
+use Rattle.gx_session.specs.Happenings.{Happening}
+use Rattle.gx_session.specs.Happenings as happens
+use Rattle.gx_answers.specs.Asking.{asked_by, stepped}
+use Rattle.gx_pipe.specs.Steps.{login_asked_at, login_told}
+use Rattle.gx_session.specs.Sending.{control_text, reports_text}
+use Rattle.gx_session.specs.Table.{Turn, turn, new_session}
+
+-- a gate, a connection, and the text written so far
+pub record Run : Type 0 where
+  pub gate : GateData
+  pub connection : Connection
+  pub text : List ℕ
+
+abbrev pub with_text : List ℕ → Run → Run
+with_text before run = record { gate = run.gate; connection = run.connection; text = before ++ run.text }
+
+abbrev pub run_at : GateData → Connection → List ℕ → Run
+run_at gate connection text = record { gate = gate; connection = connection; text = text }
+
+-- nothing is written
+abbrev pub silent : GateData → Connection → Run
+silent gate connection = run_at gate connection []
+
+-- a run, and what follows where it stopped
+abbrev pub and_then : Run → (GateData → Connection → Run) → Run
+and_then run more = with_text run.text (more run.gate run.connection)
+
+-- the gate once the step that the session asks for is made
+abbrev pub acted : GateData → UserName → ℕ → Next → GateData
+acted gate user moment nexts.Idle = gate
+acted gate user moment nexts.Login = gate
+acted gate user moment (nexts.Act request) = stepped gate (asked_by user request moment)
+acted gate user moment nexts.Logout = stepped gate (asked_by user requests.Logout moment)
+acted gate user moment nexts.Close = gate
+
+abbrev pub by_turn : GateData → Connection → ℕ → Turn → Run
+by_turn gate connection moment t = record {
+  gate = acted gate connection.user moment t.reply.next;
+  connection = record connection { session = t.session };
+  text = control_text t.reply.send;
+}
+
+-- the session is told of an event: the step that it asks for is made, and its packet is sent
+unfoldable pub on_event : GateData → Connection → Happening → ℕ → Run
+on_event gate connection event moment = by_turn gate connection moment (turn connection.session event moment)
+
+-- the number of the first report that a login is sent
+abbrev pub first_told : LoginAnswer → ℕ
+first_told (answers.Accepted name next) = next
+first_told (answers.Rejected reason) = 0
+
+-- a login's step is made, and the session is told of its answer
+unfoldable pub logged_in : GateData → Connection → LoginRequest → ℕ → Run
+logged_in gate connection login moment =
+    on_event (stepped gate (login_asked_at gate moment login))
+    (record connection { user = login.user; next = first_told (login_told gate moment login) })
+    (happens.Answered (login_told gate moment login)) moment
+
+-- the login that a packet asks for, where the session wants it made
+abbrev pub login_in : ClientPacket → Next → Option LoginRequest
+login_in (client.Login login) nexts.Login = Some login
+login_in packet next = None
+
+abbrev pub with_login : GateData → Connection → ℕ → Option LoginRequest → Run
+with_login gate connection moment (Some login) = logged_in gate connection login moment
+with_login gate connection moment None = silent gate connection
+
+-- the session is told of a packet; where it asks for a login, that is made and answered
+unfoldable pub answered : GateData → Connection → ClientPacket → ℕ → Run
+answered gate connection packet moment =
+    and_then (on_event gate connection (happens.Packet packet) moment) (λ g c.
+    with_login g c moment (login_in packet (turn connection.session (happens.Packet packet) moment).reply.next))
+
+-- matching steps until no order waits; none once the session is over
+unfoldable pub matched : GateData → Connection → ℕ → Run
+matched gate connection moment = silent (if is_over connection.session.phase then gate else settled_gate gate moment) connection
+
+-- reports are sent, and the next number is the one after them
+abbrev pub reported : GateData → Connection → List Report → Run
+reported gate connection reports =
+    record { gate = gate; connection = record connection { next = max 1 connection.next + length reports }; text = reports_text reports }
+
+-- and the session is told how many, and whether the day is closed
+unfoldable pub sent : GateData → Connection → List Report → ℕ → Run
+sent gate connection reports moment =
+    and_then (reported gate connection reports) (λ g c.
+    on_event g c (happens.Pulled (length reports) (is_closed g.records)) moment)
+
+-- the user's stream from the next number on
+abbrev pub unsent : GateData → Connection → List Report
+unsent gate connection = drop (connection.next - 1) (stream gate.policy gate.records (folded_user connection.user))
+
+abbrev pub is_on : Phase → Bool
+is_on Fresh = false
+is_on Waiting = false
+is_on On = true
+is_on Abandoned = false
+is_on Done = false
+
+-- where a user is logged in, all reports that are there are sent
+unfoldable pub pulled : GateData → Connection → ℕ → Run
+pulled gate connection moment =
+    if is_on connection.session.phase then sent gate connection (unsent gate connection) moment else silent gate connection
+
+-- one moment later, as long as 64 bits hold it
+abbrev pub later : ℕ → ℕ
+later moment = min (moment + 1) (2 ^ 64 - 1)
+
+abbrev pub ticked : Connection → Connection
+ticked connection = record connection { coming = later connection.coming }
+
+-- a packet at its moment: the session is told of it, orders are matched until none waits, and then reports are sent;
+-- nothing once the session is over
+unfoldable pub handled : GateData → Connection → ClientPacket → Run
+handled gate connection packet =
+    if is_over connection.session.phase then silent gate connection
+    else and_then (answered gate (ticked connection) packet connection.coming) (λ g c.
+    and_then (matched g c connection.coming) (λ g c. pulled g c connection.coming))
+
+abbrev pub on_packet : Run → ClientPacket → Run
+on_packet run packet = and_then run (λ g c. handled g c packet)
+
+-- a name of spaces, before a login
+abbrev pub nobody : UserName
+nobody = record { bytes = 32 ∷ 32 ∷ 32 ∷ 32 ∷ 32 ∷ 32 ∷ [] }
+
+-- a new connection, whose first packet comes at this moment
+abbrev pub opened_at : ℕ → Connection
+opened_at first = record { session = new_session first; user = nobody; next = 0; coming = first }
+
+abbrev pub opened : GateData → ℕ → Run
+opened gate first = silent gate (opened_at first)
+
+-- after all packets of the bytes, each one moment later than the one before
+unfoldable pub run_of : GateData → ℕ → List ℕ → Run
+run_of gate first bytes = fold on_packet (opened gate first) (packets_of bytes).packets
+
+-- at a fault of the input or at its end, at the last packet's moment, a user who is logged in is logged out
+unfoldable pub finished : Run → Run
+finished run = and_then run (λ g c. on_event g c happens.End c.session.heard)
+
+-- what a connection makes of these bytes, all of its input
+unfoldable pub pipe : GateData → ℕ → List ℕ → Run
+pipe gate first bytes = finished (run_of gate first bytes)
+
+-- no further byte counts: a fault came, or the session is over
+unfoldable pub is_ended : GateData → ℕ → List ℕ → Bool
+is_ended gate first bytes = is_some (packets_of bytes).fault || is_over (run_of gate first bytes).connection.session.phase

@@ -1,0 +1,337 @@
+//! A connection: what happens to its session, done to the gate and to the writer.
+
+ghost use Rattle.std.specs.Prelude.{◌≡◌, ℕ, ◌-◌, ◌^◌, ◌<◌, ◌≤◌, List, ◌++◌, length, IfOk, IfErr, OnOk, OnErr, IsFalse, IsTrue};
+ghost use Rattle.gx_history.specs.declared.record.RecordData.{RecordData};
+ghost use Rattle.gx_answers.specs.Matches.{settled_gate, IsSettling};
+ghost use Rattle.gx_devices.specs.Stopping.{AreFewer, Mark};
+ghost use Rattle.gx_session.specs.declared.session.Phase.TheVariants.{Waiting};
+ghost use Rattle.gx_pipe.specs.Faults.{IsToldFull, IsToldRightly, IsFinite};
+ghost use Rattle.gx_pipe.specs.Faults.{fault_of_step};
+ghost use Rattle.gx_session.specs.Events.{CanAsk, asks_step, is_over};
+ghost use Rattle.gx_session.specs.Happenings.{happening};
+ghost use Rattle.gx_pipe.specs.Piping.{is_never_refused, logout_of, step_of, IsTaken, IsGivenUp};
+ghost use Rattle.gx_pipe.specs.Piping.{IsTurnGivenUp, Standing, pull_marks, packet_marks};
+ghost use Rattle.gx_pipe.specs.Piping.{StopsIn, GivesAll, IsLeaving, IsMatchedInPart};
+ghost use Rattle.gx_session.specs.Table.{turn};
+ghost use Rattle.gx_pipe.specs.Transcript.{acted, silent, on_event, logged_in, answered};
+ghost use Rattle.gx_pipe.specs.Transcript.{matched, pulled, is_on, handled, opened_at};
+ghost use Rattle.gx_pipe.specs.Transcript.{run_at, finished, first_told};
+
+use crate::asking::login_step;
+use crate::fault::PipeFault;
+use gx_answers::{LoginAnswer, Pulled, StepFault, asked, count_of};
+use gx_core::Gate;
+use gx_devices::Counted;
+use gx_history::record::Request;
+use gx_session::{Event, Next, Phase, Session, send_control, send_pulled};
+use gx_soup::{ClientPacket, LoginRequest};
+use gx_units::{OutOfMemory, UserName};
+use std::alloc::Global;
+use std::io::Write;
+
+/// A connection: its session, who asked to be logged in, and how far it has come.
+#[derive(Clone, Copy)]
+pub struct Connection {
+    pub session: Session,
+    /// Who asked to be logged in, as he wrote his name; blank before.
+    pub user: UserName,
+    /// The number of the next report that the user is sent.
+    pub next: u64,
+    /// The moment of the next packet.
+    pub coming: u64,
+}
+
+/// Makes the step that a session asks for.
+#[tactic(auto, using(crate::proofs::Stepping::told_full))]
+fn act(gate: &mut Gate, user: UserName, next: Next, moment: u64) -> Result<(), StepFault>
+    requires { CanAsk next }
+    ensures ok { OnOk result (gate.new ≡ acted gate.old user moment next) }
+    ensures err { OnErr result (gate.new ≡ gate.old) }
+    ensures step { OnErr result (IsTrue (asks_step next)) }
+    ensures sure { OnErr result (IsFalse (is_never_refused gate.old (step_of user moment next))) }
+    ensures grows { length gate.old.records ≤ length gate.new.records }
+    ensures full { IfErr result (IsToldFull gate.new) }
+{
+    match next {
+        Next::Act(request) => {
+            let _ = gate.step(asked(user, request, moment))?;
+            Ok(())
+        }
+        Next::Logout => {
+            let _ = gate.step(asked(user, Request::Logout, moment))?;
+            Ok(())
+        }
+        Next::Idle | Next::Login | Next::Close => Ok(()),
+    }
+}
+
+/// Makes matching steps at this moment until no order waits.
+///
+/// A refused step ends it. Those before it stand, and an order still waits.
+#[tactic(auto, using(crate::proofs::Stepping::match_told_full))]
+fn settle(gate: &mut Gate, moment: u64) -> Result<(), StepFault>
+    ensures ok { OnOk result (gate.new ≡ settled_gate gate.old moment) }
+    ensures err { OnErr result (IsSettling gate.old moment gate.new) }
+    ensures left { OnErr result (AreFewer
+        gate.new.records (settled_gate gate.old moment).records) }
+    ensures grows { length gate.old.records ≤ length gate.new.records }
+    ensures full { IfErr result (IsToldFull gate.new) }
+{
+    loop {
+        // What this ensures: the records are those of a legal day, on which what settles rests.
+        gate.is_legal();
+        if gate.match_one(moment)?.is_none() {
+            return Ok(());
+        }
+    }
+}
+
+impl Connection {
+    /// A new connection, whose first packet comes at this moment.
+    pub(crate) fn new(first: u64) -> Connection
+        ensures { result ≡ opened_at first }
+    {
+        Connection {
+            session: Session::new(first),
+            user: UserName { bytes: *b"      " },
+            next: 0,
+            coming: first,
+        }
+    }
+
+    /// Tells the session of an event: makes the step that it asks for, and sends its packet.
+    /// Answers what it asked for.
+    ///
+    /// Where the step is refused, the session stands as before the event.
+    #[tactic(auto, using(crate::proofs::Stepping::of_step), unfolding(crate::specs::Transcript::on_event))]
+    fn turn<W: Write>(
+        &mut self,
+        alloc: Global,
+        gate: &mut Gate,
+        event: Event<'_>,
+        moment: u64,
+        writer: &mut Counted<W>,
+    ) -> Result<Next, PipeFault>
+        requires { writer.old.failed < 2 ^ 64 - 1 }
+        ensures next { IfOk result (λ next.
+            next ≡ (turn self.old.session (happening event.entry) moment).reply.next) }
+        ensures ok { OnOk result (IsTaken
+            (on_event gate.old self.old (happening event.entry) moment) gate.new self.new
+            (W.contents writer.old.device) (W.contents writer.new.device)) }
+        ensures err { IfErr result (λ fault. IsTurnGivenUp gate.old self.old
+            (happening event.entry) moment fault gate.new self.new
+            (W.contents writer.old.device) (W.contents writer.new.device)) }
+        ensures kept { OnOk result (writer.new.failed ≡ writer.old.failed) }
+        ensures told { IfErr result (IsToldRightly
+            0 0 writer.old.failed writer.new.failed gate.new) }
+    {
+        let mut session = self.session;
+        let reply = session.on(event, moment);
+        act(gate, self.user, reply.next, moment)?;
+        self.session = session;
+        if let Some(control) = reply.send {
+            send_control(alloc, control, writer)?;
+        }
+        Ok(reply.next)
+    }
+
+    /// Makes a login's step, and tells the session of its answer.
+    #[tactic(auto, using(crate::proofs::Stepping::of_step), unfolding(crate::specs::Transcript::logged_in))]
+    fn log_in<W: Write>(
+        &mut self,
+        alloc: Global,
+        gate: &mut Gate,
+        login: &LoginRequest,
+        moment: u64,
+        writer: &mut Counted<W>,
+    ) -> Result<(), PipeFault>
+        requires waiting { self.old.session.phase ≡ Waiting }
+        requires writer { writer.old.failed < 2 ^ 64 - 1 }
+        ensures ok { OnOk result (IsTaken (logged_in gate.old self.old login.now moment)
+            gate.new self.new (W.contents writer.old.device) (W.contents writer.new.device)) }
+        ensures err { IfErr result (λ fault. IsGivenUp gate.old self.old
+            (logged_in gate.old self.old login.now moment) fault gate.new self.new
+            (W.contents writer.old.device) (W.contents writer.new.device)) }
+        ensures kept { OnOk result (writer.new.failed ≡ writer.old.failed) }
+        ensures told { IfErr result (IsToldRightly
+            0 0 writer.old.failed writer.new.failed gate.new) }
+    {
+        let answer = login_step(gate, moment, login)?;
+        self.user = login.user;
+        self.next = first_told(answer);
+        self.turn(alloc, gate, Event::Answered(answer), moment, writer)?;
+        Ok(())
+    }
+
+    /// Tells the session of a packet; where it asks for a login, makes and answers it.
+    #[tactic(auto, unfolding(crate::specs::Transcript::answered))]
+    fn answer<W: Write>(
+        &mut self,
+        alloc: Global,
+        gate: &mut Gate,
+        packet: &ClientPacket,
+        moment: u64,
+        writer: &mut Counted<W>,
+    ) -> Result<(), PipeFault>
+        requires { writer.old.failed < 2 ^ 64 - 1 }
+        ensures ok { OnOk result (IsTaken (answered gate.old self.old packet.now moment)
+            gate.new self.new (W.contents writer.old.device) (W.contents writer.new.device)) }
+        ensures err { IfErr result (λ fault. IsGivenUp gate.old self.old
+            (answered gate.old self.old packet.now moment) fault gate.new self.new
+            (W.contents writer.old.device) (W.contents writer.new.device)) }
+        ensures kept { OnOk result (writer.new.failed ≡ writer.old.failed) }
+        ensures told { IfErr result (IsToldRightly
+            0 0 writer.old.failed writer.new.failed gate.new) }
+    {
+        let next = self.turn(alloc, gate, Event::Packet(packet), moment, writer)?;
+        match (next, packet) {
+            (Next::Login, ClientPacket::Login(login)) => {
+                self.log_in(alloc, gate, login, moment, writer)
+            }
+            _ => Ok(()),
+        }
+    }
+
+    /// Makes the matching steps that follow a packet; none once the session is over.
+    #[tactic(auto, using(crate::proofs::Stepping::of_matching), unfolding(crate::specs::Transcript::matched))]
+    fn match_orders(&self, gate: &mut Gate, moment: u64) -> Result<(), StepFault>
+        ensures ok { OnOk result (gate.new ≡ (matched gate.old self.now moment).gate) }
+        ensures err { IfErr result (λ refused. IsMatchedInPart
+            gate.old self.now moment (fault_of_step refused) gate.new) }
+        ensures full { IfErr result (IsToldFull gate.new) }
+    {
+        if self.is_over() {
+            return Ok(());
+        }
+        settle(gate, moment)
+    }
+
+    /// All reports that are there.
+    fn reports(&self, gate: &Gate) -> Result<Pulled, OutOfMemory>
+        ensures all { IfOk result (λ p. GivesAll gate.now self.now p.reports p.next p.ended) }
+    {
+        let pulled = gate.reports(self.user.folded(), self.next, u64::MAX)?;
+        let _few = count_of(pulled.reports.as_slice());
+        Ok(pulled)
+    }
+
+    /// Sends all reports that are there, where a user is logged in, and tells the session of them.
+    #[tactic(auto, unfolding(crate::specs::Transcript::pulled, crate::specs::Transcript::sent))]
+    fn pull<W: Write>(
+        &mut self,
+        alloc: Global,
+        gate: &mut Gate,
+        moment: u64,
+        writer: &mut Counted<W>,
+    ) -> Result<(), PipeFault>
+        requires { writer.old.failed < 2 ^ 64 - 1 }
+        ensures ok { OnOk result (IsTaken (pulled gate.old self.old moment)
+            gate.new self.new (W.contents writer.old.device) (W.contents writer.new.device)) }
+        ensures err { IfErr result (λ fault. (text : List ℕ)
+            (more : List (Mark RecordData Standing)) → StopsIn
+            (run_at gate.old self.old text)
+            (pull_marks (run_at gate.old self.old text) moment ++ more)
+            fault gate.new self.new
+            (W.contents writer.old.device) (W.contents writer.new.device)) }
+        ensures kept { OnOk result (writer.new.failed ≡ writer.old.failed) }
+        ensures finite { IfErr result IsFinite }
+        ensures told { IfErr result (IsToldRightly
+            0 0 writer.old.failed writer.new.failed gate.new) }
+    {
+        if !self.is_on() {
+            return Ok(());
+        }
+        let pulled = self.reports(gate)?;
+        let count = count_of(pulled.reports.as_slice());
+        let ended = pulled.ended;
+        send_pulled(alloc, &pulled, writer)?;
+        self.next = pulled.next;
+        self.turn(alloc, gate, Event::Pulled { count, ended }, moment, writer)?;
+        Ok(())
+    }
+
+    /// Takes a packet at its moment: tells the session of it, makes matching steps until no order
+    /// waits, and then sends reports. Nothing once the session is over.
+    #[tactic(auto, unfolding(crate::specs::Transcript::handled))]
+    pub(crate) fn take<W: Write>(
+        &mut self,
+        alloc: Global,
+        gate: &mut Gate,
+        packet: &ClientPacket,
+        writer: &mut Counted<W>,
+    ) -> Result<(), PipeFault>
+        requires { writer.old.failed < 2 ^ 64 - 1 }
+        ensures ok { OnOk result (IsTaken (handled gate.old self.old packet.now)
+            gate.new self.new (W.contents writer.old.device) (W.contents writer.new.device)) }
+        ensures err { IfErr result (λ fault. (text : List ℕ)
+            (more : List (Mark RecordData Standing)) → StopsIn
+            (run_at gate.old self.old text)
+            (packet_marks (run_at gate.old self.old text) packet.now ++ more)
+            fault gate.new self.new
+            (W.contents writer.old.device) (W.contents writer.new.device)) }
+        ensures kept { OnOk result (writer.new.failed ≡ writer.old.failed) }
+        ensures finite { IfErr result IsFinite }
+        ensures told { IfErr result (IsToldRightly
+            0 0 writer.old.failed writer.new.failed gate.new) }
+    {
+        if self.is_over() {
+            return Ok(());
+        }
+        let moment = self.coming;
+        self.coming = moment.saturating_add(1);
+        self.answer(alloc, gate, packet, moment, writer)?;
+        self.match_orders(gate, moment)?;
+        self.pull(alloc, gate, moment, writer)
+    }
+
+    /// Whether a user is logged in.
+    fn is_on(&self) -> bool
+        ensures { result ≡ is_on self.now.session.phase }
+    {
+        match self.session.phase() {
+            Phase::On => true,
+            Phase::Fresh | Phase::Waiting | Phase::Abandoned | Phase::Done => false,
+        }
+    }
+
+    /// Whether the session is over.
+    pub(crate) fn is_over(&self) -> bool
+        ensures { result ≡ is_over self.now.session.phase }
+    {
+        match self.session.phase() {
+            Phase::Abandoned | Phase::Done => true,
+            Phase::Fresh | Phase::Waiting | Phase::On => false,
+        }
+    }
+
+    /// Tells the session that its input has a fault or is at its end, and logs out a user who is on.
+    ///
+    /// A logout that the gate grants is not refused; and of a user who is on it grants it, wherever a run stops.
+    #[tactic(auto, using(crate::proofs::Leaving::leaves_as_at_the_end, crate::proofs::Leaving::refused_as_at_the_end, crate::proofs::Leaving::asks_as_at_the_end))]
+    pub(crate) fn leave(&mut self, gate: &mut Gate, event: Event<'_>) -> Result<(), StepFault>
+        requires { IsLeaving (happening event) }
+        ensures ok { OnOk result (gate.new ≡ (finished (silent gate.old self.old)).gate) }
+        ensures err { OnErr result ((gate.new ≡ gate.old) × (self.new ≡ self.old)) }
+        ensures asks { OnErr result (IsTrue (is_on self.old.session.phase)) }
+        ensures sure { OnErr result (IsFalse (is_never_refused gate.old (logout_of self.old))) }
+        ensures grows { length gate.old.records ≤ length gate.new.records }
+        ensures full { IfErr result (IsToldFull gate.new) }
+    {
+        let moment = self.session.heard();
+        let mut session = self.session;
+        let reply = session.on(event, moment);
+        act(gate, self.user, reply.next, moment)?;
+        self.session = session;
+        Ok(())
+    }
+}
+
+/// The number of the first report that a login is sent.
+fn first_told(answer: LoginAnswer) -> u64
+    ensures { result ≡ first_told answer }
+{
+    match answer {
+        LoginAnswer::Accepted { next, .. } => next,
+        LoginAnswer::Rejected(_) => 0,
+    }
+}

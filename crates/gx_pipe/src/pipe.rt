@@ -1,0 +1,215 @@
+//! A connection over any reader and any writer.
+
+ghost use Rattle.std.specs.Prelude.{◌≡◌, ℕ, ◌-◌, ◌^◌, ◌<◌, ◌≤◌, List, fold, IfSome, IfOk, IfErr, IsErrOf, OnOk};
+ghost use Rattle.gx_answers.specs.Gates.{GateData};
+ghost use Rattle.gx_devices.specs.Devices.{IsUnfailing, counted_on};
+ghost use Rattle.gx_devices.specs.Stopping.{trail};
+ghost use Rattle.gx_pipe.specs.Faults.{IsToldRightly, IsFinite};
+ghost use Rattle.gx_pipe.specs.Piping.{IsTaken, StopsIn, IsCutShort, Follows, Exchanged, Broken};
+ghost use Rattle.gx_session.specs.Happenings.{happening};
+ghost use Rattle.gx_pipe.specs.Piping.{IsAfterFault, IsLeaving, IsTranscript, IsPipe, packet_marks};
+ghost use Rattle.gx_pipe.specs.Transcript.{run_at, silent, on_packet, opened_at};
+
+use crate::connection::Connection;
+use crate::fault::PipeFault;
+use gx_answers::StepFault;
+use gx_core::Gate;
+use gx_devices::Counted;
+use gx_session::Event;
+use gx_soup::{ClientPacket, Feeder};
+use std::alloc::Global;
+use std::io::{Read, Write};
+
+/// After so many reads the input of [`run_pipe`] is called endless.
+const READS: u64 = 1_000_000_000;
+
+/// Takes packets in order, each answered before the next.
+fn take_packets<W: Write>(
+    alloc: Global,
+    gate: &mut Gate,
+    connection: &mut Connection,
+    writer: &mut Counted<W>,
+    packets: &[ClientPacket],
+) -> Result<(), PipeFault>
+    requires { writer.old.failed < 2 ^ 64 - 1 }
+    ensures ok { OnOk result (IsTaken (fold on_packet (silent gate.old connection.old) packets.now)
+        gate.new connection.new (W.contents writer.old.device) (W.contents writer.new.device)) }
+    ensures err { IfErr result (λ fault. (text : List ℕ) → StopsIn
+        (run_at gate.old connection.old text)
+        (trail packet_marks on_packet (run_at gate.old connection.old text) packets.now)
+        fault gate.new connection.new
+        (W.contents writer.old.device) (W.contents writer.new.device)) }
+    ensures kept { OnOk result (writer.new.failed ≡ writer.old.failed) }
+    ensures finite { IfErr result IsFinite }
+    ensures told { IfErr result (IsToldRightly 0 0 writer.old.failed writer.new.failed gate.new) }
+{
+    for packet in packets {
+        connection.take(alloc, gate, packet, writer)?;
+    }
+    Ok(())
+}
+
+/// Reads a piece, and answers its packets. The answer says whether the connection is at its end.
+fn exchange<W: Write>(
+    alloc: Global,
+    gate: &mut Gate,
+    connection: &mut Connection,
+    feeder: &mut Feeder,
+    writer: &mut Counted<W>,
+    piece: &[u8],
+) -> Result<bool, PipeFault>
+    requires { writer.old.failed < 2 ^ 64 - 1 }
+    ensures ok { IfOk result (λ over. (before : GateData) (first : ℕ) (bytes : List ℕ)
+        → Follows before first bytes gate.old connection.old feeder.old
+        → Exchanged before first bytes piece.now over gate.new connection.new feeder.new
+        (W.contents writer.old.device) (W.contents writer.new.device)) }
+    ensures err { IfErr result (λ fault. (before : GateData) (first : ℕ) (bytes : List ℕ)
+        → Follows before first bytes gate.old connection.old feeder.old
+        → Broken before first bytes piece.now fault gate.new connection.new
+        (W.contents writer.old.device) (W.contents writer.new.device)) }
+    ensures kept { OnOk result (writer.new.failed ≡ writer.old.failed) }
+    ensures finite { IfErr result IsFinite }
+    ensures told { IfErr result (IsToldRightly 0 0 writer.old.failed writer.new.failed gate.new) }
+{
+    let fed = feeder.feed(piece)?;
+    take_packets(alloc, gate, connection, writer, fed.packets.as_slice())?;
+    Ok(fed.fault.is_some() || connection.is_over())
+}
+
+/// Runs a connection until its end or a fault, with so many reads at most.
+fn serve<R: Read, W: Write>(
+    alloc: Global,
+    gate: &mut Gate,
+    first: u64,
+    connection: &mut Connection,
+    reader: &mut Counted<R>,
+    writer: &mut Counted<W>,
+    reads: u64,
+) -> Result<(), PipeFault>
+    requires opened { connection.old ≡ opened_at first }
+    requires reader { reader.old.failed < 2 ^ 64 - 1 }
+    requires writer { writer.old.failed < 2 ^ 64 - 1 }
+    ensures pipe { OnOk result (IsTranscript
+        (R.remaining reader.old.device) (R.remaining reader.new.device)
+        (W.contents writer.old.device) (W.contents writer.new.device) gate.old first gate.new) }
+    ensures all { OnOk result (IfSome (R.remaining reader.old.device) (λ input. IsPipe input
+        (W.contents writer.old.device) (W.contents writer.new.device) gate.old first gate.new)) }
+    ensures cut { IfErr result (λ fault. IsCutShort
+        (R.remaining reader.old.device) (R.remaining reader.new.device)
+        (W.contents writer.old.device) (W.contents writer.new.device)
+        gate.old first fault gate.new connection.new) }
+    ensures unfailing { OnOk result (IsUnfailing
+        reader.old.failed reader.new.failed writer.old.failed writer.new.failed) }
+    ensures endless { IsErrOf result PipeFault.Endless
+        → counted_on reader.old.calls reads ≤ reader.new.calls }
+    ensures told { IfErr result (IsToldRightly
+        reader.old.failed reader.new.failed writer.old.failed writer.new.failed gate.new) }
+{
+    let mut feeder = Feeder::new(alloc);
+    let mut buffer = [0u8; 4096];
+    for _ in 0..reads {
+        let n = match reader.read(&mut buffer) {
+            Ok(n) => n,
+            Err(_) => return Err(PipeFault::ReadFailed),
+        };
+        if n == 0 {
+            connection.leave(gate, Event::End)?;
+            return Ok(());
+        }
+        let over = exchange(alloc, gate, connection, &mut feeder, writer, &buffer[..n])?;
+        if over {
+            connection.leave(gate, Event::Fault)?;
+            return Ok(());
+        }
+    }
+    Err(PipeFault::Endless)
+}
+
+/// What a session is told of a fault: a refused step, or that no more input comes.
+fn told<'a>(fault: PipeFault) -> Event<'a>
+    ensures { IsLeaving (happening result) }
+{
+    match fault {
+        PipeFault::OutOfMemory => Event::Refused(StepFault::OutOfMemory),
+        PipeFault::DayFull => Event::Refused(StepFault::DayFull),
+        PipeFault::ReadFailed | PipeFault::WriteFailed | PipeFault::Endless => Event::Fault,
+    }
+}
+
+/// Runs a connection to its end: SoupBinTCP packets in, the steps that the session table asks for on the
+/// gate, SoupBinTCP packets out. The k-th packet comes at the moment `first + k - 1`, on line 1. Each packet
+/// is answered before the next is taken; then, unless the session is over, orders are matched at its moment
+/// until none waits, and the reports that are there are sent.
+///
+/// A refused matching step ends the run as any refused step does. After a fault a user who is on is logged
+/// out at the moment of the last packet, without exception: it wants no memory, and no room in the day.
+///
+/// The input is read at most `reads` times, and is called endless where it has not ended by then.
+pub fn run_pipe_within<R: Read, W: Write>(
+    alloc: Global,
+    gate: &mut Gate,
+    first: u64,
+    reader: &mut Counted<R>,
+    writer: &mut Counted<W>,
+    reads: u64,
+) -> Result<(), PipeFault>
+    requires reader { reader.old.failed < 2 ^ 64 - 1 }
+    requires writer { writer.old.failed < 2 ^ 64 - 1 }
+    ensures pipe { OnOk result (IsTranscript
+        (R.remaining reader.old.device) (R.remaining reader.new.device)
+        (W.contents writer.old.device) (W.contents writer.new.device) gate.old first gate.new) }
+    // Where the reader tells its bytes: the gate and the bytes written are the pipe's of all.
+    ensures all { OnOk result (IfSome (R.remaining reader.old.device) (λ input. IsPipe input
+        (W.contents writer.old.device) (W.contents writer.new.device) gate.old first gate.new)) }
+    // The first packets were taken and answered whole; at a failed read or an endless input, all.
+    ensures fault { IfErr result (λ fault. IsAfterFault
+        (R.remaining reader.old.device) (R.remaining reader.new.device)
+        (W.contents writer.old.device) (W.contents writer.new.device)
+        gate.old first gate.new fault) }
+    ensures unfailing { OnOk result (IsUnfailing
+        reader.old.failed reader.new.failed writer.old.failed writer.new.failed) }
+    ensures endless { IsErrOf result PipeFault.Endless
+        → counted_on reader.old.calls reads ≤ reader.new.calls }
+    ensures told { IfErr result (IsToldRightly
+        reader.old.failed reader.new.failed writer.old.failed writer.new.failed gate.new) }
+{
+    let mut connection = Connection::new(first);
+    match serve(alloc, gate, first, &mut connection, reader, writer, reads) {
+        Ok(()) => Ok(()),
+        Err(fault) => {
+            let _ = connection.leave(gate, told(fault));
+            Err(fault)
+        }
+    }
+}
+
+/// [`run_pipe_within`] a thousand million reads.
+pub fn run_pipe<R: Read, W: Write>(
+    alloc: Global,
+    gate: &mut Gate,
+    first: u64,
+    reader: &mut Counted<R>,
+    writer: &mut Counted<W>,
+) -> Result<(), PipeFault>
+    requires reader { reader.old.failed < 2 ^ 64 - 1 }
+    requires writer { writer.old.failed < 2 ^ 64 - 1 }
+    ensures pipe { OnOk result (IsTranscript
+        (R.remaining reader.old.device) (R.remaining reader.new.device)
+        (W.contents writer.old.device) (W.contents writer.new.device) gate.old first gate.new) }
+    // Where the reader tells its bytes: the gate and the bytes written are the pipe's of all.
+    ensures all { OnOk result (IfSome (R.remaining reader.old.device) (λ input. IsPipe input
+        (W.contents writer.old.device) (W.contents writer.new.device) gate.old first gate.new)) }
+    // The first packets were taken and answered whole; at a failed read or an endless input, all.
+    ensures fault { IfErr result (λ fault. IsAfterFault
+        (R.remaining reader.old.device) (R.remaining reader.new.device)
+        (W.contents writer.old.device) (W.contents writer.new.device)
+        gate.old first gate.new fault) }
+    ensures unfailing { OnOk result (IsUnfailing
+        reader.old.failed reader.new.failed writer.old.failed writer.new.failed) }
+    ensures endless { IsErrOf result PipeFault.Endless
+        → counted_on reader.old.calls 1000000000 ≤ reader.new.calls }
+    ensures told { IfErr result (IsToldRightly
+        reader.old.failed reader.new.failed writer.old.failed writer.new.failed gate.new) }
+{
+    run_pipe_within(alloc, gate, first, reader, writer, READS)
+}

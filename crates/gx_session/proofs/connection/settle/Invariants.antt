@@ -1,8 +1,0 @@
-use Rattle.gx_core.specs.Matches.{matches_left, IsSettling}
-use Rattle.gx_session.proofs.connection.settle.Given as goal
-
-abbrev pub invariant-loop : goal.invariant-loop
-invariant-loop l = IsSettling l.fn.gate l.moment l.gate
-
-abbrev pub decreases-loop : goal.decreases-loop
-decreases-loop l = matches_left l.gate

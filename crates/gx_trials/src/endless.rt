@@ -1,0 +1,57 @@
+//! A reader whose input does not end, and what is told of its run.
+
+use crate::texts::put_hex;
+use gx_units::OutOfMemory;
+use std::alloc::Global;
+use std::fmt::{Display, Write};
+use std::io;
+use std::io::Read;
+
+/// A reader that gives the same bytes again and again, and counts its reads.
+#[derive(Drop)]
+pub struct Endless<'a> {
+    bytes: &'a [u8],
+    rest: &'a [u8],
+    piece: usize,
+    /// How often it was read.
+    pub reads: u64,
+}
+
+impl<'a> Endless<'a> {
+    /// A reader of these bytes that was not read yet, and gives at most so many at a time.
+    pub fn new(bytes: &'a [u8], piece: usize) -> Endless<'a> {
+        Endless {
+            bytes,
+            rest: &[],
+            piece,
+            reads: 0,
+        }
+    }
+}
+
+impl Read for Endless<'_> {
+    fn read(&mut self, buf: &mut [u8]) -> io::Result<usize> {
+        self.reads = self.reads.saturating_add(1);
+        if self.rest.is_empty() {
+            self.rest = self.bytes;
+        }
+        let count = self.piece.min(self.rest.len()).min(buf.len());
+        let (given, rest) = self.rest.split_at(count);
+        buf[..count].copy_from_slice(given);
+        self.rest = rest;
+        Ok(count)
+    }
+}
+
+/// Puts what was written, in hex, how the run ended, and how often it read.
+pub fn put_endless<E: Display>(
+    alloc: Global,
+    out: &mut String,
+    written: &[u8],
+    end: &E,
+    reads: u64,
+) -> Result<(), OutOfMemory> {
+    put_hex(alloc, out, written)?;
+    writeln!(out, "{end}, {reads} reads")?;
+    Ok(())
+}

@@ -1,5 +1,0 @@
-use Rattle.shared_cases.proofs.play_kept.Given as goal
-
--- each play is of the policy and of the table that it is given
-abbrev pub ghosts-run_kept : goal.ghosts-run_kept
-ghosts-run_kept g a = record { table = a.blank; policy = a.policy.now }
