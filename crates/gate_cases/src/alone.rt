@@ -1,12 +1,10 @@
 //! Runs on gates of their own.
 
 use crate::runs::{End, put_verdicts, run_kind, run_on};
-use gx_cases::RunsExamples;
 use gx_core::Gate;
 use gx_devices::Counted;
 use gx_history::policy::Policy;
-use gx_server::open_gate;
-use gx_trials::{Asks, Ended, Hears, Kind, LARGE, Limits, RunsAlone, Turn, put_waited};
+use gx_trials::{Asks, Ended, Hears, Kind, Limits, RunsAlone, Turn, put_waited};
 use gx_units::OutOfMemory;
 use std::alloc::Global;
 use std::cell::Cell;
@@ -67,31 +65,5 @@ impl RunsAlone for Alone<'_> {
         let end = run_kind(kind, self.alloc, &mut gate, &mut reader, &mut writer);
         gate.close();
         put_waited(out, &end, turns.len())
-    }
-}
-
-/// Runs examples, each on a gate of its own.
-#[derive(Clone, Copy)]
-pub(crate) struct Examples {
-    pub(crate) alloc: Global,
-}
-
-impl RunsExamples for Examples {
-    fn told_under(
-        &self,
-        file: Option<&[u8]>,
-        kind: Kind,
-        input: &[u8],
-        stored: &[u8],
-    ) -> &'static str {
-        match open_gate(self.alloc, file) {
-            Ok(gate) => {
-                let mut gate = gate;
-                let ended = run_on(kind, self.alloc, &mut gate, LARGE, input);
-                gate.close();
-                ended.told_beside(stored)
-            }
-            Err(_) => "not run",
-        }
     }
 }

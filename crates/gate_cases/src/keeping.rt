@@ -1,9 +1,9 @@
-//! Plays at a door whose records are kept, on devices in memory that take little or fail.
+//! Plays of two connections over devices in memory, at a door whose records are kept on a device that takes little or
+//! fails.
 
 ghost use Rattle.std.specs.Prelude.{◌≡◌, []};
 
-use crate::conversations::put_texts;
-use gx_asking::{ALICE, BOB, Ended, put, three_passes};
+use crate::lines::put_audit;
 use gx_audit::audit_of;
 use gx_audit_bytes::AuditVersion;
 use gx_core::Gate;
@@ -12,7 +12,10 @@ use gx_host::{Kept, Resumed, close_kept, resume};
 use gx_journal::Journaled;
 use gx_pass::{Blank, GateName, Pass};
 use gx_shared::SharedGate;
-use gx_stage::{Paper, Play, Stage, Texts, attend_both, has_first_reports, longer_file};
+use gx_stage::{
+    ALICE, BOB, Ended, Paper, Stage, Texts, has_first_reports, journal_of, play_on, put, put_sent,
+    three_passes,
+};
 use gx_units::{OutOfMemory, UserName};
 use std::alloc::Global;
 use std::marker::Brand;
@@ -20,13 +23,41 @@ use std::sync::Wait;
 use std::thread::Threads;
 use std::time::Clock;
 
-/// Puts at the end whether the journal is the audit of the closed gate.
-pub(crate) fn put_whole(
-    alloc: Global,
+/// A journal's device: how many bytes it takes at a call, and how many it has room for.
+#[derive(Clone, Copy)]
+pub(crate) struct Device {
+    pub(crate) most: usize,
+    pub(crate) room: usize,
+}
+
+/// Puts at the end how what a user was sent stands to his reports.
+fn put_user(
     gate: &Gate,
-    file: &[u8],
+    user: UserName,
+    name: &str,
+    text: &[u8],
     out: &mut String,
 ) -> Result<(), Ended> {
+    let owed = gate.reports(user, 1, u64::MAX)?;
+    put_sent(out, name, text, owed.reports.as_slice())
+}
+
+/// Puts at the end what both were sent, and what the audit of the closed gate is.
+fn put_texts(
+    alloc: Global,
+    policy: &Policy,
+    gate: &Gate,
+    texts: &Texts,
+    out: &mut String,
+) -> Result<(), Ended> {
+    let (alice, bob) = texts;
+    put_user(gate, ALICE.user, "ALICE: ", alice.as_slice(), out)?;
+    put_user(gate, BOB.user, "BOB: ", bob.as_slice(), out)?;
+    put_audit(alloc, policy, gate, out)
+}
+
+/// Puts at the end whether the journal is the audit of the closed gate.
+fn put_whole(alloc: Global, gate: &Gate, file: &[u8], out: &mut String) -> Result<(), Ended> {
     let audit = audit_of(alloc, AuditVersion::Two, gate)?;
     if audit.as_slice() == file {
         put(out, "the journal is the audit\n")
@@ -72,18 +103,20 @@ fn put_kept(
     alloc: Global,
     policy: &Policy,
     gate: &Gate,
+    stage: &Stage,
     paper: &Paper,
     has_failed: bool,
     texts: &Texts,
     out: &mut String,
 ) -> Result<(), Ended> {
-    let file = longer_file(alloc, policy, &[], paper.taken.as_slice())?;
+    let file = journal_of(alloc, policy, paper.taken.as_slice())?;
     if has_failed {
         put(out, "the journal failed\n")?;
         return put_told(alloc, policy, file.as_slice(), texts, out);
     }
     put_texts(alloc, policy, gate, texts, out)?;
-    put_whole(alloc, gate, file.as_slice(), out)
+    put_whole(alloc, gate, file.as_slice(), out)?;
+    stage.put_waits(out)
 }
 
 /// Plays at a new gate whose records are kept on this device, and tells of it.
@@ -94,7 +127,7 @@ fn play_at<N: GateName + Send + Sync, R: Threads + Wait + Clock + Sync>(
     shared: SharedGate<N>,
     pass: Pass<N>,
     stage: &Stage,
-    paper: Paper,
+    device: Device,
     out: &mut String,
 ) -> Result<(), Ended>
     requires { pass.front ≡ [] }
@@ -106,21 +139,29 @@ fn play_at<N: GateName + Send + Sync, R: Threads + Wait + Clock + Sync>(
             return Err(Ended::Pass(fault));
         }
     };
+    let paper = Paper::new(alloc, device.most, device.room);
     let door: Journaled<'_, SharedGate<N>, Paper, Brand> = Journaled::new(
         alloc, &shared, pass, 0, paper,
     );
-    let played = attend_both(rt, alloc, &door, stage, passes);
+    let played = play_on(rt, alloc, &door, stage, passes);
     let journal = door.into_journal();
     let Kept {
         gate,
         ended: _,
         fault,
-        device,
+        device: paper,
     } = close_kept(shared, journal, Ok(()));
     let told = match played {
-        Some((_pass, texts)) => {
-            put_kept(alloc, policy, &gate, &device, fault.is_some(), &texts, out)
-        }
+        Some((_pass, texts)) => put_kept(
+            alloc,
+            policy,
+            &gate,
+            stage,
+            &paper,
+            fault.is_some(),
+            &texts,
+            out,
+        ),
         None => Err(Ended::OutOfMemory),
     };
     gate.close();
@@ -133,17 +174,16 @@ pub(crate) fn run_kept<N: GateName + Send + Sync, R: Threads + Wait + Clock + Sy
     alloc: Global,
     policy: &Policy,
     blank: Blank,
-    play: Play,
-    paper: Paper,
+    stage: &Stage,
+    device: Device,
     out: &mut String,
 ) -> Result<(), Ended>
     requires policy { policy.now ≡ N.policy }
     requires blank { blank ≡ N.table }
 {
-    let stage = Stage::new(alloc, play)?;
     let gate = Gate::open(alloc, policy)?;
     match SharedGate::<N>::over(gate, blank) {
-        Ok((shared, pass)) => play_at(rt, alloc, policy, shared, pass, &stage, paper, out),
+        Ok((shared, pass)) => play_at(rt, alloc, policy, shared, pass, stage, device, out),
         Err(fault) => Err(Ended::Pass(fault)),
     }
 }

@@ -2,13 +2,13 @@
 
 ghost use Rattle.std.specs.Prelude.{◌≡◌};
 
-use gx_asking::{Ended, ask_in_threads, put, put_found, put_lines, three_passes};
 use gx_audit::{audit_of, check_audit};
 use gx_audit_bytes::AuditVersion;
 use gx_core::Gate;
 use gx_history::policy::Policy;
 use gx_pass::{Blank, GateName};
 use gx_shared::SharedGate;
+use gx_stage::{Ended, ask_in_threads, put, put_found, put_lines, three_passes};
 use std::alloc::Global;
 use std::sync::Wait;
 use std::thread::Threads;

@@ -9,14 +9,6 @@
 //!   how much the policy holds, and its rules, or what is wrong with the file. Without such a part the case runs under
 //!   the sample policy less its rules that ask for figures.
 //! - `-- migrate`, alone: a policy file. It is told in version 2, or what is wrong with it.
-//! - `-- calls`, alone: calls of the program `gate`, a line each, the program's name being the first word. It is told what
-//!   each asks for, or the text that it is answered with: the help, or what is wrong.
-//! - `-- words`, alone: lines of words whose bytes are spelled in hex, the program's name being the first: the text that
-//!   tells the first which is not UTF-8.
-//! - `-- examples`, alone: files, a line each. A file's first line is a call, `.. gate script [--policy FILE] < FILE` or
-//!   the same of `gate pipe`. It is run, and what it prints is compared with what is stored beside its input: of
-//!   `NAME.ENDING` in `NAME.out.ENDING`. The files lie in this crate's folder `data/`, in which `rt ci` runs the program.
-//!   Its file `args` names them, since `rt try` shows a program only the files that its arguments name.
 //! - `-- pipe`: the bytes of a connection, in hex. The verdicts of its records are told, and the bytes that it was sent.
 //! - `-- script`: a script; `-- script-in-hex`: its bytes in hex. What it prints is told.
 //! - `-- again`: the lines of a script, each a run of its own, and run again where its step was refused, as for want of
@@ -53,24 +45,20 @@
 
 mod alone;
 mod audits;
-mod conversations;
 mod endless;
 mod keeping;
-mod lengths;
 mod lines;
-mod loopback;
 mod policies;
-mod races;
-mod restarts;
 mod runs;
 mod threads;
 
-use alone::Examples;
-use gx_cases::{changed_sample, put_rules, put_title, tell_calls, tell_examples, tell_words};
 use gx_history::policy::Policy;
 use gx_policyfile::read_policy;
 use gx_server::{open_gate, sample_policy, told_of_policy};
-use gx_trials::{BYTE_BY_BYTE, LARGE, Limits, bytes_of, halves, put_both, put_bytes};
+use gx_trials::{
+    BYTE_BY_BYTE, LARGE, Limits, bytes_of, changed_sample, halves, put_both, put_bytes, put_rules,
+    put_title,
+};
 use gx_units::OutOfMemory;
 use policies::{put_fault, put_migrated};
 use runs::tell_parts;
@@ -185,12 +173,11 @@ fn tell_changed_sample(
 
 /// Runs a case: its first part may be a policy.
 fn answer(
-    rt: &HostRuntime,
+    alloc: Global,
     out: &mut String,
     sample: &Policy,
     parts: &str,
 ) -> Result<(), OutOfMemory> {
-    let alloc = rt.alloc();
     let (first, rest) = halves(parts, "\n-- ");
     let (kind, text) = halves(first, "\n");
     match kind {
@@ -198,42 +185,39 @@ fn answer(
         "policy-in-hex" => tell_hex_file(alloc, out, text, rest),
         "migrate" => put_migrated(alloc, out, text.as_bytes()),
         "sample" => tell_changed_sample(alloc, out, text, rest),
-        "calls" => tell_calls(alloc, out, text),
-        "words" => tell_words(alloc, out, text),
-        "examples" => tell_examples(rt, &Examples { alloc }, out, text),
         _ => run(alloc, out, None, sample, parts),
     }
 }
 
 /// Runs a case, behind its title.
 fn answer_case(
-    rt: &HostRuntime,
+    alloc: Global,
     out: &mut String,
     sample: &Policy,
     case: &str,
 ) -> Result<(), OutOfMemory> {
     let (title, parts) = halves(case, "\n-- ");
     put_title(out, title)?;
-    answer(rt, out, sample, parts)
+    answer(alloc, out, sample, parts)
 }
 
 /// Runs the cases of a text.
 fn answer_all(
-    rt: &HostRuntime,
+    alloc: Global,
     out: &mut String,
     sample: &Policy,
     text: &str,
 ) -> Result<(), OutOfMemory> {
     for case in text.split("\n== ") {
-        answer_case(rt, out, sample, case)?;
+        answer_case(alloc, out, sample, case)?;
     }
     Ok(())
 }
 
 /// Runs the cases of a text, most of them under the sample policy.
-fn answer_text(rt: &HostRuntime, out: &mut String, text: &str) -> Result<(), OutOfMemory> {
-    let sample = sample_policy(rt.alloc())?;
-    answer_all(rt, out, &sample, text)
+fn answer_text(alloc: Global, out: &mut String, text: &str) -> Result<(), OutOfMemory> {
+    let sample = sample_policy(alloc)?;
+    answer_all(alloc, out, &sample, text)
 }
 
 fn main(rt: HostRuntime) -> io::Result<()> {
@@ -241,7 +225,7 @@ fn main(rt: HostRuntime) -> io::Result<()> {
     let mut text = String::new(alloc);
     rt.reader().read_to_string(&mut text)?;
     let mut out = String::new(alloc);
-    if answer_text(&rt, &mut out, text.as_str()).is_err() {
+    if answer_text(alloc, &mut out, text.as_str()).is_err() {
         return Err(io::Error::from(io::ErrorKind::OutOfMemory));
     }
     if let Err(ended) = run_threads(&rt, alloc, &mut out) {

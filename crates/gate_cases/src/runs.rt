@@ -6,7 +6,6 @@ use crate::alone::Alone;
 use crate::audits::{tell_audit, tell_audit_1, tell_checks, tell_shown};
 use crate::endless::tell_endless;
 use gx_audit_bytes::AuditVersion::{One, Two};
-use gx_cases::tell_session;
 use gx_core::Gate;
 use gx_devices::Counted;
 use gx_history::policy::Policy;
@@ -15,7 +14,7 @@ use gx_scripting::{Explained, run_script};
 use gx_server::Noted;
 use gx_trials::{
     Drips, Ended, Kind, Limits, Sips, bytes_of, halves, limits_of, put_hex, put_records,
-    tell_in_turn, tell_varied, text_of,
+    tell_in_turn, tell_session, tell_varied, text_of,
 };
 use gx_units::OutOfMemory;
 use std::alloc::Global;

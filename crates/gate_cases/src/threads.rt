@@ -1,111 +1,143 @@
 //! Threads over shared gates: what is told of them is the same at each run, whichever thread comes first.
 
-use crate::conversations::run_play;
-use crate::keeping::run_kept;
-use crate::lengths::run_lengths;
+use crate::keeping::{Device, run_kept};
 use crate::lines::run_lines;
-use crate::loopback::run_loopback;
-use crate::races::run_races;
-use crate::restarts::run_restart;
-use gx_asking::{Ended, put};
 use gx_audit_bytes::RECORD_SIZE;
 use gx_history::policy::Policy;
 use gx_pass::Blank;
 use gx_server::sample_policy;
-use gx_stage::{Paper, Play, Still};
+use gx_stage::{Ended, Play, Stage, Still, put};
 use std::alloc::Global;
 use std::marker::Brand;
-use std::net::{Net, TcpListener, TcpStream};
 use std::sync::Wait;
 use std::thread::Threads;
 use std::time::Clock;
 
-/// A play on a gate of its own.
+/// A device that takes all at once, and has room for all.
+const LARGE: Device = Device {
+    most: usize::MAX,
+    room: usize::MAX,
+};
+
+/// A device that takes 100 bytes at a call.
+const SLOW: Device = Device { most: 100, ..LARGE };
+
+/// A device that fails in the middle of record 201.
+const SHORT: Device = Device {
+    room: 200 * RECORD_SIZE + 50,
+    ..LARGE
+};
+
+/// A device that takes nothing.
+const FULL: Device = Device { room: 0, ..LARGE };
+
+/// A play, the device that its records are kept on, and what is told of that.
+#[derive(Clone, Copy)]
+struct Setting {
+    play: Play,
+    device: Device,
+    words: &'static str,
+}
+
+const PLAYS: [Setting; 6] = [
+    Setting {
+        play: Play::Exchange,
+        device: SLOW,
+        words: "The journal's device takes 100 bytes at a call.\n",
+    },
+    Setting {
+        play: Play::HeldCall,
+        device: LARGE,
+        words: "",
+    },
+    Setting {
+        play: Play::SlowWriter,
+        device: LARGE,
+        words: "",
+    },
+    Setting {
+        play: Play::Farewell,
+        device: LARGE,
+        words: "",
+    },
+    Setting {
+        play: Play::Exchange,
+        device: SHORT,
+        words: "The journal's device fails in the middle of record 201.\n",
+    },
+    Setting {
+        play: Play::Farewell,
+        device: FULL,
+        words: "The journal's device takes nothing.\n",
+    },
+];
+
+/// A play on this stage.
+fn play_on_stage<R: Threads + Wait + Clock + Sync>(
+    rt: &R,
+    alloc: Global,
+    policy: &Policy,
+    stage: &Stage,
+    device: Device,
+    out: &mut String,
+) -> Result<(), Ended> {
+    run_kept::<Brand, R>(rt, alloc, policy, Blank::new(alloc)?, stage, device, out)
+}
+
+/// A play on a stage of its own, behind its title.
 fn play_once<R: Threads + Wait + Clock + Sync>(
     rt: &R,
     alloc: Global,
     policy: &Policy,
-    play: Play,
+    setting: &Setting,
     out: &mut String,
 ) -> Result<(), Ended> {
-    run_play::<Brand, R>(rt, alloc, policy, Blank::new(alloc)?, play, out)
+    put(out, setting.play.title())?;
+    put(out, setting.words)?;
+    let stage = Stage::new(alloc, setting.play)?;
+    play_on_stage(rt, alloc, policy, &stage, setting.device, out)
 }
 
-/// The plays, on a date that stands still.
+/// The plays.
 fn run_plays<R: Threads + Wait + Clock + Sync>(
     rt: &R,
     alloc: Global,
     policy: &Policy,
     out: &mut String,
 ) -> Result<(), Ended> {
-    let still = Still::new(rt);
-    for play in [
-        Play::Exchange,
-        Play::HeldCall,
-        Play::SlowWriter,
-        Play::Farewell,
-    ] {
-        play_once(&still, alloc, policy, play, out)?;
+    for setting in &PLAYS {
+        play_once(rt, alloc, policy, setting, out)?;
     }
     Ok(())
 }
 
-/// A play on a gate of its own whose records are kept on a device.
-fn play_kept<R: Threads + Wait + Clock + Sync>(
-    rt: &R,
-    alloc: Global,
-    policy: &Policy,
-    play: Play,
-    paper: Paper,
-    out: &mut String,
-) -> Result<(), Ended> {
-    run_kept::<Brand, R>(rt, alloc, policy, Blank::new(alloc)?, play, paper, out)
-}
-
-/// The plays whose records are kept, on a date that stands still.
-fn run_kept_plays<R: Threads + Wait + Clock + Sync>(
+/// Lines at a gate, on a table of its own.
+fn run_lines_once<R: Threads + Wait + Sync>(
     rt: &R,
     alloc: Global,
     policy: &Policy,
     out: &mut String,
 ) -> Result<(), Ended> {
-    let still = Still::new(rt);
-    put(
-        out,
-        "Three hundred orders, kept on a device that takes 100 bytes at a call:\n",
-    )?;
-    let paper = Paper::new(alloc, 100, usize::MAX);
-    play_kept(&still, alloc, policy, Play::Exchange, paper, out)?;
-    put(
-        out,
-        "The same, on a device that fails in the middle of record 201:\n",
-    )?;
-    let paper = Paper::new(alloc, usize::MAX, 200 * RECORD_SIZE + 50);
-    play_kept(&still, alloc, policy, Play::Exchange, paper, out)?;
-    put(out, "Two orders, on a device that takes nothing:\n")?;
-    let paper = Paper::new(alloc, usize::MAX, 0);
-    play_kept(&still, alloc, policy, Play::Farewell, paper, out)
+    run_lines::<Brand, R>(rt, alloc, policy, Blank::new(alloc)?, out)
 }
 
-/// All runs, each on a gate of its own.
-fn run_all<R>(rt: &R, alloc: Global, policy: &Policy, out: &mut String) -> Result<(), Ended>
-where
-    R: Net<Listener = TcpListener, Stream = TcpStream> + Threads + Wait + Clock + Eprint + Sync,
-{
-    run_lengths::<Brand, R>(rt, alloc, policy, Blank::new(alloc)?, out)?;
-    run_lines::<Brand, R>(rt, alloc, policy, Blank::new(alloc)?, out)?;
-    run_races::<Brand, R>(rt, alloc, policy, Blank::new(alloc)?, out)?;
-    run_plays(rt, alloc, policy, out)?;
-    run_loopback(rt, alloc, policy, out)?;
-    run_kept_plays(rt, alloc, policy, out)?;
-    run_restart(rt, alloc, policy, out)
+/// All runs, each on a gate of its own; the plays on a date that stands still.
+fn run_all<R: Threads + Wait + Clock + Sync>(
+    rt: &R,
+    alloc: Global,
+    policy: &Policy,
+    out: &mut String,
+) -> Result<(), Ended> {
+    run_lines_once(rt, alloc, policy, out)?;
+    run_plays(&Still::new(rt), alloc, policy, out)
 }
 
 /// Runs threads under the sample policy, and tells what came of it.
-pub(crate) fn run_threads<R>(rt: &R, alloc: Global, out: &mut String) -> Result<(), Ended>
-where
-    R: Net<Listener = TcpListener, Stream = TcpStream> + Threads + Wait + Clock + Eprint + Sync,
-{
+pub(crate) fn run_threads<R: Threads + Wait + Clock + Sync>(
+    rt: &R,
+    alloc: Global,
+    out: &mut String,
+) -> Result<(), Ended> {
     let policy = sample_policy(alloc)?;
     run_all(rt, alloc, &policy, out)
 }

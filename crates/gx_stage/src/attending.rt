@@ -45,12 +45,7 @@ fn attend<'x, T: Drop + Send, D: Door<Ticket = T> + Sync, R: Threads + Wait + Cl
 }
 
 /// Serves both, beside a matcher. Gives the matcher's pass and what they were sent; None where no thread could be made.
-pub fn attend_both<
-    'x,
-    T: Drop + Send,
-    D: Door<Ticket = T> + Sync,
-    R: Threads + Wait + Clock + Sync,
->(
+fn attend_both<'x, T: Drop + Send, D: Door<Ticket = T> + Sync, R: Threads + Wait + Clock + Sync>(
     rt: &'x R,
     alloc: Global,
     door: &'x D,

@@ -1,11 +1,12 @@
 //! Packets as bytes: those of clients, and the reports in what clients were sent.
 
-use gx_asking::{Ended, numbered, put, put_number};
+use crate::ended::Ended;
+use crate::people::numbered;
+use crate::printing::{put, put_number};
 use gx_history::report::Report;
 use gx_ouch::MESSAGE_ROOM;
 use gx_units::OutOfMemory;
 use std::alloc::Global;
-use std::fmt::Write;
 
 /// ALICE's Login Request, for the report with number 1.
 pub(crate) const ALICE_LOGIN: &[u8; 49] = b"\x00/LALICE apple                                  1";
@@ -21,19 +22,9 @@ pub(crate) const BUY: &[u8; 52] =
 pub(crate) const BUY_AND_LEAVE: &[u8; 55] =
     b"\x002UOA001          B\x00\x00\x00\x01TEST    \x00\x00'\x10\x00\x01\x86\x9f    YAN\x00\x00\x00\x00NN\x00\x01O";
 
-/// An order to buy 100 TEST at $10.00.
-pub const BUY_MANY: &[u8; 52] =
-    b"\x002UOT1            B\x00\x00\x00dTEST    \x00\x01\x86\xa0\x00\x01\x86\x9f    YAN\x00\x00\x00\x00NN";
-
 /// An order to sell 300 TEST at $1.00.
 pub(crate) const SELL_MANY: &[u8; 52] =
     b"\x002UOS1            S\x00\x00\x01,TEST    \x00\x00'\x10\x00\x01\x86\x9f    YAN\x00\x00\x00\x00NN";
-
-/// A Logout Request.
-pub(crate) const LOGOUT: &[u8; 3] = b"\x00\x01O";
-
-/// How many bytes a report has up to the end of its timestamp: its type, and eight.
-const BEHIND_TIME: usize = 9;
 
 /// An order to buy 1 share, under the token of this number.
 fn order(number: u16) -> [u8; 52] {
@@ -149,52 +140,4 @@ pub fn put_sent(
     } else {
         put(out, "others\n")
     }
-}
-
-/// Puts bytes in hex at the end.
-fn put_hex(out: &mut String, bytes: &[u8]) -> Result<(), Ended> {
-    for byte in bytes {
-        if write!(out, "{byte:02x}").is_err() {
-            return Err(Ended::OutOfMemory);
-        }
-    }
-    Ok(())
-}
-
-/// Puts what a report carries in hex at the end, but for its timestamp.
-fn put_report(out: &mut String, payload: &[u8]) -> Result<(), Ended> {
-    if payload.len() < BEHIND_TIME {
-        return put_hex(out, payload);
-    }
-    let (front, behind) = payload.split_at(BEHIND_TIME);
-    put_hex(out, &front[..1])?;
-    put(out, " time ")?;
-    put_hex(out, behind)
-}
-
-/// Puts a packet in hex at the end, but for a report's timestamp.
-fn put_packet(out: &mut String, packet: &Packet<'_>) -> Result<(), Ended> {
-    put_hex(out, &[packet.kind])?;
-    put(out, " ")?;
-    if packet.kind == b'S' {
-        put_report(out, packet.payload)?;
-    } else {
-        put_hex(out, packet.payload)?;
-    }
-    put(out, "\n")
-}
-
-/// Puts the packets of a text at the end, a line each, but for heartbeats.
-pub fn put_packets(out: &mut String, text: &[u8]) -> Result<(), Ended> {
-    let mut rest = text;
-    for _ in 0..text.len() {
-        let Some(packet) = first_packet(rest) else {
-            break;
-        };
-        if packet.kind != b'H' {
-            put_packet(out, &packet)?;
-        }
-        rest = packet.rest;
-    }
-    Ok(())
 }

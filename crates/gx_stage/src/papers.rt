@@ -1,6 +1,5 @@
 //! A device for a journal, and the file that it stands for.
 
-use gx_asking::{Ended, put};
 use gx_audit_bytes::write_header;
 use gx_history::policy::Policy;
 use gx_units::OutOfMemory;
@@ -43,29 +42,10 @@ impl Write for Paper {
     }
 }
 
-/// The file with what was written behind what stood, or behind the policy's header where nothing did.
-pub fn longer_file(
-    alloc: Global,
-    policy: &Policy,
-    stood: &[u8],
-    written: &[u8],
-) -> Result<Vec<u8>, OutOfMemory> {
+/// The journal's file: the policy's header, and what was written behind it.
+pub fn journal_of(alloc: Global, policy: &Policy, written: &[u8]) -> Result<Vec<u8>, OutOfMemory> {
     let mut file = Vec::new(alloc);
-    if stood.is_empty() {
-        file.extend_from_slice(&write_header(policy))?;
-    } else {
-        file.extend_from_slice(stood)?;
-    }
+    file.extend_from_slice(&write_header(policy))?;
     file.extend_from_slice(written)?;
     Ok(file)
-}
-
-/// Puts at the end whether a file that went on from another is legal, and whether the same was told on both.
-pub fn put_resumed(out: &mut String, is_legal: bool, is_same: bool) -> Result<(), Ended> {
-    put(out, if is_legal { "legal\n" } else { "not legal\n" })?;
-    if is_same {
-        put(out, "the same is told again\n")
-    } else {
-        put(out, "something else is told\n")
-    }
 }

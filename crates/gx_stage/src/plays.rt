@@ -2,9 +2,10 @@
 
 use crate::counting::{Count, Line, Until};
 use crate::devices::Piece;
+use crate::ended::Ended;
 use crate::holding::Calls;
 use crate::packets::{ALICE_LOGIN, BOB_LOGIN, BUY, BUY_AND_LEAVE, SELL_MANY, orders};
-use gx_asking::{Ended, put, put_number};
+use crate::printing::{put, put_number};
 use gx_lobby::{Bell, Stop};
 use gx_units::OutOfMemory;
 use std::alloc::Global;

@@ -89,17 +89,6 @@ impl<E: Display> Ended<E> {
             put(out, "no front of the whole answer\n")
         }
     }
-
-    /// What is told of the run of an example, beside what is stored of it.
-    pub fn told_beside(&self, stored: &[u8]) -> &'static str {
-        if !self.is_done {
-            "not run"
-        } else if self.written.as_slice() == stored {
-            "as stored"
-        } else {
-            "not as stored"
-        }
-    }
 }
 
 /// Puts how often the devices of a run failed, where they did.

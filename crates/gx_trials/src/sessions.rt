@@ -1,9 +1,9 @@
 //! Sessions alone: what happens to one, and what it sends and what follows.
 
+use crate::texts::{bytes_of, halves, put};
 use gx_answers::{LoginAnswer, StepFault};
 use gx_session::{Control, Event, Next, Reply, Session};
 use gx_soup::{ClientPacket, LoginRequest, Payload};
-use gx_trials::{bytes_of, halves, put};
 use gx_units::{LoginRejection, OutOfMemory, Password, SessionName, UserName};
 use std::alloc::Global;
 

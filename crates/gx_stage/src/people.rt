@@ -34,7 +34,7 @@ pub const BOB: Person = Person {
 };
 
 /// A risk officer.
-pub const OLGA: Person = Person {
+pub(crate) const OLGA: Person = Person {
     user: UserName { bytes: *b"OLGA  " },
     password: Password {
         bytes: *b"orange    ",
@@ -42,7 +42,7 @@ pub const OLGA: Person = Person {
 };
 
 /// Whichever session there is.
-pub const ANY_SESSION: SessionName = SessionName {
+pub(crate) const ANY_SESSION: SessionName = SessionName {
     bytes: *b"          ",
 };
 
@@ -51,7 +51,7 @@ const ALFA: AccountName = AccountName {
 };
 
 /// `A000` for 0, `A001` for 1 and so on.
-pub fn numbered(number: u16) -> [u8; 14] {
+pub(crate) fn numbered(number: u16) -> [u8; 14] {
     let mut bytes = *b"A000          ";
     bytes[1] = b'0' + (number / 100 % 10) as u8;
     bytes[2] = b'0' + (number / 10 % 10) as u8;
@@ -60,7 +60,7 @@ pub fn numbered(number: u16) -> [u8; 14] {
 }
 
 /// An order of 1 share at 10, under a token of this number.
-pub fn enter(number: u16) -> Request
+pub(crate) fn enter(number: u16) -> Request
     ensures { IsTrue (has_its_first result) }
 {
     Request::Enter(EnterOrder {
@@ -85,7 +85,7 @@ pub fn enter(number: u16) -> Request
 }
 
 /// A Kill of ALFA, or at an odd number a Lift.
-pub fn kill_or_lift(number: u16) -> Request
+pub(crate) fn kill_or_lift(number: u16) -> Request
     ensures { IsTrue (has_its_first result) }
 {
     let action = if number % 2 == 0 {

@@ -1,4 +1,4 @@
-use Rattle.gate_cases.proofs.threads.play_kept.Given as goal
+use Rattle.gate_cases.proofs.threads.play_on_stage.Given as goal
 
 -- each play is of the policy and of the table that it is given
 abbrev pub ghosts-run_kept : goal.ghosts-run_kept

@@ -1,8 +1,8 @@
 //! What a case begins with: its title and its policy.
 
+use crate::texts::{halves, put, text_of};
 use gx_history::policy::{Count, FileRule, Policy, RuleKind, Scope};
 use gx_policyfile::SAMPLE;
-use gx_trials::{halves, put, text_of};
 use gx_units::{AccountName, OutOfMemory, Symbol};
 use std::alloc::Global;
 use std::fmt::Write;
