@@ -1,6 +1,6 @@
 //! Why the program gave up, and how that is told.
 
-use gx_auditing::AuditingFault;
+use gx_audit::AuditingFault;
 use gx_journal::JournalFault;
 use gx_pass::PassFault;
 use gx_pipe::PipeFault;

@@ -3,12 +3,12 @@
 ghost use Rattle.std.specs.Prelude.{◌-◌, ◌^◌, ◌<◌};
 
 use crate::ending::{Ended, Place};
+use gx_audit::{Resumed, resume};
 use gx_audit_bytes::write_header;
 use gx_command_line::JournalFile;
 use gx_core::Gate;
 use gx_devices::{Counted, write_whole};
-use gx_history::policy::Policy;
-use gx_host::{Resumed, resume};
+use gx_policy::Policy;
 use gx_server::{Noted, ProgramFault};
 use std::fs::{File, OpenOptions, TryLockError};
 use std::io::Write;

@@ -9,20 +9,20 @@ mod keeping;
 use clap::Error;
 use clap::error::ErrorKind as UsageFault;
 use ending::{Ended, Place, tell};
-use gx_auditing::{AuditAnswer, Choice, more_of_audit, show_audit, told_of_audit, write_audit};
+use gx_audit::{AuditAnswer, Choice, more_of_audit, show_audit, told_of_audit, write_audit};
 use gx_command_line::{
     Asked, AuditFiles, JournalFile, LONGEST_WORD, RunFiles, Serving, Wanted, first_bad_word,
 };
 use gx_core::Gate;
 use gx_devices::Counted;
-use gx_history::policy::Policy;
-use gx_host::{Kept, Served, serve, serve_journaled};
 use gx_journal::JournalFault;
 use gx_lobby::Lobby;
 use gx_pipe::run_pipe;
+use gx_policy::Policy;
 use gx_scripting::run_script;
 use gx_serve::ServeFault;
 use gx_server::{Noted, ProgramFault, migrated_policy, open_gate, policy_for, told_of_policy};
+use gx_shared::{Kept, Served, serve, serve_journaled};
 use gx_units::OutOfMemory;
 use keeping::{Day, JournalDevice, take_up, tell_cut};
 use std::alloc::Global;

@@ -3,7 +3,7 @@
 use crate::runs::{End, put_verdicts, run_kind, run_on};
 use gx_core::Gate;
 use gx_devices::Counted;
-use gx_history::policy::Policy;
+use gx_policy::Policy;
 use gx_trials::{Asks, Ended, Hears, Kind, Limits, RunsAlone, Turn, put_waited};
 use gx_units::OutOfMemory;
 use std::alloc::Global;

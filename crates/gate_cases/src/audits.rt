@@ -1,11 +1,12 @@
 //! Audits: how that of a gate's records is written, what is told of it, as it is and changed, and how it is shown.
 
-use gx_audit::audit_of;
+use gx_audit::{
+    AuditAnswer, Choice, audit_of, more_of_audit, show_audit, told_of_audit, write_audit,
+};
 use gx_audit_bytes::AuditVersion;
-use gx_auditing::{AuditAnswer, Choice, more_of_audit, show_audit, told_of_audit, write_audit};
 use gx_core::Gate;
 use gx_devices::Counted;
-use gx_history::policy::Policy;
+use gx_policy::Policy;
 use gx_policyfile::{SAMPLE, read_policy};
 use gx_trials::{
     Limits, Sips, change, chosen_by, put, put_audit, put_bytes, put_ended, put_shown, put_written,

@@ -3,18 +3,16 @@
 
 ghost use Rattle.std.specs.Prelude.{◌≡◌, []};
 
-use crate::lines::put_audit;
-use gx_audit::audit_of;
+use gx_audit::{Resumed, audit_of, check_audit, resume};
 use gx_audit_bytes::AuditVersion;
 use gx_core::Gate;
-use gx_history::policy::Policy;
-use gx_host::{Kept, Resumed, close_kept, resume};
 use gx_journal::Journaled;
 use gx_pass::{Blank, GateName, Pass};
-use gx_shared::SharedGate;
+use gx_policy::Policy;
+use gx_shared::{Kept, SharedGate, close_kept};
 use gx_stage::{
-    ALICE, BOB, Ended, Paper, Stage, Texts, has_first_reports, journal_of, play_on, put, put_sent,
-    three_passes,
+    ALICE, BOB, Ended, Paper, Stage, Texts, has_first_reports, journal_of, play_on, put, put_found,
+    put_sent, three_passes,
 };
 use gx_units::{OutOfMemory, UserName};
 use std::alloc::Global;
@@ -42,6 +40,12 @@ fn put_user(
     put_sent(out, name, text, owed.reports.as_slice())
 }
 
+/// Puts at the end what the audit of the closed gate is found to be.
+fn put_audit(alloc: Global, policy: &Policy, gate: &Gate, out: &mut String) -> Result<(), Ended> {
+    let audit = audit_of(alloc, AuditVersion::Two, gate)?;
+    put_found(out, check_audit(alloc, policy, audit.as_slice()).ok())
+}
+
 /// Puts at the end what both were sent, and what the audit of the closed gate is.
 fn put_texts(
     alloc: Global,
@@ -51,8 +55,8 @@ fn put_texts(
     out: &mut String,
 ) -> Result<(), Ended> {
     let (alice, bob) = texts;
-    put_user(gate, ALICE.user, "ALICE: ", alice.as_slice(), out)?;
-    put_user(gate, BOB.user, "BOB: ", bob.as_slice(), out)?;
+    put_user(gate, ALICE, "ALICE: ", alice.as_slice(), out)?;
+    put_user(gate, BOB, "BOB: ", bob.as_slice(), out)?;
     put_audit(alloc, policy, gate, out)
 }
 
@@ -75,7 +79,7 @@ fn is_kept(gate: &Gate, user: UserName, text: &[u8]) -> Result<bool, OutOfMemory
 /// Whether all that both were sent is in the journal's day.
 fn are_kept(gate: &Gate, texts: &Texts) -> Result<bool, OutOfMemory> {
     let (alice, bob) = texts;
-    Ok(is_kept(gate, ALICE.user, alice.as_slice())? && is_kept(gate, BOB.user, bob.as_slice())?)
+    Ok(is_kept(gate, ALICE, alice.as_slice())? && is_kept(gate, BOB, bob.as_slice())?)
 }
 
 /// Puts at the end whether both were told only of what a journal holds that failed.

@@ -47,12 +47,11 @@ mod alone;
 mod audits;
 mod endless;
 mod keeping;
-mod lines;
 mod policies;
 mod runs;
 mod threads;
 
-use gx_history::policy::Policy;
+use gx_policy::Policy;
 use gx_policyfile::read_policy;
 use gx_server::{open_gate, sample_policy, told_of_policy};
 use gx_trials::{

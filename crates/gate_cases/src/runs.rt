@@ -8,8 +8,8 @@ use crate::endless::tell_endless;
 use gx_audit_bytes::AuditVersion::{One, Two};
 use gx_core::Gate;
 use gx_devices::Counted;
-use gx_history::policy::Policy;
 use gx_pipe::{PipeFault, run_pipe};
+use gx_policy::Policy;
 use gx_scripting::{Explained, run_script};
 use gx_server::Noted;
 use gx_trials::{

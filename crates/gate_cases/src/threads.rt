@@ -1,10 +1,9 @@
 //! Threads over shared gates: what is told of them is the same at each run, whichever thread comes first.
 
 use crate::keeping::{Device, run_kept};
-use crate::lines::run_lines;
 use gx_audit_bytes::RECORD_SIZE;
-use gx_history::policy::Policy;
 use gx_pass::Blank;
+use gx_policy::Policy;
 use gx_server::sample_policy;
 use gx_stage::{Ended, Play, Stage, Still, put};
 use std::alloc::Global;
@@ -111,33 +110,12 @@ fn run_plays<R: Threads + Wait + Clock + Sync>(
     Ok(())
 }
 
-/// Lines at a gate, on a table of its own.
-fn run_lines_once<R: Threads + Wait + Sync>(
-    rt: &R,
-    alloc: Global,
-    policy: &Policy,
-    out: &mut String,
-) -> Result<(), Ended> {
-    run_lines::<Brand, R>(rt, alloc, policy, Blank::new(alloc)?, out)
-}
-
-/// All runs, each on a gate of its own; the plays on a date that stands still.
-fn run_all<R: Threads + Wait + Clock + Sync>(
-    rt: &R,
-    alloc: Global,
-    policy: &Policy,
-    out: &mut String,
-) -> Result<(), Ended> {
-    run_lines_once(rt, alloc, policy, out)?;
-    run_plays(&Still::new(rt), alloc, policy, out)
-}
-
-/// Runs threads under the sample policy, and tells what came of it.
+/// Runs the plays under the sample policy, on a date that stands still, and tells what came of it.
 pub(crate) fn run_threads<R: Threads + Wait + Clock + Sync>(
     rt: &R,
     alloc: Global,
     out: &mut String,
 ) -> Result<(), Ended> {
     let policy = sample_policy(alloc)?;
-    run_all(rt, alloc, &policy, out)
+    run_plays(&Still::new(rt), alloc, &policy, out)
 }

@@ -1,6 +1,6 @@
 -- What a gate is, and what it answers.
 use Rattle.std.specs.Prelude.{ℕ, List}
-use Rattle.gx_history.specs.declared.policy.PolicyData.{PolicyData}
+use Rattle.gx_policy.specs.declared.policy.PolicyData.{PolicyData}
 use Rattle.gx_history.specs.declared.record.Asked.{Asked}
 use Rattle.gx_history.specs.declared.record.Step.TheVariants as steps
 use Rattle.gx_history.specs.declared.record.RecordData.{RecordData}

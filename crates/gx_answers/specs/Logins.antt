@@ -5,12 +5,12 @@ use Rattle.gx_units.specs.declared.names.UserName.{UserName}
 use Rattle.gx_units.specs.Spelling.{folded_password, folded_session, folded_user}
 use Rattle.gx_units.specs.declared.names.Password.{Password}
 use Rattle.gx_units.specs.declared.names.SessionName.{SessionName}
-use Rattle.gx_history.specs.declared.policy.PolicyData.{PolicyData}
-use Rattle.gx_history.specs.declared.policy.User.{User}
+use Rattle.gx_policy.specs.declared.policy.PolicyData.{PolicyData}
+use Rattle.gx_policy.specs.declared.policy.User.{User}
 use Rattle.gx_history.specs.declared.record.Request.{Request}
 use Rattle.gx_history.specs.declared.record.Request.TheVariants as requests
 use Rattle.gx_history.specs.declared.record.RecordData.{RecordData}
-use Rattle.gx_history.specs.declared.record.RuleName.TheVariants as rules
+use Rattle.gx_policy.specs.declared.rule_name.RuleName.TheVariants as rules
 use Rattle.gx_history.specs.declared.record.Verdict.{Verdict}
 use Rattle.gx_history.specs.declared.record.Verdict.TheVariants as verdicts
 use Rattle.gx_history.specs.Logins.{first_wanted, password_is, session_is}

@@ -8,7 +8,7 @@ use Rattle.gx_history.specs.declared.record.Request.{Request}
 use Rattle.gx_history.specs.declared.report.Report.{Report}
 use Rattle.gx_history.specs.InForce.{is_closed}
 use Rattle.gx_history.specs.Logins.{login_asked}
-use Rattle.gx_history.specs.People.{is_reader, role_in}
+use Rattle.gx_policy.specs.People.{is_reader, role_in}
 use Rattle.gx_history.specs.Streams.{copies, stream}
 use Rattle.gx_answers.specs.Gates.{GateData}
 

@@ -5,3 +5,5 @@ pub mod Only
 pub mod Full
 pub mod Whole
 pub mod Journals
+pub mod Pieces
+pub mod Days

@@ -5,8 +5,8 @@ use Rattle.std.specs.List.{AllByRecursion}
 use Rattle.std.proofs.lemmas.List.{take_at, drop_at, append-nil, append_cancel_left, length-append}
 use Rattle.std.proofs.lemmas.Bool.Decides.{nat_tests}
 use Rattle.gx_history.specs.declared.record.RecordData.{RecordData}
-use Rattle.gx_history.specs.declared.policy.PolicyData.{PolicyData}
-use Rattle.gx_history.specs.Lists.{each_after, each_with_earlier}
+use Rattle.gx_policy.specs.declared.policy.PolicyData.{PolicyData}
+use Rattle.gx_policy.specs.Lists.{each_after, each_with_earlier}
 use Rattle.gx_history.specs.Verdicts.{Follows, IsLegal, moment_of, next, step_verdict}
 use Rattle.gx_history_laws.proofs.Legality.{some_number}
 use Rattle.gx_history_laws.proofs.Order.{some_same}

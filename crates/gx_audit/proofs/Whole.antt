@@ -2,8 +2,8 @@
 use Rattle.std.proofs.Common.{◌≡◌, ℕ, List, ◌++◌, length, refl, sym, ap, ◌∙◌, subst, arith}
 use Rattle.std.proofs.lemmas.List.{take_all}
 use Rattle.gx_history.specs.declared.record.RecordData.{RecordData}
-use Rattle.gx_history.specs.declared.policy.PolicyData.{PolicyData}
-use Rattle.gx_history.specs.Lists.{slice}
+use Rattle.gx_policy.specs.declared.policy.PolicyData.{PolicyData}
+use Rattle.gx_policy.specs.Lists.{slice}
 use Rattle.gx_history.specs.Verdicts.{IsLegal}
 use Rattle.gx_audit_bytes.specs.declared.version.AuditVersion.{AuditVersion}
 use Rattle.gx_audit_bytes.specs.Headers.{front_of}

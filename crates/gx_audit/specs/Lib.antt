@@ -1,2 +1,5 @@
 pub mod Auditing
 pub mod Replaying
+pub mod Telling
+pub mod Faults
+pub mod Resuming

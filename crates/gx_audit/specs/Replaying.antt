@@ -1,6 +1,6 @@
 -- What is made of a journal: the audit, in version 2, of a day that goes on. It may be cut in its last record.
 use Rattle.std.specs.Prelude.{◌≡◌, ◌≢◌, ℕ, ◌+◌, ◌*◌, ◌<◌, ◌≤◌, List, ◌++◌, take, drop, length, ◌⊎◌}
-use Rattle.gx_history.specs.declared.policy.PolicyData.{PolicyData}
+use Rattle.gx_policy.specs.declared.policy.PolicyData.{PolicyData}
 use Rattle.gx_history.specs.declared.record.RecordData.{RecordData}
 use Rattle.gx_audit.specs.declared.fault.AuditFault.{AuditFault}
 use Rattle.gx_audit.specs.declared.fault.AuditFault.TheVariants as faults

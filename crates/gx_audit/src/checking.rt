@@ -16,8 +16,8 @@ use gx_audit_bytes::{
     AuditVersion, RECORD_SIZE, has_bytes, read_record_in, same_bytes, whole, write_header,
 };
 use gx_core::Gate;
-use gx_history::policy::Policy;
 use gx_history::record::{RecordData, Step};
+use gx_policy::Policy;
 use std::alloc::Global;
 
 /// Whether the bytes are the audit of a legal day under the policy: how many records there are, or the first fault. Bytes

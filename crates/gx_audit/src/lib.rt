@@ -1,12 +1,31 @@
-//! The audit: a day's records as bytes, and the check that they are those of a legal day.
+//! The audit: a day's records as bytes, and the check that they are those of a legal day. A day goes on from its journal
+//! by the same check.
+//!
+//! What the program does with audits: it writes that of a gate, tells whether one is that of a legal day, and shows its
+//! records to a person.
 #![tactic(auto)]
 
 mod checking;
+mod choosing;
 mod day;
+mod explaining;
 mod fault;
+mod keeping;
+mod places;
 mod replaying;
+mod resuming;
+mod showing;
+mod telling;
+mod writing_fault;
 
 pub use checking::{check_audit, check_record, record_at};
+pub use choosing::Choice;
 pub use day::{audit_of, header_of};
+pub use explaining::more_of_audit;
 pub use fault::AuditFault;
+pub use keeping::write_audit;
 pub use replaying::replay;
+pub use resuming::{Resumed, resume};
+pub use showing::show_audit;
+pub use telling::{AuditAnswer, told_of_audit};
+pub use writing_fault::AuditingFault;

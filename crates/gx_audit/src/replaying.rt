@@ -8,7 +8,7 @@ use crate::checking::{follow_records, header_end};
 use crate::fault::AuditFault;
 use gx_audit_bytes::AuditVersion;
 use gx_core::Gate;
-use gx_history::policy::Policy;
+use gx_policy::Policy;
 use std::alloc::Global;
 
 /// The gate of the records that a journal holds: an audit of version 2, which may be cut in its last record. Each step is

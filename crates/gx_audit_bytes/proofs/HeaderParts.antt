@@ -5,7 +5,7 @@ use Rattle.std.proofs.lemmas.List.{length-append, length-take}
 use Rattle.std.proofs.lemmas.Bool.Decides.{nat_tests}
 use Rattle.gx_ouch.proofs.Places.{known_to_lie}
 use Rattle.gx_ouch.specs.Layout.{HasSizes, LiesIn}
-use Rattle.gx_history.specs.declared.policy.PolicyData.{PolicyData}
+use Rattle.gx_policy.specs.declared.policy.PolicyData.{PolicyData}
 use Rattle.gx_audit_bytes.specs.Headers.{audit_header, header_bytes, header_contents, session_shown}
 use Rattle.gx_audit_bytes.proofs.ReadBack.{both_true}
 

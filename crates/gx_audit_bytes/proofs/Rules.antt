@@ -3,14 +3,14 @@ use Rattle.std.proofs.Common.{◌≡◌, ℕ, Bool, true, false, ◌||◌, ◌&&
 use Rattle.std.specs.Prelude.{Option, Some, None, IsTrue, codes, cond, bytes_eq, unwrap_or}
 use Rattle.std.specs.List.{find, list_any}
 use Rattle.gx_units.specs.declared.names.RuleId.{RuleId}
-use Rattle.gx_history.specs.RuleNames.{rule_id, rules_before, rules_behind, is_built_in}
+use Rattle.gx_policy.specs.RuleNames.{rule_id, rules_before, rules_behind, is_built_in}
 use Rattle.gx_history.specs.Showing.{is_showable, is_verdict_of, is_rule_shown, answers}
 use Rattle.gx_history.specs.declared.record.RecordData.{RecordData}
 use Rattle.gx_history.specs.declared.record.Request.{Request}
 use Rattle.gx_history.specs.declared.record.Step.{Step}
 use Rattle.gx_history.specs.declared.record.Step.TheVariants as steps
-use Rattle.gx_history.specs.declared.record.RuleName.{RuleName}
-use Rattle.gx_history.specs.declared.record.RuleName.TheVariants.{L1, L2, L3, G1, G2, G3, I1, I2, I3, P1, P2, P3, P4, P5, P6, P7, P8, P9, P10, P11, P12, Q1, Q2, Q3, Q4, File}
+use Rattle.gx_policy.specs.declared.rule_name.RuleName.{RuleName}
+use Rattle.gx_policy.specs.declared.rule_name.RuleName.TheVariants.{L1, L2, L3, G1, G2, G3, I1, I2, I3, P1, P2, P3, P4, P5, P6, P7, P8, P9, P10, P11, P12, Q1, Q2, Q3, Q4, File}
 use Rattle.gx_history.specs.declared.record.Verdict.{Verdict}
 use Rattle.gx_history.specs.declared.record.Verdict.TheVariants as verdicts
 use Rattle.gx_history.specs.declared.record.Fill.{Fill}

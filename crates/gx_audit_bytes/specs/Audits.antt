@@ -1,7 +1,7 @@
 -- The bytes of a day's records.
 use Rattle.std.specs.Prelude.{ℕ, List, ◌++◌, map}
 use Rattle.std.specs.List.{concat, AllByRecursion}
-use Rattle.gx_history.specs.declared.policy.PolicyData.{PolicyData}
+use Rattle.gx_policy.specs.declared.policy.PolicyData.{PolicyData}
 use Rattle.gx_history.specs.declared.record.RecordData.{RecordData}
 use Rattle.gx_audit_bytes.specs.declared.version.AuditVersion.{AuditVersion}
 use Rattle.gx_audit_bytes.specs.Headers.{front_of}

@@ -3,7 +3,7 @@ use Rattle.std.specs.Prelude.{ℕ, List, [], ◌∷◌, ◌++◌, length, take, 
 use Rattle.std.specs.Int.{w16, to_be_bytes}
 use Rattle.gx_ouch.specs.Layout.{Layout, field, laid_out}
 use Rattle.gx_ouch.specs.Writing.{letter}
-use Rattle.gx_history.specs.declared.policy.PolicyData.{PolicyData}
+use Rattle.gx_policy.specs.declared.policy.PolicyData.{PolicyData}
 use Rattle.gx_history.specs.InForce.{lifters_asked}
 use Rattle.gx_audit_bytes.specs.declared.version.AuditVersion.{AuditVersion}
 use Rattle.gx_audit_bytes.specs.declared.version.AuditVersion.TheVariants as versions

@@ -9,7 +9,7 @@ use Rattle.gx_history.specs.declared.record.Verdict.{Verdict}
 use Rattle.gx_history.specs.declared.record.Verdict.TheVariants as verdicts
 use Rattle.gx_history.specs.declared.record.RecordData.{RecordData}
 use Rattle.gx_history.specs.Requests.{handed_moment}
-use Rattle.gx_history.specs.RuleNames.{rule_id}
+use Rattle.gx_policy.specs.RuleNames.{rule_id}
 use Rattle.gx_audit_bytes.specs.declared.version.AuditVersion.{AuditVersion}
 use Rattle.gx_audit_bytes.specs.Versions.{mark_of}
 use Rattle.gx_audit_bytes.specs.Bodies.{request_kind, request_body, zero_padded}

@@ -6,7 +6,7 @@ ghost use Rattle.gx_history.specs.InForce.{lifters_asked};
 ghost use Rattle.gx_audit_bytes.specs.Headers.{audit_header, header_bytes, header_contents, session_shown};
 
 use crate::draft::{Draft, RECORD_SIZE, whole};
-use gx_history::policy::{Lifters, Policy};
+use gx_policy::{Lifters, Policy};
 
 /// A header's mark.
 pub(crate) const MARK: [u8; 4] = *b"GXH2";

@@ -7,7 +7,7 @@ ghost use Rattle.gx_units.specs.Names.{has_no_lower_case};
 ghost use Rattle.gx_units.specs.Spelling.{is_blank};
 ghost use Rattle.gx_history.specs.declared.record.Request.TheVariants as requests;
 ghost use Rattle.gx_history.specs.Payloads.{request_of};
-ghost use Rattle.gx_history.specs.RuleNames.{rule_id, is_built_in};
+ghost use Rattle.gx_policy.specs.RuleNames.{rule_id, is_built_in};
 ghost use Rattle.gx_history.specs.Showing.{is_showable, is_verdict_of, is_askable, answers, is_rule_shown, has_its_first};
 ghost use Rattle.gx_audit_bytes.specs.declared.version.AuditVersion.TheVariants as versions;
 ghost use Rattle.gx_audit_bytes.specs.Records.{record_bytes};
@@ -18,9 +18,10 @@ use crate::version::AuditVersion;
 use crate::writing::{rule_bytes, write_content, write_record_in};
 use gx_desk::{Action, Command, Tag, WrittenName};
 use gx_history::record::{
-    Asked, Fill, Login, Record, RecordData, Request, RuleName, Step, Unreadable, Verdict,
+    Asked, Fill, Login, Record, RecordData, Request, Step, Unreadable, Verdict,
 };
 use gx_ouch::Inbound;
+use gx_policy::RuleName;
 use gx_units::{AccountName, RuleId, Symbol, UserName};
 
 /// The built-in rules.
@@ -226,7 +227,7 @@ fn verdict(
 }
 
 /// The rule of this name: a built-in one, or else one of the file.
-#[tactic(auto, unfolding(crate::specs::Reading::rule_in, gx_history::specs::RuleNames::rules_before, gx_history::specs::RuleNames::rules_behind))]
+#[tactic(auto, unfolding(crate::specs::Reading::rule_in, gx_policy::specs::RuleNames::rules_before, gx_policy::specs::RuleNames::rules_behind))]
 fn rule_named(name: [u8; 8]) -> RuleName
     ensures { result ≡ rule_in name }
 {
@@ -301,7 +302,7 @@ fn is_rule_shown(rule: &RuleName) -> bool
     }
 }
 
-#[tactic(auto, unfolding(gx_history::specs::RuleNames::rules_before, gx_history::specs::RuleNames::rules_behind))]
+#[tactic(auto, unfolding(gx_policy::specs::RuleNames::rules_before, gx_policy::specs::RuleNames::rules_behind))]
 fn is_built_in(name: &RuleId) -> bool
     ensures { result ≡ is_built_in name.now }
 {

@@ -2,7 +2,7 @@
 
 ghost use Rattle.std.specs.Prelude.{◌≡◌, ◌++◌, ◌∷◌, Some, length, take, codes, IsTrue};
 ghost use Rattle.gx_ouch.specs.Layout.{LiesIn};
-ghost use Rattle.gx_history.specs.RuleNames.{rule_id};
+ghost use Rattle.gx_policy.specs.RuleNames.{rule_id};
 ghost use Rattle.gx_history.specs.Requests.{handed_moment};
 ghost use Rattle.gx_history.specs.Showing.{is_showable};
 ghost use Rattle.gx_audit_bytes.specs.declared.version.AuditVersion.TheVariants as versions;
@@ -14,7 +14,8 @@ ghost use Rattle.gx_audit_bytes.specs.Versions.{mark_of};
 use crate::bodies::{request_body, request_kind};
 use crate::draft::{Draft, RECORD_SIZE, whole, zero_padded};
 use crate::version::AuditVersion;
-use gx_history::record::{Record, RecordData, RuleName, Step, Verdict};
+use gx_history::record::{Record, RecordData, Step, Verdict};
+use gx_policy::RuleName;
 use gx_units::RuleId;
 
 const NO_USER: [u8; 6] = *b"      ";

@@ -14,7 +14,7 @@ use Rattle.std.proofs.lemmas.Map.Steps.{set_value_same}
 use Rattle.std.proofs.lemmas.Slice.Eq.{bytes_eq-Decides}
 use Rattle.gx_units.specs.Names.{same_stock}
 use Rattle.gx_units.specs.declared.names.Symbol.{Symbol}
-use Rattle.gx_history.specs.Lists.{are_distinct}
+use Rattle.gx_policy.specs.Lists.{are_distinct}
 use Rattle.gx_book.specs.declared.resting.Resting.{Resting}
 use Rattle.gx_book.specs.declared.sides.Sides.{Sides}
 use Rattle.gx_book.specs.Books.{IsSound, StockOrders, is_same_stock, is_sound_book, is_sound_stock, on_each_side, on_side, resting_in, side_of, stock_in, with_side}

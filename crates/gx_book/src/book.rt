@@ -7,7 +7,7 @@ ghost use Rattle.gx_book.specs.Queue.{IsLatest, is_among, no_orders, without_acc
 
 use crate::resting::{Resting, is_buy};
 use crate::sides::Sides;
-use gx_history::policy::Policy;
+use gx_policy::Policy;
 use gx_units::{AccountName, OutOfMemory, Symbol};
 use indexmap::IndexMap;
 use std::alloc::Global;

@@ -10,18 +10,19 @@ use Rattle.gx_units.specs.declared.names.UserName.{UserName}
 use Rattle.gx_desk.specs.declared.Action.{Action}
 use Rattle.gx_desk.specs.declared.Action.TheVariants as actions
 use Rattle.gx_desk.specs.declared.WrittenName.{WrittenName}
-use Rattle.gx_history.specs.declared.policy.Account.{Account}
-use Rattle.gx_history.specs.declared.policy.FileRule.{FileRule}
-use Rattle.gx_history.specs.declared.policy.PolicyData.{PolicyData}
-use Rattle.gx_history.specs.declared.policy.Role.{Role}
-use Rattle.gx_history.specs.declared.policy.Role.TheVariants as roles
-use Rattle.gx_history.specs.declared.policy.Scope.{Scope}
-use Rattle.gx_history.specs.declared.policy.User.{User}
+use Rattle.gx_policy.specs.declared.policy.Account.{Account}
+use Rattle.gx_policy.specs.declared.policy.FileRule.{FileRule}
+use Rattle.gx_policy.specs.declared.policy.PolicyData.{PolicyData}
+use Rattle.gx_policy.specs.declared.policy.Role.{Role}
+use Rattle.gx_policy.specs.declared.policy.Role.TheVariants as roles
+use Rattle.gx_policy.specs.declared.policy.Scope.{Scope}
+use Rattle.gx_policy.specs.declared.policy.User.{User}
 use Rattle.gx_history.specs.declared.record.RecordData.{RecordData}
 use Rattle.gx_history.specs.Asking.{are_his, holds_accounts, has_limit, has_stock, knows_limit, knows_stocks, rule_in_force, sees_now}
 use Rattle.gx_history.specs.InForce.{limit_of}
-use Rattle.gx_history.specs.People.{covers, is_officer, is_within, reader_in, role_in, rule_in}
-use Rattle.gx_history.specs.Soundness.{is_sound}
+use Rattle.gx_policy.specs.People.{covers, is_officer, is_within, role_in, rule_in}
+use Rattle.gx_history.specs.Readers.{reader_in}
+use Rattle.gx_policy.specs.Soundness.{is_sound}
 use Rattle.gx_people.specs.Entitled.{holds, sees}
 use Rattle.gx_people.proofs.Changing.{reader_in_force}
 use Rattle.gx_people.proofs.Keeping.{named_see}

@@ -1,7 +1,7 @@
 -- What the keepers answer is what the rules ask of the records.
 use Rattle.std.proofs.Common.{◌≡◌, ℕ, ◌+◌, ◌<◌, ◌^◌, max, pred, arith, length, drop, List, ◌∙◌, ap, refl, sym, true}
 use Rattle.std.proofs.lemmas.List.{length-take, length-drop}
-use Rattle.gx_history.specs.Lists.{slice}
+use Rattle.gx_policy.specs.Lists.{slice}
 use Rattle.std.specs.Prelude.{false, Option, Some, None, is_some, option_map, option_and_then, Result, Ok, Err, IfOk}
 use Rattle.std.specs.Option.{option_map_or}
 use Rattle.gx_units.specs.declared.names.AccountName.{AccountName}
@@ -9,10 +9,10 @@ use Rattle.gx_units.specs.declared.names.Password.{Password}
 use Rattle.gx_units.specs.declared.names.Token.{Token}
 use Rattle.gx_units.specs.declared.names.UserName.{UserName}
 use Rattle.gx_desk.specs.declared.Action.{Action}
-use Rattle.gx_history.specs.declared.policy.PolicyData.{PolicyData}
-use Rattle.gx_history.specs.declared.policy.Role.{Role}
-use Rattle.gx_history.specs.declared.policy.Role.TheVariants as roles
-use Rattle.gx_history.specs.declared.policy.User.{User}
+use Rattle.gx_policy.specs.declared.policy.PolicyData.{PolicyData}
+use Rattle.gx_policy.specs.declared.policy.Role.{Role}
+use Rattle.gx_policy.specs.declared.policy.Role.TheVariants as roles
+use Rattle.gx_policy.specs.declared.policy.User.{User}
 use Rattle.gx_history.specs.declared.record.RecordData.{RecordData}
 use Rattle.gx_history.specs.declared.record.Request.{Request}
 use Rattle.gx_history.specs.declared.report.Report.{Report}
@@ -20,7 +20,7 @@ use Rattle.gx_history.specs.Asking.{has_power, live_named}
 use Rattle.gx_history.specs.InForce.{is_closed, is_killed, kill_in_force, line_of}
 use Rattle.gx_history.specs.Logins.{password_is}
 use Rattle.gx_history.specs.Orders.{is_token_used}
-use Rattle.gx_history.specs.People.{account_of, account_of_role, is_officer, is_reader, is_trader, role_in, user_in}
+use Rattle.gx_policy.specs.People.{account_of, account_of_role, is_officer, is_reader, is_trader, role_in, user_in}
 use Rattle.gx_history.specs.Requests.{named_token}
 use Rattle.gx_history.specs.Streams.{copies, stream}
 use Rattle.gx_history.specs.Verdicts.{last_moment}

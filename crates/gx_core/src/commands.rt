@@ -3,7 +3,7 @@
 ghost use Rattle.std.specs.Prelude.{◌≡◌, ◌||◌, not};
 ghost use Rattle.std.specs.List.{list_all};
 ghost use Rattle.gx_history.specs.Asking.{are_his, changes, has_limit, knows_names, rule_in_force, sees_now};
-ghost use Rattle.gx_history.specs.People.{role_in};
+ghost use Rattle.gx_policy.specs.People.{role_in};
 ghost use Rattle.gx_people.specs.Entitled.{holds};
 ghost use Rattle.gx_rules.specs.Settings.{covers_in};
 ghost use Rattle.gx_core.specs.Known.{accounts_held, change_asked, has_concerned};
@@ -11,11 +11,11 @@ ghost use Rattle.gx_core.specs.Known.{is_his_or_not_its, names_known, power_held
 
 use crate::gate::Gate;
 use gx_desk::{Action, WrittenName};
-use gx_history::policy::Account;
 use gx_history::record::{Asked, Request};
 use gx_keepers::listed::{account_named, stock_named};
 use gx_people::people::People;
 use gx_people::power::Power;
+use gx_policy::Account;
 use gx_rules::RuleBook;
 use gx_units::{AccountName, RuleId, UserName};
 

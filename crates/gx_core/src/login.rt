@@ -5,9 +5,9 @@ ghost use Rattle.gx_history.specs.Logins.{session_is, first_wanted};
 ghost use Rattle.gx_answers.specs.Logins.{login_answer_after, login_asked_of};
 
 use gx_answers::LoginAnswer;
-use gx_history::policy::Policy;
-use gx_history::record::{Login, Request, RuleName, Verdict};
+use gx_history::record::{Login, Request, Verdict};
 use gx_people::people::People;
+use gx_policy::{Policy, RuleName};
 use gx_units::{LoginRejection, Password, SessionName, UserName};
 
 const BLANK_SESSION: SessionName = SessionName {

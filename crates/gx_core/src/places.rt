@@ -7,9 +7,9 @@ ghost use Rattle.gx_places.specs.Places.{has_kept_places, most_record_places};
 
 use gx_answers::StepFault;
 use gx_history::history::History;
-use gx_history::policy::Policy;
 use gx_history::record::{Asked, Verdict};
 use gx_places::requests::has_kept_places;
+use gx_policy::Policy;
 use gx_units::OutOfMemory;
 use std::alloc::Global;
 

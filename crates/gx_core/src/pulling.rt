@@ -1,7 +1,7 @@
 //! A part of a user's stream.
 
 ghost use Rattle.std.specs.Prelude.{◌≡◌, ◌+◌, length, max, IfOk};
-ghost use Rattle.gx_history.specs.Lists.{slice};
+ghost use Rattle.gx_policy.specs.Lists.{slice};
 ghost use Rattle.gx_core.specs.Kept.{is_past_the_end, told_kept};
 
 use gx_answers::{Pulled, Reports};

@@ -8,10 +8,10 @@ use Rattle.gx_units.specs.declared.names.UserName.{UserName}
 use Rattle.gx_desk.specs.declared.Action.{Action}
 use Rattle.gx_desk.specs.declared.Action.TheVariants as actions
 use Rattle.gx_desk.specs.declared.Command.{Command}
-use Rattle.gx_history.specs.declared.policy.Account.{Account}
-use Rattle.gx_history.specs.declared.policy.Lifters.{Lifters}
-use Rattle.gx_history.specs.declared.policy.PolicyData.{PolicyData}
-use Rattle.gx_history.specs.declared.policy.User.{User}
+use Rattle.gx_policy.specs.declared.policy.Account.{Account}
+use Rattle.gx_policy.specs.declared.policy.Lifters.{Lifters}
+use Rattle.gx_policy.specs.declared.policy.PolicyData.{PolicyData}
+use Rattle.gx_policy.specs.declared.policy.User.{User}
 use Rattle.gx_history.specs.declared.record.Asked.{Asked}
 use Rattle.gx_history.specs.declared.record.RecordData.{RecordData}
 use Rattle.gx_history.specs.declared.record.Request.{Request}
@@ -20,7 +20,7 @@ use Rattle.gx_history.specs.declared.record.Step.{Step}
 use Rattle.gx_history.specs.declared.record.Step.TheVariants as steps
 use Rattle.gx_history.specs.declared.record.Verdict.TheVariants as verdicts
 use Rattle.gx_history.specs.InForce.{is_close, kill_after, kill_or_lift_of, line_by, login_or_logout_of}
-use Rattle.gx_history.specs.Lists.{where_true}
+use Rattle.gx_policy.specs.Lists.{where_true}
 use Rattle.gx_history.specs.Requests.{action_of, asked, granted, granted_mark, is_granted}
 use Rattle.gx_history_laws.proofs.Adding.{granted_is}
 use Rattle.gx_history_laws.proofs.KillsNext.{kill_in_force_next, kill_in_force_none}

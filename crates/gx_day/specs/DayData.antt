@@ -4,7 +4,7 @@ use Rattle.std.specs.List.{find}
 use Rattle.gx_units.specs.Names.{same_account, same_user}
 use Rattle.gx_units.specs.declared.names.AccountName.{AccountName}
 use Rattle.gx_units.specs.declared.names.UserName.{UserName}
-use Rattle.gx_history.specs.declared.policy.Lifters.{Lifters}
+use Rattle.gx_policy.specs.declared.policy.Lifters.{Lifters}
 use Rattle.gx_history.specs.InForce.{kill_after}
 
 -- a user, and the line that he is logged in on, if he is on one

@@ -2,7 +2,7 @@
 use Rattle.std.specs.Prelude.{ℕ, Bool, List, [], ◌∷◌, map, Option, option_map}
 use Rattle.gx_units.specs.declared.names.AccountName.{AccountName}
 use Rattle.gx_units.specs.declared.names.UserName.{UserName}
-use Rattle.gx_history.specs.declared.policy.Lifters.{Lifters}
+use Rattle.gx_policy.specs.declared.policy.Lifters.{Lifters}
 use Rattle.gx_day.specs.declared.day.Kill.{Kill}
 use Rattle.gx_day.specs.declared.day.Kill.TheVariants as kills
 use Rattle.gx_day.specs.DayData.{AccountKill, DayData, UserLine}

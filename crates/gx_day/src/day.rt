@@ -2,13 +2,13 @@
 
 ghost use Rattle.std.specs.Option.{option_map_or};
 ghost use Rattle.std.specs.Prelude.{◌≡◌, IfOk, Some, None, false, not, option_map};
-ghost use Rattle.gx_history.specs.declared.policy.Lifters.TheVariants.{Two};
+ghost use Rattle.gx_policy.specs.declared.policy.Lifters.TheVariants.{Two};
 ghost use Rattle.gx_history.specs.InForce.{has_lifted, is_untouched, kill_after};
 ghost use Rattle.gx_day.specs.DayData.{at_moment, closed_day, kill_in, killed_in, line_in, with_line, with_mark};
 ghost use Rattle.gx_day.specs.InForce.{fresh_day, fresh_kills, fresh_lines};
 ghost use Rattle.gx_day.specs.View.{kills_of, lifted_by, lines_of};
 
-use gx_history::policy::{Lifters, Policy};
+use gx_policy::{Lifters, Policy};
 use gx_units::{AccountName, Moment, OutOfMemory, UserName};
 use indexmap::IndexMap;
 use std::alloc::Global;

@@ -9,9 +9,9 @@ use Rattle.gx_desk.specs.declared.Action.{Action}
 use Rattle.gx_history.specs.declared.facts.Facts.{Facts}
 use Rattle.gx_history.specs.declared.live_order.LiveOrder.{LiveOrder}
 use Rattle.gx_history.specs.declared.facts.RuleFigures.{RuleFigures}
-use Rattle.gx_history.specs.declared.policy.FileRule.{FileRule}
-use Rattle.gx_history.specs.declared.policy.PolicyData.{PolicyData}
-use Rattle.gx_history.specs.declared.policy.User.{User}
+use Rattle.gx_policy.specs.declared.policy.FileRule.{FileRule}
+use Rattle.gx_policy.specs.declared.policy.PolicyData.{PolicyData}
+use Rattle.gx_policy.specs.declared.policy.User.{User}
 use Rattle.gx_history.specs.declared.record.Asked.{Asked}
 use Rattle.gx_history.specs.declared.record.RecordData.{RecordData}
 use Rattle.gx_history.specs.declared.record.Request.{Request}
@@ -19,10 +19,10 @@ use Rattle.gx_history.specs.Asking.{facts, live_named, of_command}
 use Rattle.gx_history.specs.Executions.{Standing, live_orders, standing_under}
 use Rattle.gx_history.specs.Figures.{Positions, figures, no_figures, positions}
 use Rattle.gx_history.specs.InForce.{rules_in_force}
-use Rattle.gx_history.specs.People.{account_named, account_of}
+use Rattle.gx_policy.specs.People.{account_named, account_of}
 use Rattle.gx_history.specs.Requests.{named_token}
 use Rattle.gx_history.specs.Rules.{first_forbidding}
-use Rattle.gx_history.specs.Soundness.{is_sound}
+use Rattle.gx_policy.specs.Soundness.{is_sound}
 use Rattle.gx_history.specs.Verdicts.{facts_now, figures_asked, verdict, verdict_by, with_figures, IsLegal}
 use Rattle.gx_history.specs.LiveOrders.{kept}
 use Rattle.gx_history_laws.proofs.FiguresKept.{figures_kept}

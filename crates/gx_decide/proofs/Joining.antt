@@ -6,11 +6,11 @@ use Rattle.gx_units.specs.declared.names.AccountName.{AccountName}
 use Rattle.gx_history.specs.declared.facts.Facts.{Facts}
 use Rattle.gx_history.specs.declared.live_order.LiveOrder.{LiveOrder}
 use Rattle.gx_history.specs.declared.facts.RuleFigures.{RuleFigures}
-use Rattle.gx_history.specs.declared.policy.FileRule.{FileRule}
-use Rattle.gx_history.specs.declared.policy.PolicyData.{PolicyData}
+use Rattle.gx_policy.specs.declared.policy.FileRule.{FileRule}
+use Rattle.gx_policy.specs.declared.policy.PolicyData.{PolicyData}
 use Rattle.gx_history.specs.declared.record.Request.{Request}
 use Rattle.gx_history.specs.Figures.{Positions, figures, no_figures}
-use Rattle.gx_history.specs.People.{account_named}
+use Rattle.gx_policy.specs.People.{account_named}
 use Rattle.gx_history.specs.Rules.{figured, figured_from}
 use Rattle.gx_history.specs.Verdicts.{figures_asked, with_figures}
 use Rattle.gx_decide.specs.Deciding.{AskForTheSame, knows_asker}

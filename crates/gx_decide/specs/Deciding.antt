@@ -4,15 +4,15 @@ use Rattle.std.specs.Option.{option_map_or}
 use Rattle.gx_units.specs.declared.names.AccountName.{AccountName}
 use Rattle.gx_desk.specs.declared.Action.{Action}
 use Rattle.gx_history.specs.declared.facts.Facts.{Facts}
-use Rattle.gx_history.specs.declared.policy.FileRule.{FileRule}
-use Rattle.gx_history.specs.declared.policy.PolicyData.{PolicyData}
-use Rattle.gx_history.specs.declared.policy.User.{User}
+use Rattle.gx_policy.specs.declared.policy.FileRule.{FileRule}
+use Rattle.gx_policy.specs.declared.policy.PolicyData.{PolicyData}
+use Rattle.gx_policy.specs.declared.policy.User.{User}
 use Rattle.gx_history.specs.declared.record.Asked.{Asked}
 use Rattle.gx_history.specs.declared.record.Request.{Request}
 use Rattle.gx_history.specs.declared.record.Verdict.{Verdict}
 use Rattle.gx_history.specs.Asking.{of_command}
 use Rattle.gx_history.specs.Figures.{Positions, figures}
-use Rattle.gx_history.specs.People.{account_named}
+use Rattle.gx_policy.specs.People.{account_named}
 use Rattle.gx_history.specs.Rules.{first_forbidding}
 use Rattle.gx_history.specs.Verdicts.{figures_asked, verdict_by, with_figures}
 use Rattle.gx_people.specs.Entitled.{has, power_of}

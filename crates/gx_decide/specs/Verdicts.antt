@@ -1,14 +1,14 @@
 -- The verdict that was decided is that of the day.
 use Rattle.std.specs.Prelude.{◌≡◌, List, IsTrue}
 use Rattle.gx_history.specs.declared.facts.Facts.{Facts}
-use Rattle.gx_history.specs.declared.policy.FileRule.{FileRule}
-use Rattle.gx_history.specs.declared.policy.PolicyData.{PolicyData}
-use Rattle.gx_history.specs.declared.policy.User.{User}
+use Rattle.gx_policy.specs.declared.policy.FileRule.{FileRule}
+use Rattle.gx_policy.specs.declared.policy.PolicyData.{PolicyData}
+use Rattle.gx_policy.specs.declared.policy.User.{User}
 use Rattle.gx_history.specs.declared.record.Asked.{Asked}
 use Rattle.gx_history.specs.declared.record.RecordData.{RecordData}
 use Rattle.gx_history.specs.declared.record.Verdict.{Verdict}
 use Rattle.gx_history.specs.InForce.{rules_in_force}
-use Rattle.gx_history.specs.Soundness.{is_sound}
+use Rattle.gx_policy.specs.Soundness.{is_sound}
 use Rattle.gx_history.specs.Verdicts.{facts_now, verdict, IsLegal}
 use Rattle.gx_people.specs.Entitled.{people_in_force}
 use Rattle.gx_positions.specs.Changing.{live_positions}

@@ -5,10 +5,11 @@ ghost use Rattle.gx_history.specs.Verdicts.{verdict_by};
 ghost use Rattle.gx_decide.specs.Deciding.{with_powers, Decides};
 
 use gx_history::facts::{Facts, NoFigures};
-use gx_history::record::{Asked, Request, RuleName, Verdict};
+use gx_history::record::{Asked, Request, Verdict};
 use gx_ledger::ledger::Ledger;
 use gx_people::people::People;
 use gx_people::power::Power;
+use gx_policy::RuleName;
 use gx_rules::RuleBook;
 
 /// The facts, with what the people say of the asker's power.

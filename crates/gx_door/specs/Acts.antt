@@ -5,11 +5,11 @@ use Rattle.gx_units.specs.declared.names.Password.{Password}
 use Rattle.gx_units.specs.declared.names.SessionName.{SessionName}
 use Rattle.gx_units.specs.declared.names.UserName.{UserName}
 use Rattle.gx_units.specs.Spelling.{folded_password, folded_session, folded_user}
-use Rattle.gx_history.specs.declared.policy.PolicyData.{PolicyData}
+use Rattle.gx_policy.specs.declared.policy.PolicyData.{PolicyData}
 use Rattle.gx_history.specs.declared.record.Asked.{Asked}
 use Rattle.gx_history.specs.declared.record.RecordData.{RecordData}
 use Rattle.gx_history.specs.declared.record.Request.{Request}
-use Rattle.gx_history.specs.Lists.{slice}
+use Rattle.gx_policy.specs.Lists.{slice}
 use Rattle.gx_history.specs.Logins.{login_asked}
 use Rattle.gx_history.specs.Verdicts.{IsLegal}
 use Rattle.gx_answers.specs.declared.outcome.LoginAnswer.{LoginAnswer}

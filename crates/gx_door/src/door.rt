@@ -4,7 +4,7 @@ ghost use Rattle.std.specs.Prelude.{◌≡◌, ◌≢◌, ◌↔◌, ◌≤◌, 
 ghost use Rattle.gx_units.specs.Spelling.{folded_user};
 ghost use Rattle.gx_history.specs.declared.record.Request.TheVariants as requests;
 ghost use Rattle.gx_history.specs.InForce.{line_of};
-ghost use Rattle.gx_history.specs.Lists.{slice};
+ghost use Rattle.gx_policy.specs.Lists.{slice};
 ghost use Rattle.gx_history.specs.Showing.{has_its_first};
 ghost use Rattle.gx_history.specs.Verdicts.{IsLegal};
 ghost use Rattle.gx_answers.specs.Gates.{left_by, matched_by};
@@ -26,7 +26,7 @@ use std::sync::Wait;
 /// A step is refused as one of a full day exactly where the day is full. A granted Kill or Logout is never refused: at
 /// `Err` what was met is what the request was judged on, and it does not make it one.
 pub trait Door {
-    ghost use Rattle.gx_history.specs.declared.policy.PolicyData.{PolicyData};
+    ghost use Rattle.gx_policy.specs.declared.policy.PolicyData.{PolicyData};
     ghost use Rattle.gx_pass.specs.declared.view.Holds.{Holds};
 
     /// A pass, as its holder sees it.

@@ -5,12 +5,12 @@ use Rattle.std.specs.List.{list_all, AllByRecursion}
 use Rattle.gx_units.specs.Names.{same_user}
 use Rattle.gx_units.specs.declared.names.AccountName.{AccountName}
 use Rattle.gx_units.specs.declared.names.UserName.{UserName}
-use Rattle.gx_history.specs.declared.policy.PolicyData.{PolicyData}
-use Rattle.gx_history.specs.declared.policy.Role.{Role}
-use Rattle.gx_history.specs.declared.policy.Role.TheVariants as roles
-use Rattle.gx_history.specs.declared.policy.User.{User}
-use Rattle.gx_history.specs.People.{account_named, account_of, account_of_role, user_in}
-use Rattle.gx_history.specs.Soundness.{is_role_sound, is_sound, is_user_sound}
+use Rattle.gx_policy.specs.declared.policy.PolicyData.{PolicyData}
+use Rattle.gx_policy.specs.declared.policy.Role.{Role}
+use Rattle.gx_policy.specs.declared.policy.Role.TheVariants as roles
+use Rattle.gx_policy.specs.declared.policy.User.{User}
+use Rattle.gx_policy.specs.People.{account_named, account_of, account_of_role, user_in}
+use Rattle.gx_policy.specs.Soundness.{is_role_sound, is_sound, is_user_sound}
 use Rattle.gx_history_laws.proofs.Judging.{both}
 use Rattle.gx_history_laws.proofs.Order.{some_same}
 use Rattle.gx_effects.proofs.NewOrders.{found_is}

@@ -3,18 +3,18 @@ use Rattle.std.proofs.Common.{◌≡◌, Bool, true, false, List, [], ◌∷◌,
 use Rattle.std.specs.Prelude.{Some, ◌&&◌, not}
 use Rattle.std.proofs.lemmas.Bool.{not-false}
 use Rattle.gx_desk.specs.declared.Action.{Action}
-use Rattle.gx_history.specs.declared.policy.PolicyData.{PolicyData}
+use Rattle.gx_policy.specs.declared.policy.PolicyData.{PolicyData}
 use Rattle.gx_history.specs.declared.record.Asked.{Asked}
 use Rattle.gx_history.specs.declared.record.RecordData.{RecordData}
 use Rattle.gx_history.specs.declared.record.Request.{Request}
-use Rattle.gx_history.specs.declared.record.RuleName.{RuleName}
-use Rattle.gx_history.specs.declared.record.RuleName.TheVariants.{Q1, Q2, Q3, Q4}
+use Rattle.gx_policy.specs.declared.rule_name.RuleName.{RuleName}
+use Rattle.gx_policy.specs.declared.rule_name.RuleName.TheVariants.{Q1, Q2, Q3, Q4}
 use Rattle.gx_history.specs.declared.record.Step.TheVariants as steps
 use Rattle.gx_history.specs.declared.record.Verdict.TheVariants as verdicts
 use Rattle.gx_history.specs.Asking.{facts, of_command, has_power, are_his, changes, knows_names}
-use Rattle.gx_history.specs.People.{role_in}
+use Rattle.gx_policy.specs.People.{role_in}
 use Rattle.gx_history.specs.Requests.{is_command}
-use Rattle.gx_history.specs.RuleNames.{rules_behind}
+use Rattle.gx_policy.specs.RuleNames.{rules_behind}
 use Rattle.gx_history.specs.Rules.{forbids}
 use Rattle.gx_history.specs.Verdicts.{next, facts_now, rules_now}
 use Rattle.gx_history_laws.proofs.Granting.{granted_passes, none_behind}

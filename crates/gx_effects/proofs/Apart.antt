@@ -3,7 +3,7 @@ use Rattle.std.proofs.Common.{◌≡◌, ℕ, Bool, true, false, not, List, [], 
 use Rattle.std.specs.Prelude.{Option, Some, None, find, ◌==◌, ◌||◌}
 use Rattle.std.specs.List.{filter, filter_map, cons_option, list_any, AllByRecursion}
 use Rattle.std.proofs.lemmas.Bool.{eq-eqb, ne_eqb}
-use Rattle.gx_history.specs.Lists.{placed}
+use Rattle.gx_policy.specs.Lists.{placed}
 use Rattle.gx_history_laws.proofs.Numbers.{all_weaker}
 use Rattle.gx_history_laws.proofs.Owners.{all_both, filtered}
 

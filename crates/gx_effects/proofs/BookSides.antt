@@ -5,7 +5,7 @@ use Rattle.std.specs.List.{AllByRecursion}
 use Rattle.std.proofs.lemmas.Bool.{eq-eqb}
 use Rattle.gx_units.specs.Names.{same_stock}
 use Rattle.gx_units.specs.declared.names.Symbol.{Symbol}
-use Rattle.gx_history.specs.declared.policy.PolicyData.{PolicyData}
+use Rattle.gx_policy.specs.declared.policy.PolicyData.{PolicyData}
 use Rattle.gx_history.specs.declared.record.RecordData.{RecordData}
 use Rattle.gx_history.specs.Book.{IsAtRest, has_rested, is_on_side, resting}
 use Rattle.gx_history.specs.Executions.{Standing, standings, standing_numbered, is_live, live_orders}

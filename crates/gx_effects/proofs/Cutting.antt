@@ -8,22 +8,22 @@ use Rattle.gx_units.specs.declared.names.Symbol.{Symbol}
 use Rattle.gx_units.specs.declared.names.UserName.{UserName}
 use Rattle.gx_ouch.specs.declared.inbound.CancelOrder.{CancelOrder}
 use Rattle.gx_ouch.specs.declared.letters.CancelReason.TheVariants as cancels
-use Rattle.gx_history.specs.declared.policy.PolicyData.{PolicyData}
+use Rattle.gx_policy.specs.declared.policy.PolicyData.{PolicyData}
 use Rattle.gx_history.specs.declared.record.Asked.{Asked}
 use Rattle.gx_history.specs.declared.record.RecordData.{RecordData}
 use Rattle.gx_history.specs.declared.record.Request.TheVariants as requests
-use Rattle.gx_history.specs.declared.record.RuleName.{RuleName}
-use Rattle.gx_history.specs.declared.record.RuleName.TheVariants.{L1, L2, L3, G1, G2, G3, I1, I2, I3}
+use Rattle.gx_policy.specs.declared.rule_name.RuleName.{RuleName}
+use Rattle.gx_policy.specs.declared.rule_name.RuleName.TheVariants.{L1, L2, L3, G1, G2, G3, I1, I2, I3}
 use Rattle.gx_history.specs.declared.record.Step.TheVariants as steps
 use Rattle.gx_history.specs.declared.record.Verdict.TheVariants as verdicts
 use Rattle.gx_history.specs.Book.{incoming, resting, rested, has_rested}
 use Rattle.gx_history.specs.Effects.{CutsOrder, resized, with_left}
 use Rattle.gx_history.specs.Executions.{Standing, standing, standings, standing_under, executions, done, sides, open_shares, is_live, live_orders}
-use Rattle.gx_history.specs.Lists.{where_true}
+use Rattle.gx_policy.specs.Lists.{where_true}
 use Rattle.gx_history.specs.Orders.{Order, orders, total, is_dead, size_set}
 use Rattle.gx_history.specs.LiveOrders.{kept}
 use Rattle.gx_history.specs.declared.live_order.LiveOrder.{LiveOrder}
-use Rattle.gx_history.specs.RuleNames.{rules_before}
+use Rattle.gx_policy.specs.RuleNames.{rules_before}
 use Rattle.gx_history.specs.Rules.{forbids, takes_nothing}
 use Rattle.gx_history.specs.Streams.{stream, canceled, decrease, reported, to_user}
 use Rattle.gx_history.specs.Verdicts.{next, facts_now, IsLegal}

@@ -11,7 +11,7 @@ use Rattle.gx_units.specs.declared.names.Symbol.{Symbol}
 use Rattle.gx_units.specs.declared.names.UserName.{UserName}
 use Rattle.gx_ouch.specs.declared.letters.Liquidity.{Liquidity}
 use Rattle.gx_ouch.specs.declared.letters.Liquidity.TheVariants as liquidities
-use Rattle.gx_history.specs.declared.policy.PolicyData.{PolicyData}
+use Rattle.gx_policy.specs.declared.policy.PolicyData.{PolicyData}
 use Rattle.gx_history.specs.declared.record.Fill.{Fill}
 use Rattle.gx_history.specs.declared.record.RecordData.{RecordData}
 use Rattle.gx_history.specs.declared.record.Step.TheVariants as steps

@@ -9,8 +9,8 @@ use Rattle.gx_units.specs.declared.names.UserName.{UserName}
 use Rattle.gx_desk.specs.declared.Action.{Action}
 use Rattle.gx_desk.specs.declared.Action.TheVariants as actions
 use Rattle.gx_desk.specs.declared.Command.{Command}
-use Rattle.gx_history.specs.declared.policy.FileRule.{FileRule}
-use Rattle.gx_history.specs.declared.policy.PolicyData.{PolicyData}
+use Rattle.gx_policy.specs.declared.policy.FileRule.{FileRule}
+use Rattle.gx_policy.specs.declared.policy.PolicyData.{PolicyData}
 use Rattle.gx_history.specs.declared.record.Asked.{Asked}
 use Rattle.gx_history.specs.declared.record.RecordData.{RecordData}
 use Rattle.gx_history.specs.declared.record.Request.TheVariants as requests
@@ -19,7 +19,7 @@ use Rattle.gx_history.specs.declared.record.Verdict.TheVariants as verdicts
 use Rattle.gx_history.specs.Book.{incoming, resting, rested, has_rested, by_price, is_on_side}
 use Rattle.gx_history.specs.Effects.{KillsAccount}
 use Rattle.gx_history.specs.Executions.{Standing, standing, standings, standing_numbered, executions, open_shares, is_live, live_orders}
-use Rattle.gx_history.specs.Lists.{where_true}
+use Rattle.gx_policy.specs.Lists.{where_true}
 use Rattle.gx_history.specs.Orders.{Order, orders, ends_account}
 use Rattle.gx_history.specs.Verdicts.{next, IsLegal}
 use Rattle.gx_history_laws.proofs.Ends.{ended, nothing_open, sooner}

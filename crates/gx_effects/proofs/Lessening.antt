@@ -4,11 +4,11 @@ use Rattle.std.specs.Prelude.{Option, Some, None, option_map, ◌&&◌, ◌==◌
 use Rattle.std.specs.List.{filter, filter_map, cons_option, list_any, AllByRecursion}
 use Rattle.gx_units.specs.Names.{same_stock}
 use Rattle.gx_units.specs.declared.names.Symbol.{Symbol}
-use Rattle.gx_history.specs.declared.policy.PolicyData.{PolicyData}
+use Rattle.gx_policy.specs.declared.policy.PolicyData.{PolicyData}
 use Rattle.gx_history.specs.declared.record.RecordData.{RecordData}
 use Rattle.gx_history.specs.Book.{incoming, resting, rested, has_rested, is_better, by_price, is_on_side}
 use Rattle.gx_history.specs.Executions.{Standing, standings, standing_numbered, is_live, live_orders}
-use Rattle.gx_history.specs.Lists.{placed}
+use Rattle.gx_policy.specs.Lists.{placed}
 use Rattle.gx_history.specs.Effects.{with_open, still_open}
 use Rattle.gx_history_laws.proofs.Adding.{all_pass}
 use Rattle.gx_history_laws.proofs.Judging.{both}

@@ -10,12 +10,12 @@ use Rattle.gx_units.specs.declared.names.UserName.{UserName}
 use Rattle.gx_desk.specs.declared.Action.{Action}
 use Rattle.gx_desk.specs.declared.Action.TheVariants as actions
 use Rattle.gx_desk.specs.declared.Command.{Command}
-use Rattle.gx_history.specs.declared.policy.FileRule.{FileRule}
-use Rattle.gx_history.specs.declared.policy.Lifters.{Lifters}
-use Rattle.gx_history.specs.declared.policy.Lifters.TheVariants as lifters
-use Rattle.gx_history.specs.declared.policy.PolicyData.{PolicyData}
-use Rattle.gx_history.specs.declared.policy.Role.{Role}
-use Rattle.gx_history.specs.declared.policy.Role.TheVariants as roles
+use Rattle.gx_policy.specs.declared.policy.FileRule.{FileRule}
+use Rattle.gx_policy.specs.declared.policy.Lifters.{Lifters}
+use Rattle.gx_policy.specs.declared.policy.Lifters.TheVariants as lifters
+use Rattle.gx_policy.specs.declared.policy.PolicyData.{PolicyData}
+use Rattle.gx_policy.specs.declared.policy.Role.{Role}
+use Rattle.gx_policy.specs.declared.policy.Role.TheVariants as roles
 use Rattle.gx_history.specs.declared.record.Asked.{Asked}
 use Rattle.gx_history.specs.declared.record.RecordData.{RecordData}
 use Rattle.gx_history.specs.declared.record.Request.TheVariants as requests
@@ -24,8 +24,8 @@ use Rattle.gx_history.specs.declared.record.Verdict.TheVariants as verdicts
 use Rattle.gx_history.specs.Asking.{has_power, are_his}
 use Rattle.gx_history.specs.Effects.{LiftsAccount, IsGrantedLift}
 use Rattle.gx_history.specs.InForce.{fewer_than, has_lifted, is_killed, kill_after, kill_in_force, kill_or_lift_of, lifted_since_kill, lifters_asked, with_officer}
-use Rattle.gx_history.specs.Lists.{is_shorter, where_true}
-use Rattle.gx_history.specs.People.{covers, role_in}
+use Rattle.gx_policy.specs.Lists.{is_shorter, where_true}
+use Rattle.gx_policy.specs.People.{covers, role_in}
 use Rattle.gx_history.specs.Requests.{granted, granted_mark, action_of}
 use Rattle.gx_history.specs.Verdicts.{next, Follows, IsLegal}
 use Rattle.gx_history_laws.proofs.Granting.{legal_keeps}

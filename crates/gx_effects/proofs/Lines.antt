@@ -9,7 +9,7 @@ use Rattle.gx_units.specs.declared.names.Symbol.{Symbol}
 use Rattle.gx_units.specs.declared.names.UserName.{UserName}
 use Rattle.gx_desk.specs.declared.Action.{Action}
 use Rattle.gx_history_laws.proofs.KillsNext.{kill_in_force_next}
-use Rattle.gx_history.specs.declared.policy.PolicyData.{PolicyData}
+use Rattle.gx_policy.specs.declared.policy.PolicyData.{PolicyData}
 use Rattle.gx_history.specs.declared.record.Asked.{Asked}
 use Rattle.gx_history.specs.declared.record.Login.{Login}
 use Rattle.gx_history.specs.declared.record.RecordData.{RecordData}
@@ -20,7 +20,7 @@ use Rattle.gx_history.specs.declared.record.Verdict.TheVariants as verdicts
 use Rattle.gx_history.specs.declared.report.Message.{Message}
 use Rattle.gx_history.specs.Effects.{ChangesLine}
 use Rattle.gx_history.specs.InForce.{kill_or_lift_of, is_closed, is_close, rules_in_force, line_of, line_by, grant_or_revoke_of, kill_after, kill_in_force}
-use Rattle.gx_history.specs.Lists.{where_true}
+use Rattle.gx_policy.specs.Lists.{where_true}
 use Rattle.gx_history.specs.Requests.{granted_action, action_of}
 use Rattle.gx_history.specs.Streams.{stream, reported, reports_of_grant}
 use Rattle.gx_history.specs.Verdicts.{next}

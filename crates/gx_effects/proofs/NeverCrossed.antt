@@ -9,7 +9,7 @@ use Rattle.std.proofs.lemmas.List.Folds.{list_any-append}
 use Rattle.std.proofs.lemmas.Slice.Eq.{bytes_eq-Decides}
 use Rattle.gx_units.specs.Names.{same_stock}
 use Rattle.gx_units.specs.declared.names.Symbol.{Symbol}
-use Rattle.gx_history.specs.declared.policy.PolicyData.{PolicyData}
+use Rattle.gx_policy.specs.declared.policy.PolicyData.{PolicyData}
 use Rattle.gx_history.specs.declared.record.RecordData.{RecordData}
 use Rattle.gx_history.specs.declared.record.Step.{Step}
 use Rattle.gx_history.specs.declared.record.Step.TheVariants as steps
@@ -17,7 +17,7 @@ use Rattle.gx_history.specs.declared.record.Verdict.{Verdict}
 use Rattle.gx_history.specs.declared.record.Verdict.TheVariants as verdicts
 use Rattle.gx_history.specs.Book.{is_ahead, resting, rested, rested_of, is_better, is_buy_order, is_on_side}
 use Rattle.gx_history.specs.Executions.{Standing, standing, standings, standing_numbered, executions, open_shares}
-use Rattle.gx_history.specs.Lists.{IsInOrder}
+use Rattle.gx_policy.specs.Lists.{IsInOrder}
 use Rattle.gx_history.specs.Matched.{meets_none}
 use Rattle.gx_history.specs.Matching.{crosses}
 use Rattle.gx_history.specs.Orders.{Order, orders, orders_added, order_numbered}

@@ -9,7 +9,7 @@ use Rattle.gx_units.specs.declared.names.UserName.{UserName}
 use Rattle.gx_ouch.specs.declared.inbound.CancelOrder.{CancelOrder}
 use Rattle.gx_desk.specs.declared.Action.{Action}
 use Rattle.gx_desk.specs.declared.Action.TheVariants as actions
-use Rattle.gx_history.specs.declared.policy.PolicyData.{PolicyData}
+use Rattle.gx_policy.specs.declared.policy.PolicyData.{PolicyData}
 use Rattle.gx_history.specs.declared.record.Asked.{Asked}
 use Rattle.gx_history.specs.declared.record.Request.{Request}
 use Rattle.gx_history.specs.declared.record.Request.TheVariants as requests
@@ -21,12 +21,12 @@ use Rattle.gx_history.specs.declared.record.Verdict.TheVariants as verdicts
 use Rattle.gx_history.specs.Asking.{facts, live_named}
 use Rattle.gx_history.specs.Executions.{Standing, standing, standings, standing_under, executions, done, sides, open_shares, is_live, live_orders}
 use Rattle.gx_history.specs.InForce.{is_killed, kill_after, kill_in_force, kill_or_lift_of}
-use Rattle.gx_history.specs.Lists.{where_true}
+use Rattle.gx_policy.specs.Lists.{where_true}
 use Rattle.gx_history.specs.Orders.{Order, orders, total, is_dead, ends, ends_account, size_set, size_asked}
-use Rattle.gx_history.specs.People.{account_of}
+use Rattle.gx_policy.specs.People.{account_of}
 use Rattle.gx_history.specs.Requests.{granted, granted_action, granted_mark, action_of, asked, is_granted, is_order}
 use Rattle.gx_history.specs.Rules.{forbids}
-use Rattle.gx_history.specs.declared.record.RuleName.TheVariants.{I2}
+use Rattle.gx_policy.specs.declared.rule_name.RuleName.TheVariants.{I2}
 use Rattle.gx_history.specs.Verdicts.{next, facts_now, Follows, IsLegal}
 use Rattle.gx_history.specs.LiveOrders.{kept}
 use Rattle.gx_history_laws.proofs.Adding.{AddsNone, AddsOne, what_is_added, granted_is, user_is, found_passes, all_pass, name_is_no_bar, not_none}

@@ -2,7 +2,7 @@
 use Rattle.std.proofs.Common.{◌≡◌, Bool, true, false, not, List, [], ◌∷◌, ◌++◌, refl, cond, arith, fold}
 use Rattle.std.specs.List.{filter, AllByRecursion}
 use Rattle.std.proofs.lemmas.Bool.{le-ltb}
-use Rattle.gx_history.specs.Lists.{placed, IsInOrder}
+use Rattle.gx_policy.specs.Lists.{placed, IsInOrder}
 use Rattle.gx_history.specs.Book.{is_ahead}
 use Rattle.gx_history.specs.Executions.{Standing}
 use Rattle.gx_history_laws.proofs.Adding.{all_pass}

@@ -5,11 +5,11 @@ use Rattle.std.specs.List.{filter, filter_map, AllByRecursion}
 use Rattle.std.proofs.lemmas.Bool.{eqb-true}
 use Rattle.std.proofs.lemmas.List.{append-nil}
 use Rattle.gx_units.specs.declared.names.Symbol.{Symbol}
-use Rattle.gx_history.specs.declared.policy.PolicyData.{PolicyData}
+use Rattle.gx_policy.specs.declared.policy.PolicyData.{PolicyData}
 use Rattle.gx_history.specs.declared.record.RecordData.{RecordData}
 use Rattle.gx_history.specs.Book.{by_time, is_on_side, has_price, is_ahead, rested, resting}
 use Rattle.gx_history.specs.Executions.{Standing, standings, standing_numbered}
-use Rattle.gx_history.specs.Lists.{placed}
+use Rattle.gx_policy.specs.Lists.{placed}
 use Rattle.gx_history_laws.proofs.Adding.{all_pass}
 use Rattle.gx_history_laws.proofs.Owners.{filtered}
 use Rattle.gx_effects.proofs.Lessening.{rest_on_side}

@@ -5,7 +5,7 @@ use Rattle.std.specs.List.{filter, AllByRecursion}
 use Rattle.std.proofs.lemmas.Bool.{lt-ltb, le-ltb, ltb-true, ltb-false}
 use Rattle.std.proofs.lemmas.List.{append-nil}
 use Rattle.std.proofs.lemmas.List.Elements.{filter-append}
-use Rattle.gx_history.specs.Lists.{placed, in_order}
+use Rattle.gx_policy.specs.Lists.{placed, in_order}
 use Rattle.gx_history.specs.Book.{is_ahead, is_buy_order, is_better, by_price, is_on_side}
 use Rattle.gx_history.specs.Executions.{Standing}
 use Rattle.gx_history_laws.proofs.Owners.{filtered}

@@ -9,7 +9,7 @@ use Rattle.std.proofs.lemmas.List.Folds.{list_any-append}
 use Rattle.gx_units.specs.Names.{same_stock}
 use Rattle.gx_units.specs.declared.names.Symbol.{Symbol}
 use Rattle.gx_units.specs.declared.names.UserName.{UserName}
-use Rattle.gx_history.specs.declared.policy.PolicyData.{PolicyData}
+use Rattle.gx_policy.specs.declared.policy.PolicyData.{PolicyData}
 use Rattle.gx_history.specs.declared.record.RecordData.{RecordData}
 use Rattle.gx_history.specs.declared.record.Step.TheVariants as steps
 use Rattle.gx_history.specs.declared.record.Verdict.{Verdict}
@@ -17,7 +17,7 @@ use Rattle.gx_history.specs.declared.record.Verdict.TheVariants as verdicts
 use Rattle.gx_history.specs.declared.report.Report.{Report}
 use Rattle.gx_history.specs.Book.{incoming, resting, rested, rested_of, is_better, by_price, is_on_side}
 use Rattle.gx_history.specs.Executions.{Execution, Standing, standing, standings, standing_numbered, executions, done, sides, is_live, live_orders}
-use Rattle.gx_history.specs.Lists.{placed}
+use Rattle.gx_policy.specs.Lists.{placed}
 use Rattle.gx_history.specs.Matched.{RestsOrder, meets_none}
 use Rattle.gx_history.specs.Orders.{Order, orders}
 use Rattle.gx_history.specs.OuchValues.{immediate_or_cancel}

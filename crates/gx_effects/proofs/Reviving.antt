@@ -5,7 +5,7 @@ use Rattle.std.specs.List.{list_any, filter, AllByRecursion}
 use Rattle.std.proofs.lemmas.Bool.{lt-ltb, ltb-true}
 use Rattle.gx_units.specs.Names.{same_user, same_token}
 use Rattle.gx_ouch.specs.declared.inbound.CancelOrder.{CancelOrder}
-use Rattle.gx_history.specs.declared.policy.PolicyData.{PolicyData}
+use Rattle.gx_policy.specs.declared.policy.PolicyData.{PolicyData}
 use Rattle.gx_history.specs.declared.record.Asked.{Asked}
 use Rattle.gx_history.specs.declared.record.Request.{Request}
 use Rattle.gx_history.specs.declared.record.Request.TheVariants as requests
@@ -13,7 +13,7 @@ use Rattle.gx_history.specs.declared.record.RecordData.{RecordData}
 use Rattle.gx_history.specs.declared.record.Step.TheVariants as steps
 use Rattle.gx_history.specs.declared.record.Verdict.TheVariants as verdicts
 use Rattle.gx_history.specs.Executions.{Standing, standing, standings, standing_under, executions, open_shares, done, sides, is_live, live_orders}
-use Rattle.gx_history.specs.Lists.{are_distinct, where_true}
+use Rattle.gx_policy.specs.Lists.{are_distinct, where_true}
 use Rattle.gx_history.specs.Orders.{Order, orders, size_set, size_asked, is_dead, total, ends}
 use Rattle.gx_history.specs.Requests.{granted}
 use Rattle.gx_history.specs.Verdicts.{next, Follows, IsLegal}

@@ -11,9 +11,9 @@ use Rattle.gx_units.specs.declared.names.UserName.{UserName}
 use Rattle.gx_desk.specs.declared.Action.{Action}
 use Rattle.gx_desk.specs.declared.Action.TheVariants as actions
 use Rattle.gx_desk.specs.declared.Command.{Command}
-use Rattle.gx_history.specs.declared.policy.FileRule.{FileRule}
-use Rattle.gx_history.specs.declared.policy.PolicyData.{PolicyData}
-use Rattle.gx_history.specs.declared.policy.RuleKind.{RuleKind}
+use Rattle.gx_policy.specs.declared.policy.FileRule.{FileRule}
+use Rattle.gx_policy.specs.declared.policy.PolicyData.{PolicyData}
+use Rattle.gx_policy.specs.declared.policy.RuleKind.{RuleKind}
 use Rattle.gx_history.specs.declared.record.Asked.{Asked}
 use Rattle.gx_history.specs.declared.record.RecordData.{RecordData}
 use Rattle.gx_history.specs.declared.record.Request.TheVariants as requests
@@ -22,7 +22,7 @@ use Rattle.gx_history.specs.declared.record.Verdict.TheVariants as verdicts
 use Rattle.gx_history.specs.Asking.{rule_in_force, knows_stocks, knows_names}
 use Rattle.gx_history.specs.Commanded.{ChangesRule}
 use Rattle.gx_history.specs.InForce.{rules_in_force, changed, change_rule, limit_of, with_limit, with_stocks, adding, removing, stocks_of, grant_or_revoke_of}
-use Rattle.gx_history.specs.People.{rule_in, stock_named}
+use Rattle.gx_policy.specs.People.{rule_in, stock_named}
 use Rattle.gx_history.specs.Verdicts.{next}
 use Rattle.gx_history_laws.proofs.Judging.{both}
 use Rattle.gx_history_laws.proofs.Order.{some_same}

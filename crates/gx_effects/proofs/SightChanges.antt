@@ -9,8 +9,8 @@ use Rattle.gx_desk.specs.declared.Action.{Action}
 use Rattle.gx_desk.specs.declared.Action.TheVariants as actions
 use Rattle.gx_desk.specs.declared.Command.{Command}
 use Rattle.gx_desk.specs.declared.WrittenName.{WrittenName}
-use Rattle.gx_history.specs.declared.policy.FileRule.{FileRule}
-use Rattle.gx_history.specs.declared.policy.PolicyData.{PolicyData}
+use Rattle.gx_policy.specs.declared.policy.FileRule.{FileRule}
+use Rattle.gx_policy.specs.declared.policy.PolicyData.{PolicyData}
 use Rattle.gx_history.specs.declared.record.Asked.{Asked}
 use Rattle.gx_history.specs.declared.record.RecordData.{RecordData}
 use Rattle.gx_history.specs.declared.record.Request.TheVariants as requests
@@ -18,8 +18,8 @@ use Rattle.gx_history.specs.declared.record.Step.TheVariants as steps
 use Rattle.gx_history.specs.declared.record.Verdict.TheVariants as verdicts
 use Rattle.gx_history.specs.Commanded.{ChangesSight}
 use Rattle.gx_history.specs.InForce.{rules_in_force, changed, is_entitled, grant_or_revoke_of}
-use Rattle.gx_history.specs.Lists.{where_true}
-use Rattle.gx_history.specs.People.{role_in, is_reader}
+use Rattle.gx_policy.specs.Lists.{where_true}
+use Rattle.gx_policy.specs.People.{role_in, is_reader}
 use Rattle.gx_history.specs.Verdicts.{next}
 use Rattle.gx_history_laws.proofs.Names.{account_is_itself}
 use Rattle.gx_history_laws.proofs.NextInForce.{is_entitled_next}

@@ -10,7 +10,7 @@ use Rattle.gx_units.specs.declared.names.AccountName.{AccountName}
 use Rattle.gx_units.specs.declared.names.Symbol.{Symbol}
 use Rattle.gx_units.specs.declared.names.UserName.{UserName}
 use Rattle.gx_ouch.specs.declared.inbound.EnterOrder.{EnterOrder}
-use Rattle.gx_history.specs.declared.policy.PolicyData.{PolicyData}
+use Rattle.gx_policy.specs.declared.policy.PolicyData.{PolicyData}
 use Rattle.gx_history.specs.declared.record.Asked.{Asked}
 use Rattle.gx_history.specs.declared.record.RecordData.{RecordData}
 use Rattle.gx_history.specs.declared.record.Request.{Request}
@@ -23,7 +23,7 @@ use Rattle.gx_history.specs.Book.{incoming, resting, rested, has_rested, by_pric
 use Rattle.gx_history.specs.Effects.{TakesEffect, whole_order}
 use Rattle.gx_history.specs.Executions.{Standing, standings, is_live, live_orders}
 use Rattle.gx_history.specs.Orders.{orders, orders_added, entered}
-use Rattle.gx_history.specs.People.{account_of, role_in}
+use Rattle.gx_policy.specs.People.{account_of, role_in}
 use Rattle.gx_history.specs.Streams.{stream, accepted, reported, to_user}
 use Rattle.gx_history.specs.Verdicts.{next, IsLegal}
 use Rattle.gx_history_laws.proofs.Entering.{HasAccount, entered_has_account, entered_has_shares}

@@ -13,13 +13,13 @@ use Rattle.gx_ouch.specs.declared.inbound.ReplaceOrder.{ReplaceOrder}
 use Rattle.gx_desk.specs.declared.Action.TheVariants as actions
 use Rattle.gx_desk.specs.declared.Command.{Command}
 use Rattle.gx_desk.specs.declared.WrittenName.{WrittenName}
-use Rattle.gx_history.specs.declared.policy.PolicyData.{PolicyData}
+use Rattle.gx_policy.specs.declared.policy.PolicyData.{PolicyData}
 use Rattle.gx_history.specs.declared.record.Asked.{Asked}
 use Rattle.gx_history.specs.declared.record.Fill.{Fill}
 use Rattle.gx_history.specs.declared.record.Login.{Login}
 use Rattle.gx_history.specs.declared.record.RecordData.{RecordData}
 use Rattle.gx_history.specs.declared.record.Request.TheVariants as requests
-use Rattle.gx_history.specs.declared.record.RuleName.{RuleName}
+use Rattle.gx_policy.specs.declared.rule_name.RuleName.{RuleName}
 use Rattle.gx_history.specs.declared.record.Step.{Step}
 use Rattle.gx_history.specs.declared.record.Step.TheVariants as steps
 use Rattle.gx_history.specs.declared.record.Verdict.TheVariants as verdicts
@@ -31,10 +31,10 @@ use Rattle.gx_history.specs.Executions.{Standing, standing_numbered, standing_un
 use Rattle.gx_history.specs.Orders.{Order, orders, order_under, total}
 use Rattle.gx_history.specs.Requests.{is_order}
 use Rattle.gx_history.specs.InForce.{is_killed, with_limit, with_stocks, adding, removing}
-use Rattle.gx_history.specs.Lists.{IsInOrder}
+use Rattle.gx_policy.specs.Lists.{IsInOrder}
 use Rattle.gx_history.specs.Matched.{AreUncrossed, FillsOrders, IsFair, RestsOrder, ExpiresOrder}
 use Rattle.gx_history.specs.Matching.{matching}
-use Rattle.gx_history.specs.People.{account_of}
+use Rattle.gx_policy.specs.People.{account_of}
 use Rattle.gx_history.specs.Settling.{settled, AddsMatches, FillsNoneOf}
 use Rattle.gx_history.specs.Verdicts.{next, Follows, IsLegal}
 use Rattle.gx_effects.specs.OneMore.{change_of, live_with, incoming_with, resting_with}

@@ -7,7 +7,7 @@ use Rattle.gx_units.specs.declared.names.AccountName.{AccountName}
 use Rattle.gx_units.specs.declared.names.Symbol.{Symbol}
 use Rattle.gx_units.specs.declared.names.UserName.{UserName}
 use Rattle.gx_desk.specs.declared.Action.{Action}
-use Rattle.gx_history.specs.declared.policy.PolicyData.{PolicyData}
+use Rattle.gx_policy.specs.declared.policy.PolicyData.{PolicyData}
 use Rattle.gx_history.specs.declared.record.Fill.{Fill}
 use Rattle.gx_history.specs.declared.record.RecordData.{RecordData}
 use Rattle.gx_history.specs.declared.record.Request.{Request}
@@ -19,10 +19,10 @@ use Rattle.gx_history.specs.declared.record.Verdict.TheVariants as verdicts
 use Rattle.gx_history.specs.Book.{is_better, is_on_side}
 use Rattle.gx_history.specs.Effects.{whole_order, replacement, still_open, with_left, without}
 use Rattle.gx_history.specs.Executions.{Standing, executions, done, live_orders, standing_numbered, standing_under}
-use Rattle.gx_history.specs.Lists.{placed}
+use Rattle.gx_policy.specs.Lists.{placed}
 use Rattle.gx_history.specs.Matched.{left_by_fill}
 use Rattle.gx_history.specs.Orders.{ends_account}
-use Rattle.gx_history.specs.People.{account_of}
+use Rattle.gx_policy.specs.People.{account_of}
 
 -- what a record does to orders: nothing, or it adds one, leaves the one of a number so many shares, puts one in the place
 -- of that of a number, ends those of the accounts that an action is for, fills two, or puts one to rest

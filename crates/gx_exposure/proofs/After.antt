@@ -6,11 +6,11 @@ use Rattle.std.proofs.lemmas.List.{append-nil, length-append}
 use Rattle.std.proofs.lemmas.List.Elements.{filter-append}
 use Rattle.std.specs.List.{filter, AllByRecursion}
 use Rattle.gx_units.specs.declared.names.AccountName.{AccountName}
-use Rattle.gx_history.specs.declared.policy.PolicyData.{PolicyData}
+use Rattle.gx_policy.specs.declared.policy.PolicyData.{PolicyData}
 use Rattle.gx_history.specs.declared.record.RecordData.{RecordData}
 use Rattle.gx_history.specs.Executions.{Execution, executions, sides}
 use Rattle.gx_history.specs.Figures.{Positions, done_of_chosen, of_accounts}
-use Rattle.gx_history.specs.Lists.{each_after, each_with_earlier}
+use Rattle.gx_policy.specs.Lists.{each_after, each_with_earlier}
 use Rattle.gx_history.specs.Orders.{Order, orders, orders_added}
 use Rattle.gx_history.specs.Verdicts.{Follows, IsLegal}
 use Rattle.gx_history_laws.proofs.NextFigures.{done_more}

@@ -12,7 +12,7 @@ use Rattle.gx_ouch.specs.declared.inbound.ReplaceOrder.{ReplaceOrder}
 use Rattle.gx_history.specs.declared.live_order.LiveOrder.{LiveOrder}
 use Rattle.gx_history.specs.declared.facts.ProposedOrder.{ProposedOrder}
 use Rattle.gx_history.specs.declared.facts.StockSide.{StockSide}
-use Rattle.gx_history.specs.declared.policy.PolicyData.{PolicyData}
+use Rattle.gx_policy.specs.declared.policy.PolicyData.{PolicyData}
 use Rattle.gx_history.specs.declared.record.Asked.{Asked}
 use Rattle.gx_history.specs.declared.record.RecordData.{RecordData}
 use Rattle.gx_history.specs.declared.record.Request.{Request}
@@ -26,7 +26,7 @@ use Rattle.gx_history.specs.Effects.{ReplacesOrder, TakesEffect, replacement, wh
 use Rattle.gx_history.specs.Executions.{Execution, Standing, is_live, live_orders, standing_numbered, standings}
 use Rattle.gx_history.specs.Figures.{done_of_chosen, done_value, live_value, of_accounts, on_side, open_of_chosen, open_value, side_asked}
 use Rattle.gx_history.specs.Orders.{Order, entered, orders, orders_added, orders_made, replacing}
-use Rattle.gx_history.specs.People.{account_of}
+use Rattle.gx_policy.specs.People.{account_of}
 use Rattle.gx_history.specs.Requests.{granted}
 use Rattle.gx_history.specs.Rules.{new_open, proposed}
 use Rattle.gx_history.specs.Verdicts.{Follows, IsLegal, facts_now, next}

@@ -14,13 +14,13 @@ use Rattle.gx_history.specs.declared.live_order.LiveOrder.{LiveOrder}
 use Rattle.gx_history.specs.declared.facts.ProposedOrder.{ProposedOrder}
 use Rattle.gx_history.specs.declared.facts.RuleFigures.{RuleFigures}
 use Rattle.gx_history.specs.declared.facts.StockSide.{StockSide}
-use Rattle.gx_history.specs.declared.policy.Count.{Count}
-use Rattle.gx_history.specs.declared.policy.Count.TheVariants as counts
-use Rattle.gx_history.specs.declared.policy.FileRule.{FileRule}
-use Rattle.gx_history.specs.declared.policy.PolicyData.{PolicyData}
-use Rattle.gx_history.specs.declared.policy.RuleKind.{RuleKind}
-use Rattle.gx_history.specs.declared.policy.RuleKind.TheVariants as kinds
-use Rattle.gx_history.specs.declared.policy.Scope.{Scope}
+use Rattle.gx_policy.specs.declared.policy.Count.{Count}
+use Rattle.gx_policy.specs.declared.policy.Count.TheVariants as counts
+use Rattle.gx_policy.specs.declared.policy.FileRule.{FileRule}
+use Rattle.gx_policy.specs.declared.policy.PolicyData.{PolicyData}
+use Rattle.gx_policy.specs.declared.policy.RuleKind.{RuleKind}
+use Rattle.gx_policy.specs.declared.policy.RuleKind.TheVariants as kinds
+use Rattle.gx_policy.specs.declared.policy.Scope.{Scope}
 use Rattle.gx_history.specs.declared.record.Asked.{Asked}
 use Rattle.gx_history.specs.declared.record.RecordData.{RecordData}
 use Rattle.gx_history.specs.declared.record.Request.{Request}
@@ -32,7 +32,7 @@ use Rattle.gx_history.specs.Executions.{Standing, executions, standing_numbered,
 use Rattle.gx_history.specs.Figures.{counts_account, figures, is_on, kind_figures, net_done, no_figures, of_accounts, on_side, open_value, other_side, positions, side_done, side_live}
 use Rattle.gx_history.specs.InForce.{rules_in_force}
 use Rattle.gx_history.specs.Orders.{Order}
-use Rattle.gx_history.specs.People.{covers}
+use Rattle.gx_policy.specs.People.{covers}
 use Rattle.gx_history.specs.Rules.{kind_forbids, new_open, of_proposed, rule_forbids}
 use Rattle.gx_history.specs.Verdicts.{Follows, IsLegal, facts_now, figures_asked, next, rules_now, with_figures}
 use Rattle.gx_history_laws.proofs.Granting.{granted_passes, none_of_file}

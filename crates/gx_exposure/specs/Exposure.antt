@@ -4,17 +4,17 @@ use Rattle.std.specs.List.{filter, list_any, AllByRecursion}
 use Rattle.gx_units.specs.Money.{value}
 use Rattle.gx_units.specs.declared.names.AccountName.{AccountName}
 use Rattle.gx_history.specs.declared.facts.StockSide.{StockSide}
-use Rattle.gx_history.specs.declared.policy.Count.{Count}
-use Rattle.gx_history.specs.declared.policy.FileRule.{FileRule}
-use Rattle.gx_history.specs.declared.policy.PolicyData.{PolicyData}
-use Rattle.gx_history.specs.declared.policy.RuleKind.TheVariants as kinds
+use Rattle.gx_policy.specs.declared.policy.Count.{Count}
+use Rattle.gx_policy.specs.declared.policy.FileRule.{FileRule}
+use Rattle.gx_policy.specs.declared.policy.PolicyData.{PolicyData}
+use Rattle.gx_policy.specs.declared.policy.RuleKind.TheVariants as kinds
 use Rattle.gx_history.specs.declared.record.RecordData.{RecordData}
 use Rattle.gx_history.specs.Book.{is_buy_order}
 use Rattle.gx_history.specs.Executions.{Execution, executions, standings}
 use Rattle.gx_history.specs.Figures.{counts_account, done_of_chosen, done_value, live_value, of_accounts, on_side, open_of_chosen, other_side, side_done}
 use Rattle.gx_history.specs.InForce.{rules_in_force}
 use Rattle.gx_history.specs.Orders.{Order, orders, orders_added}
-use Rattle.gx_history.specs.People.{covers}
+use Rattle.gx_policy.specs.People.{covers}
 
 -- the open shares of the orders that are chosen, and those that they executed
 abbrev pub shares_of_chosen : PolicyData → List RecordData → (Order → Bool) → ℕ

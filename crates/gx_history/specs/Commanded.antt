@@ -10,9 +10,9 @@ use Rattle.gx_desk.specs.declared.Action.TheVariants as actions
 use Rattle.gx_desk.specs.declared.AnswerCode.TheVariants as codes
 use Rattle.gx_desk.specs.declared.Command.{Command}
 use Rattle.gx_desk.specs.declared.WrittenName.{WrittenName}
-use Rattle.gx_history.specs.declared.policy.FileRule.{FileRule}
-use Rattle.gx_history.specs.declared.policy.PolicyData.{PolicyData}
-use Rattle.gx_history.specs.declared.policy.RuleKind.{RuleKind}
+use Rattle.gx_policy.specs.declared.policy.FileRule.{FileRule}
+use Rattle.gx_policy.specs.declared.policy.PolicyData.{PolicyData}
+use Rattle.gx_policy.specs.declared.policy.RuleKind.{RuleKind}
 use Rattle.gx_history.specs.declared.record.RecordData.{RecordData}
 use Rattle.gx_history.specs.Asking.{rule_in_force}
 use Rattle.gx_history.specs.Book.{incoming, resting}
@@ -20,7 +20,7 @@ use Rattle.gx_history.specs.Executions.{executions, live_orders}
 use Rattle.gx_history.specs.Figures.{positions}
 use Rattle.gx_history.specs.InForce.{kill_in_force, is_closed, is_entitled, line_of, rules_in_force, change_rule}
 use Rattle.gx_history.specs.Orders.{orders}
-use Rattle.gx_history.specs.People.{role_in, is_reader}
+use Rattle.gx_policy.specs.People.{role_in, is_reader}
 use Rattle.gx_history.specs.Streams.{stream, answer, ended, day_end, reported, to_user}
 
 -- orders, fills and so all figures, and the book are the same as before

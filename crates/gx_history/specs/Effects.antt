@@ -12,13 +12,13 @@ use Rattle.gx_ouch.specs.declared.letters.CancelReason.TheVariants as cancels
 use Rattle.gx_desk.specs.declared.Action.TheVariants as actions
 use Rattle.gx_desk.specs.declared.AnswerCode.TheVariants as codes
 use Rattle.gx_desk.specs.declared.Command.{Command}
-use Rattle.gx_history.specs.declared.policy.PolicyData.{PolicyData}
-use Rattle.gx_history.specs.declared.policy.Powers.{Powers}
-use Rattle.gx_history.specs.declared.policy.Role.TheVariants as roles
-use Rattle.gx_history.specs.declared.policy.Scope.{Scope}
+use Rattle.gx_policy.specs.declared.policy.PolicyData.{PolicyData}
+use Rattle.gx_policy.specs.declared.policy.Powers.{Powers}
+use Rattle.gx_policy.specs.declared.policy.Role.TheVariants as roles
+use Rattle.gx_policy.specs.declared.policy.Scope.{Scope}
 use Rattle.gx_history.specs.declared.record.Asked.{Asked}
 use Rattle.gx_history.specs.declared.record.RecordData.{RecordData}
-use Rattle.gx_history.specs.declared.record.RuleName.{RuleName}
+use Rattle.gx_policy.specs.declared.rule_name.RuleName.{RuleName}
 use Rattle.gx_history.specs.declared.record.Step.TheVariants as steps
 use Rattle.gx_history.specs.declared.record.Verdict.TheVariants as verdicts
 use Rattle.gx_history.specs.Book.{incoming, resting}
@@ -26,7 +26,7 @@ use Rattle.gx_history.specs.Executions.{Standing, executions, done, standings, s
 use Rattle.gx_history.specs.Figures.{positions}
 use Rattle.gx_history.specs.InForce.{is_killed, kill_in_force, kill_after, is_closed, is_entitled, line_of, rules_in_force}
 use Rattle.gx_history.specs.Orders.{Order, orders, entered, replacing, total, is_dead}
-use Rattle.gx_history.specs.People.{account_of, role_in, covers}
+use Rattle.gx_policy.specs.People.{account_of, role_in, covers}
 use Rattle.gx_history.specs.Requests.{action_of}
 use Rattle.gx_history.specs.Streams.{stream, accepted, answer, lift_code, ended, reported, reports_of_denial, to_user, canceled, replaced}
 

@@ -1,7 +1,7 @@
 -- Accounts as the bits of a number, in the file's order, the first in the lowest bit.
 use Rattle.std.specs.Prelude.{ℕ, ◌+◌, ◌*◌, ◌/◌, ◌%◌, ◌^◌, ◌==◌, ◌&&◌, nat_lt, Bool, List, [], ◌∷◌, if◌then◌else◌}
 use Rattle.gx_units.specs.declared.names.AccountName.{AccountName}
-use Rattle.gx_history.specs.declared.policy.Account.{Account}
+use Rattle.gx_policy.specs.declared.policy.Account.{Account}
 
 -- the accounts that pass the test
 abbrev pub mask_by : (AccountName → Bool) → List Account → ℕ

@@ -5,13 +5,13 @@ use Rattle.gx_units.specs.Names.{same_stock}
 use Rattle.gx_units.specs.declared.names.Symbol.{Symbol}
 use Rattle.gx_units.specs.declared.names.UserName.{UserName}
 use Rattle.gx_ouch.specs.declared.letters.Liquidity.TheVariants as liquidities
-use Rattle.gx_history.specs.declared.policy.PolicyData.{PolicyData}
+use Rattle.gx_policy.specs.declared.policy.PolicyData.{PolicyData}
 use Rattle.gx_history.specs.declared.record.Fill.{Fill}
 use Rattle.gx_history.specs.declared.record.RecordData.{RecordData}
 use Rattle.gx_history.specs.Book.{incoming, resting, is_better, is_buy_order, is_on_side}
 use Rattle.gx_history.specs.Effects.{KeepsInForce, with_open, still_open, resized, with_left}
 use Rattle.gx_history.specs.Executions.{Execution, Standing, executions, standings, live_orders, standing_numbered}
-use Rattle.gx_history.specs.Lists.{placed}
+use Rattle.gx_policy.specs.Lists.{placed}
 use Rattle.gx_history.specs.Matching.{crosses, filled}
 use Rattle.gx_history.specs.Orders.{Order, orders}
 use Rattle.gx_history.specs.OuchValues.{immediate_or_cancel}

@@ -8,12 +8,12 @@ use Rattle.std.proofs.lemmas.List.Elements.{filter-append, filter_map-append}
 use Rattle.gx_units.specs.Names.{same_user}
 use Rattle.gx_units.specs.declared.names.AccountName.{AccountName}
 use Rattle.gx_units.specs.declared.names.UserName.{UserName}
-use Rattle.gx_history.specs.declared.policy.Lifters.{Lifters}
-use Rattle.gx_history.specs.declared.policy.Lifters.TheVariants as lifters
-use Rattle.gx_history.specs.declared.policy.PolicyData.{PolicyData}
+use Rattle.gx_policy.specs.declared.policy.Lifters.{Lifters}
+use Rattle.gx_policy.specs.declared.policy.Lifters.TheVariants as lifters
+use Rattle.gx_policy.specs.declared.policy.PolicyData.{PolicyData}
 use Rattle.gx_history.specs.declared.record.RecordData.{RecordData}
 use Rattle.gx_history.specs.InForce.{fewer_than, has_lifted, is_killed, kill_after, kill_in_force, kill_or_lift_of, kills_and_lifts, lifters_asked, officers_of, with_officer}
-use Rattle.gx_history.specs.Lists.{behind_last, once, where_true}
+use Rattle.gx_policy.specs.Lists.{behind_last, once, where_true}
 use Rattle.gx_history.specs.Requests.{granted_mark}
 use Rattle.gx_history_laws.proofs.Adding.{user_is}
 

@@ -9,22 +9,22 @@ use Rattle.gx_units.specs.Names.{same_user, same_token}
 use Rattle.gx_units.specs.declared.names.AccountName.{AccountName}
 use Rattle.gx_ouch.specs.declared.inbound.EnterOrder.{EnterOrder}
 use Rattle.gx_ouch.specs.declared.inbound.ReplaceOrder.{ReplaceOrder}
-use Rattle.gx_history.specs.declared.policy.PolicyData.{PolicyData}
+use Rattle.gx_policy.specs.declared.policy.PolicyData.{PolicyData}
 use Rattle.gx_history.specs.declared.record.Asked.{Asked}
 use Rattle.gx_history.specs.declared.record.RecordData.{RecordData}
 use Rattle.gx_history.specs.declared.record.Request.{Request}
 use Rattle.gx_history.specs.declared.record.Request.TheVariants as requests
-use Rattle.gx_history.specs.declared.record.RuleName.{RuleName}
-use Rattle.gx_history.specs.declared.record.RuleName.TheVariants.{L1, L2, L3, G1, G2, G3, I1, I2, I3, P1, P2, P3, P4}
+use Rattle.gx_policy.specs.declared.rule_name.RuleName.{RuleName}
+use Rattle.gx_policy.specs.declared.rule_name.RuleName.TheVariants.{L1, L2, L3, G1, G2, G3, I1, I2, I3, P1, P2, P3, P4}
 use Rattle.gx_history.specs.declared.record.Step.{Step}
 use Rattle.gx_history.specs.declared.record.Step.TheVariants as steps
 use Rattle.gx_history.specs.declared.record.Verdict.{Verdict}
 use Rattle.gx_history.specs.declared.record.Verdict.TheVariants as verdicts
 use Rattle.gx_history.specs.Asking.{facts, lists_its_stock}
 use Rattle.gx_history.specs.Orders.{Order, orders, orders_added, orders_made, order_under, entered, replacing}
-use Rattle.gx_history.specs.People.{stock_named, account_of}
+use Rattle.gx_policy.specs.People.{stock_named, account_of}
 use Rattle.gx_history.specs.Requests.{granted, is_granted, asked}
-use Rattle.gx_history.specs.RuleNames.{rules_before}
+use Rattle.gx_policy.specs.RuleNames.{rules_before}
 use Rattle.gx_history.specs.Rules.{forbids}
 use Rattle.gx_history.specs.Verdicts.{next, facts_now, IsLegal, Follows}
 use Rattle.gx_history_laws.proofs.Granting.{granted_passes_before, legal_keeps}

@@ -4,7 +4,7 @@ use Rattle.std.specs.Prelude.{Option, Some, option_map}
 use Rattle.std.specs.List.{slice_get}
 use Rattle.std.proofs.Math.Nat.{div-div-eq-div-mul, pow-succ'}
 use Rattle.gx_units.specs.declared.names.AccountName.{AccountName}
-use Rattle.gx_history.specs.declared.policy.Account.{Account}
+use Rattle.gx_policy.specs.declared.policy.Account.{Account}
 use Rattle.gx_history.specs.Masks.{has_account, mask_by}
 use Rattle.gx_history_laws.proofs.Order.{some_same}
 

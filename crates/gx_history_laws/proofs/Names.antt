@@ -7,11 +7,11 @@ use Rattle.gx_units.specs.declared.names.AccountName.{AccountName}
 use Rattle.gx_units.specs.declared.names.Symbol.{Symbol}
 use Rattle.gx_units.specs.declared.names.Token.{Token}
 use Rattle.gx_units.specs.declared.names.UserName.{UserName}
-use Rattle.gx_history.specs.declared.policy.Account.{Account}
-use Rattle.gx_history.specs.declared.policy.PolicyData.{PolicyData}
-use Rattle.gx_history.specs.declared.policy.User.{User}
-use Rattle.gx_history.specs.Lists.{are_distinct}
-use Rattle.gx_history.specs.Soundness.{is_sound, is_within_limits, names_differ}
+use Rattle.gx_policy.specs.declared.policy.Account.{Account}
+use Rattle.gx_policy.specs.declared.policy.PolicyData.{PolicyData}
+use Rattle.gx_policy.specs.declared.policy.User.{User}
+use Rattle.gx_policy.specs.Lists.{are_distinct}
+use Rattle.gx_policy.specs.Soundness.{is_sound, is_within_limits, names_differ}
 use Rattle.gx_history_laws.proofs.Judging.{both}
 
 pub same_user_flip : (a b : UserName) → same_user a b ≡ same_user b a

@@ -4,7 +4,7 @@ use Rattle.std.specs.Prelude.{Some, None}
 use Rattle.std.specs.List.{list_any, AllByRecursion, IsDistinct}
 use Rattle.std.specs.Map.{keys_of, lookup, set_value}
 use Rattle.std.proofs.lemmas.List.{take_more, take-append-drop}
-use Rattle.gx_history.specs.Lists.{are_distinct}
+use Rattle.gx_policy.specs.Lists.{are_distinct}
 use Rattle.gx_history_laws.proofs.Judging.{both}
 use Rattle.gx_history_laws.proofs.Order.{none_among}
 

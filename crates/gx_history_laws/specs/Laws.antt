@@ -7,11 +7,11 @@ use Rattle.gx_units.specs.declared.names.AccountName.{AccountName}
 use Rattle.gx_units.specs.declared.names.Token.{Token}
 use Rattle.gx_units.specs.declared.names.UserName.{UserName}
 use Rattle.gx_desk.specs.declared.Action.{Action}
-use Rattle.gx_history.specs.declared.policy.Account.{Account}
-use Rattle.gx_history.specs.declared.policy.PolicyData.{PolicyData}
+use Rattle.gx_policy.specs.declared.policy.Account.{Account}
+use Rattle.gx_policy.specs.declared.policy.PolicyData.{PolicyData}
 use Rattle.gx_history.specs.declared.record.Asked.{Asked}
 use Rattle.gx_history.specs.declared.record.RecordData.{RecordData}
-use Rattle.gx_history.specs.declared.record.RuleName.{RuleName}
+use Rattle.gx_policy.specs.declared.rule_name.RuleName.{RuleName}
 use Rattle.gx_history.specs.declared.record.Step.{Step}
 use Rattle.gx_history.specs.declared.record.Step.TheVariants as steps
 use Rattle.gx_history.specs.declared.record.Verdict.TheVariants as verdicts
@@ -19,13 +19,13 @@ use Rattle.gx_history.specs.Executions.{Execution, Standing, live_orders, open_s
 use Rattle.gx_history.specs.InForce.{is_closed, kill_after, kill_in_force, kill_or_lift_of, line_of, login_or_logout_of, record_closes}
 use Rattle.gx_history.specs.Orders.{Order, orders, ends_account, is_token_used, record_uses, total}
 use Rattle.gx_history.specs.Requests.{granted, granted_action, granted_mark, is_order}
-use Rattle.gx_history.specs.Lists.{are_distinct}
+use Rattle.gx_policy.specs.Lists.{are_distinct}
 use Rattle.gx_history.specs.Masks.{has_account, mask_by}
-use Rattle.gx_history.specs.People.{account_of, stock_named}
+use Rattle.gx_policy.specs.People.{account_of, stock_named}
 use Rattle.gx_history.specs.Streams.{stream, reports_of}
 use Rattle.gx_history.specs.Rules.{applies, written_order, IsFirstForbidding}
 use Rattle.gx_history.specs.Showing.{is_askable, is_showable}
-use Rattle.gx_history.specs.Soundness.{is_sound}
+use Rattle.gx_policy.specs.Soundness.{is_sound}
 use Rattle.gx_history.specs.Verdicts.{verdict, facts_now, rules_now, next, last_moment, moment_of, run, day_limit, Follows, IsLegal}
 
 -- a request leaves one record: the next number, the moment, the request and its verdict

@@ -5,9 +5,9 @@ use Rattle.std.specs.Io.KnownBytes.{Appends}
 use Rattle.std.proofs.lemmas.List.{length-take, length-drop, take_all, take-append-drop, take-append-le}
 use mathlib.Core.List.{IsPrefix}
 use Rattle.gx_devices.specs.Devices.{IsFront}
-use Rattle.gx_history.specs.declared.policy.PolicyData.{PolicyData}
+use Rattle.gx_policy.specs.declared.policy.PolicyData.{PolicyData}
 use Rattle.gx_history.specs.declared.record.RecordData.{RecordData}
-use Rattle.gx_history.specs.Lists.{slice}
+use Rattle.gx_policy.specs.Lists.{slice}
 use Rattle.gx_pass.specs.declared.view.Holds.{Holds}
 use Rattle.gx_pass.proofs.Fronts.{prefix_length, prefix_trans}
 use Rattle.gx_door.specs.Acts.{IsLater}

@@ -8,7 +8,7 @@ use Rattle.std.proofs.lemmas.List.{take_all, drop_all, take-append-drop, take_mi
 use mathlib.Core.List.{IsPrefix}
 use Rattle.gx_devices.specs.Devices.{IsFront}
 use Rattle.gx_history.specs.declared.record.RecordData.{RecordData}
-use Rattle.gx_history.specs.Lists.{slice}
+use Rattle.gx_policy.specs.Lists.{slice}
 use Rattle.gx_audit_bytes.specs.declared.version.AuditVersion.TheVariants as versions
 use Rattle.gx_audit_bytes.specs.Audits.{all_bytes}
 use Rattle.gx_audit_bytes.specs.Records.{record_bytes}

@@ -3,7 +3,7 @@
 ghost use Rattle.std.specs.Prelude.{◌≡◌, ◌+◌, ◌<◌, ◌≤◌, ◌⊎◌, ◌^◌, drop, length, take, IfOk, IsFalse, IsTrue, None, Some};
 ghost use mathlib.Core.List.{IsPrefix};
 ghost use Rattle.gx_devices.specs.Devices.{IsFront};
-ghost use Rattle.gx_history.specs.Lists.{slice};
+ghost use Rattle.gx_policy.specs.Lists.{slice};
 ghost use Rattle.gx_pass.specs.Views.{retold};
 ghost use Rattle.gx_door.specs.Acts.{IsLater};
 ghost use Rattle.gx_journal.specs.Journals.{added, is_broken, journal_bytes, known, IsGrown, IsKept};

@@ -1,8 +1,8 @@
 -- What the keepers hold at the beginning of a day.
 use Rattle.std.proofs.Common.{◌≡◌, List, [], ◌∙◌, sym}
-use Rattle.gx_history.specs.declared.policy.FileRule.{FileRule}
-use Rattle.gx_history.specs.declared.policy.PolicyData.{PolicyData}
-use Rattle.gx_history.specs.declared.policy.User.{User}
+use Rattle.gx_policy.specs.declared.policy.FileRule.{FileRule}
+use Rattle.gx_policy.specs.declared.policy.PolicyData.{PolicyData}
+use Rattle.gx_policy.specs.declared.policy.User.{User}
 use Rattle.gx_history.specs.InForce.{rules_in_force}
 use Rattle.gx_day.specs.DayData.{DayData}
 use Rattle.gx_day.specs.InForce.{fresh_day}

@@ -12,9 +12,9 @@ use Rattle.gx_desk.specs.declared.Action.{Action}
 use Rattle.gx_desk.specs.declared.Action.TheVariants as actions
 use Rattle.gx_desk.specs.declared.AnswerCode.{AnswerCode}
 use Rattle.gx_desk.specs.declared.Command.{Command}
-use Rattle.gx_history.specs.declared.policy.FileRule.{FileRule}
-use Rattle.gx_history.specs.declared.policy.PolicyData.{PolicyData}
-use Rattle.gx_history.specs.declared.policy.User.{User}
+use Rattle.gx_policy.specs.declared.policy.FileRule.{FileRule}
+use Rattle.gx_policy.specs.declared.policy.PolicyData.{PolicyData}
+use Rattle.gx_policy.specs.declared.policy.User.{User}
 use Rattle.gx_history.specs.declared.record.Asked.{Asked}
 use Rattle.gx_history.specs.declared.record.RecordData.{RecordData}
 use Rattle.gx_history.specs.declared.record.Request.TheVariants as requests
@@ -24,11 +24,12 @@ use Rattle.gx_history.specs.declared.report.Message.{Message}
 use Rattle.gx_history.specs.declared.report.Report.{Report}
 use Rattle.gx_history.specs.Asking.{knows_limit, knows_names, rule_in_force}
 use Rattle.gx_history.specs.InForce.{changed, limit_of, rules_in_force}
-use Rattle.gx_history.specs.Lists.{are_distinct}
+use Rattle.gx_policy.specs.Lists.{are_distinct}
 use Rattle.gx_history.specs.Orders.{ends_account}
-use Rattle.gx_history.specs.People.{account_named, is_trader, reader_in, role_in, user_in}
+use Rattle.gx_policy.specs.People.{account_named, is_trader, role_in, user_in}
+use Rattle.gx_history.specs.Readers.{reader_in}
 use Rattle.gx_history.specs.Requests.{action_of}
-use Rattle.gx_history.specs.Soundness.{is_sound}
+use Rattle.gx_policy.specs.Soundness.{is_sound}
 use Rattle.gx_history.specs.Streams.{answer, day_end, ended, granted_code, lift_code, reported, reports_of, stream, to_user}
 use Rattle.gx_history.specs.Verdicts.{IsLegal, next}
 use Rattle.gx_history_laws.proofs.Adding.{user_is, user_is_itself}

@@ -5,7 +5,7 @@ use Rattle.gx_units.specs.Names.{same_token, same_user}
 use Rattle.gx_ouch.specs.declared.inbound.CancelOrder.{CancelOrder}
 use Rattle.gx_ouch.specs.declared.letters.CancelReason.TheVariants as cancels
 use Rattle.gx_ouch.specs.declared.outbound.Outbound.TheVariants as outbounds
-use Rattle.gx_history.specs.declared.policy.PolicyData.{PolicyData}
+use Rattle.gx_policy.specs.declared.policy.PolicyData.{PolicyData}
 use Rattle.gx_history.specs.declared.record.Asked.{Asked}
 use Rattle.gx_history.specs.declared.record.RecordData.{RecordData}
 use Rattle.gx_history.specs.declared.record.Request.TheVariants as requests

@@ -14,13 +14,13 @@ use Rattle.gx_ouch.specs.declared.inbound.ReplaceOrder.{ReplaceOrder}
 use Rattle.gx_desk.specs.declared.Action.{Action}
 use Rattle.gx_desk.specs.declared.Action.TheVariants as actions
 use Rattle.gx_desk.specs.declared.Command.{Command}
-use Rattle.gx_history.specs.declared.policy.PolicyData.{PolicyData}
+use Rattle.gx_policy.specs.declared.policy.PolicyData.{PolicyData}
 use Rattle.gx_history.specs.declared.record.Asked.{Asked}
 use Rattle.gx_history.specs.declared.record.Fill.{Fill}
 use Rattle.gx_history.specs.declared.record.RecordData.{RecordData}
 use Rattle.gx_history.specs.declared.record.Request.{Request}
 use Rattle.gx_history.specs.declared.record.Request.TheVariants as requests
-use Rattle.gx_history.specs.declared.record.RuleName.{RuleName}
+use Rattle.gx_policy.specs.declared.rule_name.RuleName.{RuleName}
 use Rattle.gx_history.specs.declared.record.Step.{Step}
 use Rattle.gx_history.specs.declared.record.Step.TheVariants as steps
 use Rattle.gx_history.specs.declared.record.Verdict.{Verdict}
@@ -30,7 +30,7 @@ use Rattle.gx_history.specs.Executions.{Standing, done, executions, live_orders,
 use Rattle.gx_history.specs.Figures.{Positions}
 use Rattle.gx_history.specs.Matched.{ExpiresOrder}
 use Rattle.gx_history.specs.Orders.{ends_account}
-use Rattle.gx_history.specs.People.{account_of}
+use Rattle.gx_policy.specs.People.{account_of}
 use Rattle.gx_history.specs.Verdicts.{FitsDay, IsLegal, next}
 use Rattle.gx_history_laws.proofs.NextReports.{legal_next}
 use Rattle.gx_history_laws.proofs.Order.{some_same}

@@ -6,8 +6,8 @@ use Rattle.std.specs.Prelude.{Option, Some, None, is_some, ◌&&◌}
 use Rattle.std.specs.List.{filter}
 use Rattle.gx_units.specs.Names.{same_user}
 use Rattle.gx_units.specs.declared.names.UserName.{UserName}
-use Rattle.gx_history.specs.declared.policy.PolicyData.{PolicyData}
-use Rattle.gx_history.specs.declared.policy.User.{User}
+use Rattle.gx_policy.specs.declared.policy.PolicyData.{PolicyData}
+use Rattle.gx_policy.specs.declared.policy.User.{User}
 use Rattle.gx_history.specs.declared.record.Asked.{Asked}
 use Rattle.gx_history.specs.declared.record.RecordData.{RecordData}
 use Rattle.gx_history.specs.declared.record.Step.TheVariants as steps
@@ -15,7 +15,7 @@ use Rattle.gx_history.specs.declared.record.Verdict.{Verdict}
 use Rattle.gx_history.specs.declared.record.Verdict.TheVariants as verdicts
 use Rattle.gx_history.specs.declared.report.Message.{Message}
 use Rattle.gx_history.specs.Executions.{Standing, live_orders}
-use Rattle.gx_history.specs.People.{is_officer, is_reader, role_in, user_in}
+use Rattle.gx_policy.specs.People.{is_officer, is_reader, role_in, user_in}
 use Rattle.gx_history.specs.Requests.{is_judged}
 use Rattle.gx_history.specs.Streams.{reported, reports_of, stream}
 use Rattle.gx_history.specs.Verdicts.{IsLegal, day_limit, next}

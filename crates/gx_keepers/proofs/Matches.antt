@@ -13,11 +13,11 @@ use Rattle.gx_ouch.specs.declared.letters.CancelReason.TheVariants as cancels
 use Rattle.gx_ouch.specs.declared.letters.Liquidity.{Liquidity}
 use Rattle.gx_ouch.specs.declared.letters.Liquidity.TheVariants as liquidities
 use Rattle.gx_ouch.specs.declared.outbound.Outbound.TheVariants as outbounds
-use Rattle.gx_history.specs.declared.policy.Account.{Account}
-use Rattle.gx_history.specs.declared.policy.PolicyData.{PolicyData}
-use Rattle.gx_history.specs.declared.policy.Role.{Role}
-use Rattle.gx_history.specs.declared.policy.Role.TheVariants as roles
-use Rattle.gx_history.specs.declared.policy.User.{User}
+use Rattle.gx_policy.specs.declared.policy.Account.{Account}
+use Rattle.gx_policy.specs.declared.policy.PolicyData.{PolicyData}
+use Rattle.gx_policy.specs.declared.policy.Role.{Role}
+use Rattle.gx_policy.specs.declared.policy.Role.TheVariants as roles
+use Rattle.gx_policy.specs.declared.policy.User.{User}
 use Rattle.gx_history.specs.declared.record.Fill.{Fill}
 use Rattle.gx_history.specs.declared.record.RecordData.{RecordData}
 use Rattle.gx_history.specs.declared.record.Step.TheVariants as steps
@@ -29,9 +29,9 @@ use Rattle.gx_history.specs.Book.{is_buy, is_buy_order}
 use Rattle.gx_history.specs.Executions.{Execution, Standing, executions, live_orders, sides, standing_numbered}
 use Rattle.gx_history.specs.InForce.{is_entitled}
 use Rattle.gx_history.specs.Matched.{ExpiresOrder, FillsOrders, maker_side, taker_side}
-use Rattle.gx_history.specs.People.{account_of, account_of_role, is_reader, role_in, user_in}
+use Rattle.gx_policy.specs.People.{account_of, account_of_role, is_reader, role_in, user_in}
 use Rattle.gx_history.specs.Requests.{is_judged}
-use Rattle.gx_history.specs.Soundness.{is_sound}
+use Rattle.gx_policy.specs.Soundness.{is_sound}
 use Rattle.gx_history.specs.Streams.{reported, stream, to_user}
 use Rattle.gx_history.specs.Verdicts.{IsLegal}
 use Rattle.gx_history_laws.proofs.Masks.{same_mask}

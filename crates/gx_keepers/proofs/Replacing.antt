@@ -5,7 +5,7 @@ use Rattle.std.specs.Prelude.{IfSome, Option, Some, is_some, option_map}
 use Rattle.gx_units.specs.Names.{same_token, same_user}
 use Rattle.gx_units.specs.declared.names.UserName.{UserName}
 use Rattle.gx_ouch.specs.declared.inbound.ReplaceOrder.{ReplaceOrder}
-use Rattle.gx_history.specs.declared.policy.PolicyData.{PolicyData}
+use Rattle.gx_policy.specs.declared.policy.PolicyData.{PolicyData}
 use Rattle.gx_history.specs.declared.record.Asked.{Asked}
 use Rattle.gx_history.specs.declared.record.RecordData.{RecordData}
 use Rattle.gx_history.specs.declared.record.Request.TheVariants as requests

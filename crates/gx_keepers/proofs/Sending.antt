@@ -11,15 +11,16 @@ use Rattle.gx_units.specs.declared.names.UserName.{UserName}
 use Rattle.gx_desk.specs.declared.WrittenName.{WrittenName}
 use Rattle.gx_desk.specs.declared.Action.{Action}
 use Rattle.gx_desk.specs.declared.Action.TheVariants as actions
-use Rattle.gx_history.specs.declared.policy.PolicyData.{PolicyData}
-use Rattle.gx_history.specs.declared.policy.Role.{Role}
-use Rattle.gx_history.specs.declared.policy.User.{User}
+use Rattle.gx_policy.specs.declared.policy.PolicyData.{PolicyData}
+use Rattle.gx_policy.specs.declared.policy.Role.{Role}
+use Rattle.gx_policy.specs.declared.policy.User.{User}
 use Rattle.gx_history.specs.declared.report.Report.{Report}
 use Rattle.gx_history.specs.InForce.{in_role}
 use Rattle.gx_history.specs.Masks.{mask_by}
-use Rattle.gx_history.specs.Lists.{are_distinct}
-use Rattle.gx_history.specs.Soundness.{is_sound}
-use Rattle.gx_history.specs.People.{is_reader, reader_in, role_in, user_in}
+use Rattle.gx_policy.specs.Lists.{are_distinct}
+use Rattle.gx_policy.specs.Soundness.{is_sound}
+use Rattle.gx_policy.specs.People.{is_reader, role_in, user_in}
+use Rattle.gx_history.specs.Readers.{reader_in}
 use Rattle.gx_history_laws.proofs.Adding.{user_is, user_is_itself}
 use Rattle.gx_history_laws.proofs.Judging.{both}
 use Rattle.gx_history_laws.proofs.Masks.{same_mask}

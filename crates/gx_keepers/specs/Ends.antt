@@ -7,12 +7,12 @@ use Rattle.gx_desk.specs.declared.Action.TheVariants as actions
 use Rattle.gx_desk.specs.declared.AnswerCode.{AnswerCode}
 use Rattle.gx_desk.specs.declared.AnswerCode.TheVariants as codes
 use Rattle.gx_desk.specs.declared.Command.{Command}
-use Rattle.gx_history.specs.declared.policy.PolicyData.{PolicyData}
-use Rattle.gx_history.specs.declared.policy.User.{User}
+use Rattle.gx_policy.specs.declared.policy.PolicyData.{PolicyData}
+use Rattle.gx_policy.specs.declared.policy.User.{User}
 use Rattle.gx_history.specs.declared.record.RecordData.{RecordData}
 use Rattle.gx_history.specs.declared.report.Report.{Report}
 use Rattle.gx_history.specs.Orders.{ends_account}
-use Rattle.gx_history.specs.People.{is_trader}
+use Rattle.gx_policy.specs.People.{is_trader}
 use Rattle.gx_history.specs.Streams.{lift_code}
 use Rattle.gx_day.specs.DayData.{DayData, killed_in}
 use Rattle.gx_history.specs.declared.live_order.LiveOrder.{LiveOrder}

@@ -3,12 +3,13 @@ use Rattle.std.specs.Prelude.{Bool, true, false, IsTrue, List, Option, is_some}
 use Rattle.std.specs.Option.{option_map_or}
 use Rattle.gx_desk.specs.declared.Action.{Action}
 use Rattle.gx_desk.specs.declared.Action.TheVariants as actions
-use Rattle.gx_history.specs.declared.policy.FileRule.{FileRule}
+use Rattle.gx_policy.specs.declared.policy.FileRule.{FileRule}
 use Rattle.gx_history.specs.Asking.{knows_stocks}
-use Rattle.gx_history.specs.declared.policy.PolicyData.{PolicyData}
-use Rattle.gx_history.specs.declared.policy.User.{User}
+use Rattle.gx_policy.specs.declared.policy.PolicyData.{PolicyData}
+use Rattle.gx_policy.specs.declared.policy.User.{User}
 use Rattle.gx_history.specs.Masks.{mask_by}
-use Rattle.gx_history.specs.People.{reader_in, rule_in}
+use Rattle.gx_policy.specs.People.{rule_in}
+use Rattle.gx_history.specs.Readers.{reader_in}
 use Rattle.gx_people.specs.Entitled.{has_room, sees}
 use Rattle.gx_streams.specs.Streams.{AllStreams, entitled}
 use Rattle.gx_rules.specs.Settings.{limit_in}

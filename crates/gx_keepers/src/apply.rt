@@ -19,10 +19,10 @@ use crate::next_record::NextRecord;
 use crate::places::keep_places;
 use crate::reports::{accepted, canceled, replaced, reports_of_denial, tell};
 use gx_history::live_order::LiveOrder;
-use gx_history::policy::Policy;
-use gx_history::record::{Asked, RecordData, Request, RuleName, Verdict};
+use gx_history::record::{Asked, RecordData, Request, Verdict};
 use gx_market::standing::{leave, take_out};
 use gx_ouch::{CancelOrder, CancelReason, EnterOrder, OrderTerms, ReplaceOrder};
+use gx_policy::{Policy, RuleName};
 use gx_units::{AccountName, Moment, OutOfMemory, UserName};
 
 /// A denial: it uses the token and is told to who asked, where its rule is one whose denials are

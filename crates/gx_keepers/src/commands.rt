@@ -18,9 +18,9 @@ use crate::reports::{answer, day_end, tell};
 use crate::settings::set;
 use gx_day::day::Day;
 use gx_desk::{Action, AnswerCode, Command};
-use gx_history::policy::{Policy, Role, User};
 use gx_history::report::Report;
 use gx_orders::orders::Orders;
+use gx_policy::{Policy, Role, User};
 use gx_streams::streams::Streams;
 use gx_units::{Moment, OutOfMemory, UserName};
 

@@ -12,10 +12,10 @@ ghost use Rattle.gx_keepers.specs.Keepers.{AreInForce, AreSentTo, HaveEnough, Ke
 use crate::places::keep_enough_for_all;
 use gx_book::book::Book;
 use gx_day::day::Day;
-use gx_history::policy::Policy;
 use gx_ledger::ledger::Ledger;
 use gx_orders::orders::Orders;
 use gx_people::people::People;
+use gx_policy::Policy;
 use gx_rules::RuleBook;
 use gx_streams::streams::Streams;
 use gx_units::OutOfMemory;

@@ -4,11 +4,11 @@ ghost use Rattle.std.specs.Prelude.{◌≡◌, find, position};
 ghost use Rattle.gx_units.specs.Names.{same_account, same_stock};
 ghost use Rattle.gx_history.specs.Asking.{fits_firm, lists_its_stock};
 ghost use Rattle.gx_history.specs.Orders.{firm_of};
-ghost use Rattle.gx_history.specs.People.{account_named, stock_named};
+ghost use Rattle.gx_policy.specs.People.{account_named, stock_named};
 ghost use Rattle.gx_keepers.specs.Matching.{place_of};
 
-use gx_history::policy::{Account, Policy, Stock};
 use gx_history::record::Request;
+use gx_policy::{Account, Policy, Stock};
 use gx_units::{AccountName, Firm, Symbol};
 
 const BLANK_FIRM: Firm = Firm { bytes: *b"    " };

@@ -15,10 +15,10 @@ use crate::next_record::NextMatch;
 use crate::places::keep_match_places;
 use crate::reports::{canceled, tell};
 use gx_history::live_order::LiveOrder;
-use gx_history::policy::Policy;
 use gx_history::record::{Fill, Verdict};
 use gx_market::standing::{leave, put_to_rest};
 use gx_ouch::CancelReason;
+use gx_policy::Policy;
 use gx_streams::fill::{FillSide, ToldFill};
 use gx_units::OutOfMemory;
 

@@ -2,8 +2,8 @@
 
 use gx_history::history::History;
 use gx_history::live_order::LiveOrder;
-use gx_history::policy::Policy;
 use gx_history::record::{Asked, RecordData};
+use gx_policy::Policy;
 
 /// The next record of a day: the request that leaves it, and the policy and the records that the
 /// request is judged on.

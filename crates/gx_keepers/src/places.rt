@@ -14,11 +14,11 @@ ghost use Rattle.gx_keepers.specs.Matching.{IsNextMatch, KeepPlacesBeforeMatch};
 
 use crate::keepers::Keepers;
 use crate::next_record::{NextMatch, NextRecord};
-use gx_history::policy::Policy;
 use gx_history::record::Verdict;
 use gx_orders::orders::Orders;
 use gx_people::people::People;
 use gx_places::requests::{concerns_many, has_kept_places};
+use gx_policy::Policy;
 use gx_streams::streams::Streams;
 use gx_units::{OutOfMemory, UserName};
 

@@ -13,14 +13,14 @@ ghost use Rattle.gx_keepers.specs.Messages.{day_end_message, replaced_message};
 
 use gx_desk::{Answer, AnswerCode, Command};
 use gx_history::live_order::LiveOrder;
-use gx_history::policy::{FileRule, Policy, RuleKind};
-use gx_history::record::{RecordData, Request, RuleName};
+use gx_history::record::{RecordData, Request};
 use gx_history::report::{Message, Report};
 use gx_orders::request_tokens::new_token;
 use gx_ouch::{
     Accepted, CancelReason, Canceled, EventCode, OrderTerms, Outbound, RejectReason, Rejected,
     Replaced,
 };
+use gx_policy::{FileRule, Policy, RuleKind, RuleName};
 use gx_streams::streams::Streams;
 use gx_units::{Moment, RuleId, Token, UserName};
 

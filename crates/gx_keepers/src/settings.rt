@@ -7,8 +7,8 @@ ghost use Rattle.gx_people.specs.Entitled.{given};
 ghost use Rattle.gx_keepers.specs.Settings.{grows, sent_on, HasRoom, HasSetting};
 
 use gx_desk::{Action, WrittenName};
-use gx_history::policy::Policy;
 use gx_people::people::People;
+use gx_policy::Policy;
 use gx_rules::RuleBook;
 use gx_streams::streams::Streams;
 use gx_units::{AccountName, OutOfMemory};

@@ -14,22 +14,22 @@ use Rattle.gx_history.specs.LiveOrders.{shares_open}
 use Rattle.gx_history.specs.declared.live_order.LiveOrder.{LiveOrder}
 use Rattle.gx_history.specs.declared.facts.RuleFigures.{RuleFigures}
 use Rattle.gx_history.specs.declared.facts.StockSide.{StockSide}
-use Rattle.gx_history.specs.declared.policy.Account.{Account}
-use Rattle.gx_history.specs.declared.policy.Count.{Count}
-use Rattle.gx_history.specs.declared.policy.Count.TheVariants as counts
-use Rattle.gx_history.specs.declared.policy.FileRule.{FileRule}
-use Rattle.gx_history.specs.declared.policy.PolicyData.{PolicyData}
-use Rattle.gx_history.specs.declared.policy.RuleKind.{RuleKind}
-use Rattle.gx_history.specs.declared.policy.RuleKind.TheVariants as kinds
-use Rattle.gx_history.specs.declared.policy.Scope.{Scope}
-use Rattle.gx_history.specs.declared.policy.Stock.{Stock}
+use Rattle.gx_policy.specs.declared.policy.Account.{Account}
+use Rattle.gx_policy.specs.declared.policy.Count.{Count}
+use Rattle.gx_policy.specs.declared.policy.Count.TheVariants as counts
+use Rattle.gx_policy.specs.declared.policy.FileRule.{FileRule}
+use Rattle.gx_policy.specs.declared.policy.PolicyData.{PolicyData}
+use Rattle.gx_policy.specs.declared.policy.RuleKind.{RuleKind}
+use Rattle.gx_policy.specs.declared.policy.RuleKind.TheVariants as kinds
+use Rattle.gx_policy.specs.declared.policy.Scope.{Scope}
+use Rattle.gx_policy.specs.declared.policy.Stock.{Stock}
 use Rattle.gx_history.specs.declared.record.Request.{Request}
 use Rattle.gx_history.specs.declared.record.Request.TheVariants as requests
 use Rattle.gx_history.specs.Book.{is_buy}
 use Rattle.gx_history.specs.Executions.{Execution, Standing, standing_numbered}
 use Rattle.gx_history.specs.Figures.{Positions, counts_account, figures, is_on, kind_figures, net_done, no_figures, on_side, open_value, other_side, reference, side_asked, side_done, side_live, stock_asked}
 use Rattle.gx_history.specs.Orders.{Order}
-use Rattle.gx_history.specs.People.{account_named, covers, stock_named}
+use Rattle.gx_policy.specs.People.{account_named, covers, stock_named}
 use Rattle.gx_history.specs.Rules.{figured, figured_from}
 use Rattle.gx_history.specs.Verdicts.{with_figures}
 use Rattle.gx_history_laws.proofs.Names.{account_is, same_account_flip, stock_is}

@@ -2,7 +2,7 @@
 use Rattle.std.proofs.Common.{◌≡◌, ℕ, ◌+◌, ◌-◌, ◌≤◌, Bool, map, ◌∙◌, arith}
 use Rattle.gx_units.specs.declared.names.AccountName.{AccountName}
 use Rattle.gx_history.specs.declared.live_order.LiveOrder.{LiveOrder}
-use Rattle.gx_history.specs.declared.policy.PolicyData.{PolicyData}
+use Rattle.gx_policy.specs.declared.policy.PolicyData.{PolicyData}
 use Rattle.gx_history.specs.LiveOrders.{shares_open}
 use Rattle.gx_ledger.specs.Keeping.{Kept, comes, kept_noted, leaves}
 use Rattle.gx_ledger.specs.StandsFor.{Accepts, Closes, Cuts, tally_of, total_of}

@@ -11,7 +11,7 @@ use Rattle.gx_units.specs.declared.names.AccountName.{AccountName}
 use Rattle.gx_history.specs.declared.record.Request.{Request}
 use Rattle.gx_history.specs.declared.record.Request.TheVariants as requests
 use Rattle.gx_history.specs.Figures.{equal_recent, is_alike, recent}
-use Rattle.gx_history.specs.Lists.{last_few}
+use Rattle.gx_policy.specs.Lists.{last_few}
 use Rattle.gx_history.specs.Orders.{Order}
 use Rattle.gx_positions.specs.Sound.{NeverFall}
 use Rattle.gx_ledger.specs.Running.{alike_in, is_like, is_recent, recent_in}

@@ -11,17 +11,17 @@ use Rattle.gx_units.specs.declared.names.AccountName.{AccountName}
 use Rattle.gx_units.specs.declared.names.Symbol.{Symbol}
 use Rattle.std.specs.Cmp.Lexicographic.{nat_list_eq_equiv}
 use Rattle.gx_history.specs.declared.live_order.LiveOrder.{LiveOrder}
-use Rattle.gx_history.specs.declared.policy.Count.{Count}
-use Rattle.gx_history.specs.declared.policy.Count.TheVariants as counts
-use Rattle.gx_history.specs.declared.policy.FileRule.{FileRule}
-use Rattle.gx_history.specs.declared.policy.PolicyData.{PolicyData}
-use Rattle.gx_history.specs.declared.policy.Scope.{Scope}
-use Rattle.gx_history.specs.declared.policy.Stock.{Stock}
+use Rattle.gx_policy.specs.declared.policy.Count.{Count}
+use Rattle.gx_policy.specs.declared.policy.Count.TheVariants as counts
+use Rattle.gx_policy.specs.declared.policy.FileRule.{FileRule}
+use Rattle.gx_policy.specs.declared.policy.PolicyData.{PolicyData}
+use Rattle.gx_policy.specs.declared.policy.Scope.{Scope}
+use Rattle.gx_policy.specs.declared.policy.Stock.{Stock}
 use Rattle.gx_history.specs.Book.{is_buy}
 use Rattle.gx_history.specs.Figures.{is_on}
-use Rattle.gx_history.specs.Lists.{are_distinct}
+use Rattle.gx_policy.specs.Lists.{are_distinct}
 use Rattle.gx_history.specs.LiveOrders.{shares_open}
-use Rattle.gx_history.specs.People.{covers}
+use Rattle.gx_policy.specs.People.{covers}
 use Rattle.gx_history_laws.proofs.Names.{same_account_flip}
 use Rattle.gx_ledger.specs.declared.group.Group.{Group}
 use Rattle.gx_ledger.specs.declared.change.Change.{Change}

@@ -10,9 +10,9 @@ use Rattle.indexmap.specs.IndexSet.{insert_key}
 use Rattle.gx_units.specs.Names.{same_account, same_stock}
 use Rattle.gx_units.specs.declared.names.AccountName.{AccountName}
 use Rattle.gx_units.specs.declared.names.Symbol.{Symbol}
-use Rattle.gx_history.specs.declared.policy.Account.{Account}
-use Rattle.gx_history.specs.declared.policy.Stock.{Stock}
-use Rattle.gx_history.specs.Lists.{are_distinct}
+use Rattle.gx_policy.specs.declared.policy.Account.{Account}
+use Rattle.gx_policy.specs.declared.policy.Stock.{Stock}
+use Rattle.gx_policy.specs.Lists.{are_distinct}
 use Rattle.gx_history_laws.proofs.Names.{stock_is}
 use Rattle.gx_ledger.specs.Keeping.{account_names, priced}
 use Rattle.gx_ledger.specs.declared.change.Change.{Change}

@@ -10,14 +10,14 @@ use Rattle.gx_units.specs.declared.names.Symbol.{Symbol}
 use Rattle.gx_ouch.specs.declared.outbound.OrderTerms.{OrderTerms}
 use Rattle.gx_history.specs.declared.facts.StockSide.{StockSide}
 use Rattle.gx_history.specs.declared.live_order.LiveOrder.{LiveOrder}
-use Rattle.gx_history.specs.declared.policy.PolicyData.{PolicyData}
-use Rattle.gx_history.specs.declared.policy.Stock.{Stock}
+use Rattle.gx_policy.specs.declared.policy.PolicyData.{PolicyData}
+use Rattle.gx_policy.specs.declared.policy.Stock.{Stock}
 use Rattle.gx_history.specs.declared.record.Fill.{Fill}
 use Rattle.gx_history.specs.Executions.{Standing, standing_numbered}
 use Rattle.gx_history.specs.Figures.{Positions, done_shares, done_value, is_on, live_shares, live_value, of_accounts, on_side, reference, side_done, side_live}
-use Rattle.gx_history.specs.Lists.{where_true}
+use Rattle.gx_policy.specs.Lists.{where_true}
 use Rattle.gx_history.specs.Matched.{maker_side, taker_side}
-use Rattle.gx_history.specs.People.{stock_named}
+use Rattle.gx_policy.specs.People.{stock_named}
 use Rattle.gx_history_laws.proofs.Names.{stock_is}
 use Rattle.gx_history_laws.proofs.NextFigures.{reference_more}
 use Rattle.gx_history_laws.proofs.Order.{some_same}

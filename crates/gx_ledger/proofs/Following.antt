@@ -7,7 +7,7 @@ use Rattle.std.proofs.lemmas.Bool.{eqb-true}
 use Rattle.std.proofs.lemmas.List.Sums.{fold_push}
 use Rattle.gx_units.specs.Money.{value}
 use Rattle.gx_history.specs.declared.live_order.LiveOrder.{LiveOrder}
-use Rattle.gx_history.specs.declared.policy.PolicyData.{PolicyData}
+use Rattle.gx_policy.specs.declared.policy.PolicyData.{PolicyData}
 use Rattle.gx_history.specs.Effects.{with_left, without}
 use Rattle.gx_history.specs.Executions.{Standing, standing_numbered}
 use Rattle.gx_history.specs.Figures.{Positions, live_shares, live_value, of_accounts}

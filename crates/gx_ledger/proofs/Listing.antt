@@ -4,9 +4,9 @@ use Rattle.std.specs.Prelude.{Option, Some, None, option_map, is_some, fold}
 use Rattle.std.proofs.lemmas.List.{take_more}
 use Rattle.gx_units.specs.Names.{same_account}
 use Rattle.gx_units.specs.declared.names.AccountName.{AccountName}
-use Rattle.gx_history.specs.declared.policy.Account.{Account}
-use Rattle.gx_history.specs.declared.policy.Count.{Count}
-use Rattle.gx_history.specs.People.{covers}
+use Rattle.gx_policy.specs.declared.policy.Account.{Account}
+use Rattle.gx_policy.specs.declared.policy.Count.{Count}
+use Rattle.gx_policy.specs.People.{covers}
 use Rattle.gx_history_laws.proofs.Names.{account_is}
 use Rattle.gx_ledger.specs.declared.change.Change.{Change}
 use Rattle.gx_ledger.specs.declared.tally.Tally.{Tally}

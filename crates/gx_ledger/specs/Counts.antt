@@ -1,7 +1,7 @@
 -- Which tallies count an account's orders.
 use Rattle.std.specs.Prelude.{◌≡◌, ℕ, suc, Bool, ◌&&◌, List, [], ◌∷◌, map, fold, Option, is_some, if◌then◌else◌}
 use Rattle.gx_units.specs.declared.names.AccountName.{AccountName}
-use Rattle.gx_history.specs.People.{covers}
+use Rattle.gx_policy.specs.People.{covers}
 use Rattle.gx_ledger.specs.declared.change.Change.{Change}
 use Rattle.gx_ledger.specs.declared.tally.Tally.{Tally}
 use Rattle.gx_ledger.specs.Running.{changed_group}

@@ -8,7 +8,7 @@ use Rattle.gx_units.specs.Money.{value}
 use Rattle.gx_units.specs.Names.{same_stock}
 use Rattle.gx_units.specs.declared.names.Symbol.{Symbol}
 use Rattle.gx_history.specs.declared.live_order.LiveOrder.{LiveOrder}
-use Rattle.gx_history.specs.declared.policy.Stock.{Stock}
+use Rattle.gx_policy.specs.declared.policy.Stock.{Stock}
 use Rattle.gx_history.specs.declared.record.Request.{Request}
 use Rattle.gx_history.specs.declared.record.Request.TheVariants as requests
 use Rattle.gx_history.specs.Book.{is_buy}

@@ -6,20 +6,20 @@ use Rattle.gx_units.specs.Names.{same_account}
 use Rattle.gx_units.specs.declared.names.AccountName.{AccountName}
 use Rattle.gx_units.specs.declared.names.Symbol.{Symbol}
 use Rattle.gx_history.specs.declared.live_order.LiveOrder.{LiveOrder}
-use Rattle.gx_history.specs.declared.policy.Count.{Count}
-use Rattle.gx_history.specs.declared.policy.Count.TheVariants as counts
-use Rattle.gx_history.specs.declared.policy.FileRule.{FileRule}
-use Rattle.gx_history.specs.declared.policy.PolicyData.{PolicyData}
-use Rattle.gx_history.specs.declared.policy.Scope.{Scope}
-use Rattle.gx_history.specs.declared.policy.Stock.{Stock}
+use Rattle.gx_policy.specs.declared.policy.Count.{Count}
+use Rattle.gx_policy.specs.declared.policy.Count.TheVariants as counts
+use Rattle.gx_policy.specs.declared.policy.FileRule.{FileRule}
+use Rattle.gx_policy.specs.declared.policy.PolicyData.{PolicyData}
+use Rattle.gx_policy.specs.declared.policy.Scope.{Scope}
+use Rattle.gx_policy.specs.declared.policy.Stock.{Stock}
 use Rattle.gx_history.specs.declared.record.Fill.{Fill}
 use Rattle.gx_history.specs.declared.record.Request.{Request}
 use Rattle.gx_history.specs.Executions.{Execution, Standing, standing_numbered}
 use Rattle.gx_history.specs.Figures.{Positions, figures, live_shares, live_value, done_shares, done_value, reference, side_done, side_live}
-use Rattle.gx_history.specs.Lists.{are_distinct, last_few}
+use Rattle.gx_policy.specs.Lists.{are_distinct, last_few}
 use Rattle.gx_history.specs.LiveOrders.{shares_open}
 use Rattle.gx_history.specs.Orders.{Order}
-use Rattle.gx_history.specs.People.{account_named, covers, stock_named}
+use Rattle.gx_policy.specs.People.{account_named, covers, stock_named}
 use Rattle.gx_history.specs.Rules.{figured}
 use Rattle.gx_history.specs.Verdicts.{with_figures}
 use Rattle.gx_effects.specs.OneMore as ones

@@ -6,16 +6,16 @@ use Rattle.gx_units.specs.declared.names.Symbol.{Symbol}
 use Rattle.gx_history.specs.declared.facts.RuleFigures.{RuleFigures}
 use Rattle.gx_history.specs.declared.facts.StockSide.{StockSide}
 use Rattle.gx_history.specs.declared.live_order.LiveOrder.{LiveOrder}
-use Rattle.gx_history.specs.declared.policy.Account.{Account}
-use Rattle.gx_history.specs.declared.policy.Count.{Count}
-use Rattle.gx_history.specs.declared.policy.Count.TheVariants as counts
-use Rattle.gx_history.specs.declared.policy.FileRule.{FileRule}
-use Rattle.gx_history.specs.declared.policy.RuleKind.{RuleKind}
-use Rattle.gx_history.specs.declared.policy.RuleKind.TheVariants as kinds
-use Rattle.gx_history.specs.declared.policy.Stock.{Stock}
+use Rattle.gx_policy.specs.declared.policy.Account.{Account}
+use Rattle.gx_policy.specs.declared.policy.Count.{Count}
+use Rattle.gx_policy.specs.declared.policy.Count.TheVariants as counts
+use Rattle.gx_policy.specs.declared.policy.FileRule.{FileRule}
+use Rattle.gx_policy.specs.declared.policy.RuleKind.{RuleKind}
+use Rattle.gx_policy.specs.declared.policy.RuleKind.TheVariants as kinds
+use Rattle.gx_policy.specs.declared.policy.Stock.{Stock}
 use Rattle.gx_history.specs.Figures.{no_figures}
 use Rattle.gx_history.specs.LiveOrders.{shares_open}
-use Rattle.gx_history.specs.People.{covers}
+use Rattle.gx_policy.specs.People.{covers}
 use Rattle.gx_ledger.specs.declared.group.Group.{Group}
 use Rattle.gx_ledger.specs.declared.change.Change.{Change}
 use Rattle.gx_ledger.specs.declared.sides.StockSums.{StockSums}

@@ -12,8 +12,8 @@ use crate::sides::Sides;
 use crate::sums::Sums;
 use circular_buffer::HeapCircularBuffer;
 use gx_history::live_order::LiveOrder;
-use gx_history::policy::Stock;
 use gx_history::record::Request;
+use gx_policy::Stock;
 use gx_units::{Moment, OutOfMemory, Symbol};
 use std::alloc::Global;
 

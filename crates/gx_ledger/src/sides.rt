@@ -6,7 +6,7 @@ ghost use Rattle.gx_ledger.specs.Running.{noted_sides, on_its_side, sides_at};
 ghost use Rattle.gx_ledger.specs.Tables.{names_differ};
 
 use crate::change::{Change, ChangeKind};
-use gx_history::policy::Stock;
+use gx_policy::Stock;
 use gx_units::{OutOfMemory, Symbol};
 use indexmap::IndexMap;
 use std::alloc::Global;

@@ -8,7 +8,7 @@ ghost use Rattle.gx_ledger.specs.Tallies.{changed_at, new_tally};
 
 use crate::change::Change;
 use crate::tally::Tally;
-use gx_history::policy::{Account, FileRule, Stock};
+use gx_policy::{Account, FileRule, Stock};
 use gx_units::{AccountName, OutOfMemory, Symbol};
 use indexmap::{IndexMap, IndexSet};
 use std::alloc::Global;

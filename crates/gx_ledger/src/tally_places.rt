@@ -5,7 +5,7 @@ ghost use Rattle.gx_ledger.specs.Counts.{counting};
 ghost use Rattle.gx_ledger.specs.Keeping.{account_names};
 
 use crate::tally::Tally;
-use gx_history::policy::Account;
+use gx_policy::Account;
 use gx_units::{AccountName, OutOfMemory};
 use std::alloc::Global;
 use std::marker::Model;

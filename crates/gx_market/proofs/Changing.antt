@@ -6,12 +6,12 @@ use Rattle.gx_units.specs.Names.{same_account, same_stock}
 use Rattle.gx_units.specs.declared.names.Symbol.{Symbol}
 use Rattle.gx_desk.specs.declared.Action.{Action}
 use Rattle.gx_desk.specs.declared.Action.TheVariants as actions
-use Rattle.gx_history.specs.declared.policy.PolicyData.{PolicyData}
+use Rattle.gx_policy.specs.declared.policy.PolicyData.{PolicyData}
 use Rattle.gx_history.specs.declared.record.RecordData.{RecordData}
 use Rattle.gx_history.specs.Book.{has_rested, is_better, is_on_side, resting}
 use Rattle.gx_history.specs.Effects.{still_open}
 use Rattle.gx_history.specs.Executions.{Standing, is_live}
-use Rattle.gx_history.specs.Lists.{placed}
+use Rattle.gx_policy.specs.Lists.{placed}
 use Rattle.gx_history_laws.proofs.Numbers.{all_weaker}
 use Rattle.gx_effects.specs.OneMore.{Change, EndsAll, Rests, resting_with}
 use Rattle.gx_effects.proofs.Apart.{all_pass_filter}

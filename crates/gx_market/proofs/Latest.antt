@@ -9,7 +9,7 @@ use Rattle.std.proofs.lemmas.List.{append-nil}
 use Rattle.gx_units.specs.declared.names.AccountName.{AccountName}
 use Rattle.gx_units.specs.declared.names.Symbol.{Symbol}
 use Rattle.gx_units.specs.declared.names.UserName.{UserName}
-use Rattle.gx_history.specs.declared.policy.PolicyData.{PolicyData}
+use Rattle.gx_policy.specs.declared.policy.PolicyData.{PolicyData}
 use Rattle.gx_history.specs.declared.record.RecordData.{RecordData}
 use Rattle.gx_history.specs.declared.record.Request.{Request}
 use Rattle.gx_history.specs.declared.record.Request.TheVariants as requests
@@ -21,7 +21,7 @@ use Rattle.gx_history.specs.Book.{has_rested, incoming, is_buy, rested, rested_o
 use Rattle.gx_history.specs.Effects.{replacement, still_open, whole_order, with_open}
 use Rattle.gx_history.specs.Executions.{Standing, done, executions, is_live, live_orders, standing, standing_under, standings}
 use Rattle.gx_history.specs.Orders.{Order, orders}
-use Rattle.gx_history.specs.People.{account_of}
+use Rattle.gx_policy.specs.People.{account_of}
 use Rattle.gx_history.specs.Requests.{is_judged}
 use Rattle.gx_history.specs.Verdicts.{next, IsLegal}
 use Rattle.gx_history_laws.proofs.Granting.{asked_is_judged, legal_keeps}

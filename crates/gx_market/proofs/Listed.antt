@@ -1,7 +1,7 @@
 -- Each order that waits is in a stock of the policy.
 use Rattle.std.proofs.Common.{List}
 use Rattle.std.specs.List.{AllByRecursion}
-use Rattle.gx_history.specs.declared.policy.PolicyData.{PolicyData}
+use Rattle.gx_policy.specs.declared.policy.PolicyData.{PolicyData}
 use Rattle.gx_history.specs.declared.record.RecordData.{RecordData}
 use Rattle.gx_history.specs.Book.{incoming}
 use Rattle.gx_history.specs.Executions.{Standing, executions, standing, standings, live_orders, is_live}

@@ -5,7 +5,7 @@ use Rattle.std.proofs.lemmas.Slice.Eq.{bytes_eq-Decides}
 use Rattle.gx_units.specs.Names.{same_account, same_stock}
 use Rattle.gx_units.specs.declared.names.AccountName.{AccountName}
 use Rattle.gx_units.specs.declared.names.Symbol.{Symbol}
-use Rattle.gx_history.specs.Lists.{placed}
+use Rattle.gx_policy.specs.Lists.{placed}
 use Rattle.gx_orders.proofs.Keeping.{filter_of_map}
 use Rattle.gx_history_laws.proofs.Names.{account_is, account_is_itself}
 

@@ -5,13 +5,13 @@ use Rattle.std.specs.Prelude.{Option, Some, None, ◌==◌, is_some, option_map}
 use Rattle.std.specs.List.{AllByRecursion}
 use Rattle.std.proofs.lemmas.Bool.{eq-eqb, eqb-true}
 use Rattle.gx_units.specs.Names.{same_stock}
-use Rattle.gx_history.specs.declared.policy.PolicyData.{PolicyData}
-use Rattle.gx_history.specs.declared.policy.Stock.{Stock}
+use Rattle.gx_policy.specs.declared.policy.PolicyData.{PolicyData}
+use Rattle.gx_policy.specs.declared.policy.Stock.{Stock}
 use Rattle.gx_history.specs.declared.record.RecordData.{RecordData}
 use Rattle.gx_history.specs.Book.{has_rested, is_on_side, resting}
 use Rattle.gx_history.specs.Executions.{Standing, executions, is_live, live_orders, standing, standings, standing_numbered}
 use Rattle.gx_history.specs.Orders.{orders}
-use Rattle.gx_history.specs.People.{stock_named}
+use Rattle.gx_policy.specs.People.{stock_named}
 use Rattle.gx_history.specs.Verdicts.{IsLegal}
 use Rattle.gx_history_laws.proofs.Listed.{IsListed, orders_are_listed}
 use Rattle.gx_history_laws.proofs.Numbers.{all_weaker}

@@ -1,12 +1,12 @@
 -- A book in force is sound: each side has the better price first.
 use Rattle.std.proofs.Common.{◌≡◌, Bool, true, false, not, List, [], ◌∷◌, refl, ap, map}
 use Rattle.std.specs.List.{AllByRecursion, list_all}
-use Rattle.gx_history.specs.declared.policy.PolicyData.{PolicyData}
-use Rattle.gx_history.specs.declared.policy.Stock.{Stock}
+use Rattle.gx_policy.specs.declared.policy.PolicyData.{PolicyData}
+use Rattle.gx_policy.specs.declared.policy.Stock.{Stock}
 use Rattle.gx_history.specs.declared.record.RecordData.{RecordData}
 use Rattle.gx_history.specs.Book.{is_ahead, resting}
 use Rattle.gx_history.specs.Executions.{Standing}
-use Rattle.gx_history.specs.Lists.{IsInOrder}
+use Rattle.gx_policy.specs.Lists.{IsInOrder}
 use Rattle.gx_history.specs.Verdicts.{IsLegal}
 use Rattle.gx_history_laws.proofs.Numbers.{all_weaker}
 use Rattle.gx_effects.proofs.NeverCrossed.{resting_ordered}

@@ -1,8 +1,8 @@
 -- The book after the records of a day: for each listed stock, the orders that rest on either side.
 use Rattle.std.specs.Prelude.{Bool, true, false, List, map}
 use Rattle.gx_units.specs.declared.names.Symbol.{Symbol}
-use Rattle.gx_history.specs.declared.policy.PolicyData.{PolicyData}
-use Rattle.gx_history.specs.declared.policy.Stock.{Stock}
+use Rattle.gx_policy.specs.declared.policy.PolicyData.{PolicyData}
+use Rattle.gx_policy.specs.declared.policy.Stock.{Stock}
 use Rattle.gx_history.specs.declared.record.RecordData.{RecordData}
 use Rattle.gx_history.specs.Book.{resting}
 use Rattle.gx_history.specs.Executions.{Standing}

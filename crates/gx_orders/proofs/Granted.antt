@@ -11,12 +11,12 @@ use Rattle.gx_ouch.specs.declared.inbound.EnterOrder.{EnterOrder}
 use Rattle.gx_desk.specs.declared.Action.{Action}
 use Rattle.gx_desk.specs.declared.Action.TheVariants as actions
 use Rattle.gx_desk.specs.declared.Command.{Command}
-use Rattle.gx_history.specs.declared.policy.PolicyData.{PolicyData}
+use Rattle.gx_policy.specs.declared.policy.PolicyData.{PolicyData}
 use Rattle.gx_history.specs.declared.record.Asked.{Asked}
 use Rattle.gx_history.specs.declared.record.RecordData.{RecordData}
 use Rattle.gx_history.specs.declared.record.Request.{Request}
 use Rattle.gx_history.specs.declared.record.Request.TheVariants as requests
-use Rattle.gx_history.specs.declared.record.RuleName.{RuleName}
+use Rattle.gx_policy.specs.declared.rule_name.RuleName.{RuleName}
 use Rattle.gx_history.specs.declared.record.Step.{Step}
 use Rattle.gx_history.specs.declared.record.Step.TheVariants as steps
 use Rattle.gx_history.specs.declared.record.Verdict.{Verdict}
@@ -26,7 +26,7 @@ use Rattle.gx_history.specs.Effects.{whole_order}
 use Rattle.gx_history.specs.Executions.{Standing, executions, done, live_orders}
 use Rattle.gx_history.specs.Orders.{Order, ends_account, entered, size_asked, uses_token}
 use Rattle.gx_history.specs.Requests.{asked, action_of, new_token}
-use Rattle.gx_history.specs.RuleNames.{is_answered_rule}
+use Rattle.gx_policy.specs.RuleNames.{is_answered_rule}
 use Rattle.gx_history.specs.Verdicts.{next, IsLegal}
 use Rattle.gx_history_laws.proofs.Entering.{HasAccount, entered_has_account, entered_has_shares}
 use Rattle.gx_history_laws.proofs.Keeping.{live_kept}

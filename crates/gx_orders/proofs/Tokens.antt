@@ -6,20 +6,20 @@ use Rattle.std.specs.List.{find, AllByRecursion}
 use Rattle.gx_units.specs.declared.names.Token.{Token}
 use Rattle.gx_history.specs.declared.facts.Facts.{Facts}
 use Rattle.gx_history.specs.declared.facts.RuleFigures.{RuleFigures}
-use Rattle.gx_history.specs.declared.policy.FileRule.{FileRule}
-use Rattle.gx_history.specs.declared.policy.PolicyData.{PolicyData}
+use Rattle.gx_policy.specs.declared.policy.FileRule.{FileRule}
+use Rattle.gx_policy.specs.declared.policy.PolicyData.{PolicyData}
 use Rattle.gx_history.specs.declared.record.Asked.{Asked}
 use Rattle.gx_history.specs.declared.record.RecordData.{RecordData}
 use Rattle.gx_history.specs.declared.record.Request.{Request}
 use Rattle.gx_history.specs.declared.record.Request.TheVariants as requests
-use Rattle.gx_history.specs.declared.record.RuleName.{RuleName}
-use Rattle.gx_history.specs.declared.record.RuleName.TheVariants.{L1, L2, L3, G1, G2, G3, I1}
+use Rattle.gx_policy.specs.declared.rule_name.RuleName.{RuleName}
+use Rattle.gx_policy.specs.declared.rule_name.RuleName.TheVariants.{L1, L2, L3, G1, G2, G3, I1}
 use Rattle.gx_history.specs.declared.record.Step.TheVariants as steps
 use Rattle.gx_history.specs.declared.record.Verdict.TheVariants as verdicts
 use Rattle.gx_history.specs.Asking.{facts}
 use Rattle.gx_history.specs.Orders.{is_token_used}
 use Rattle.gx_history.specs.Requests.{is_order, new_token}
-use Rattle.gx_history.specs.RuleNames.{is_answered_rule, rules_before, rules_behind}
+use Rattle.gx_policy.specs.RuleNames.{is_answered_rule, rules_before, rules_behind}
 use Rattle.gx_history.specs.Rules.{Rule, BuiltIn, OfFile, applies, first_forbidding, forbids, name_of, written_order}
 use Rattle.gx_history.specs.Verdicts.{facts_now, moment_of, next, rules_now, verdict, verdict_by}
 use Rattle.gx_history_laws.proofs.Granting.{granted_passes_before, left_by_request, verdict_left}

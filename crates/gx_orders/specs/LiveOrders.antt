@@ -6,7 +6,7 @@ use Rattle.gx_units.specs.declared.names.AccountName.{AccountName}
 use Rattle.gx_units.specs.declared.names.Token.{Token}
 use Rattle.gx_units.specs.declared.names.UserName.{UserName}
 use Rattle.gx_history.specs.LiveOrders.{is_under, key, token_of}
-use Rattle.gx_history.specs.Lists.{are_distinct, last_such}
+use Rattle.gx_policy.specs.Lists.{are_distinct, last_such}
 use Rattle.gx_history.specs.declared.live_order.LiveOrder.{LiveOrder}
 use Rattle.gx_history.specs.declared.live_order.UserToken.{UserToken}
 

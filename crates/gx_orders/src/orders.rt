@@ -10,7 +10,8 @@ ghost use Rattle.gx_orders.specs.LiveOrders.{AreBelow, AreSound, HasOpen, at_res
 use crate::counts::{count_in, count_no_more, count_one_less, count_one_more};
 use crate::request_tokens::denied_token;
 use gx_history::live_order::{LiveOrder, UserToken};
-use gx_history::record::{Asked, RuleName};
+use gx_history::record::Asked;
+use gx_policy::RuleName;
 use gx_units::{AccountName, OutOfMemory, Token, UserName};
 use indexmap::IndexMap;
 use std::alloc::Global;

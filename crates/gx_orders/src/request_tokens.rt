@@ -2,10 +2,11 @@
 
 ghost use Rattle.std.specs.Prelude.{◌≡◌};
 ghost use Rattle.gx_history.specs.Requests.{named_token, new_token};
-ghost use Rattle.gx_history.specs.RuleNames.{is_answered_rule};
+ghost use Rattle.gx_policy.specs.RuleNames.{is_answered_rule};
 ghost use Rattle.gx_orders.specs.Changes.{denied_token};
 
-use gx_history::record::{Request, RuleName};
+use gx_history::record::Request;
+use gx_policy::RuleName;
 use gx_units::Token;
 
 /// The token that an Enter, or a Replace, asks for an order under.

@@ -6,7 +6,7 @@ use std::marker::Brand;
 /// it to a function generic in this name.
 pub trait GateName {
     ghost use Rattle.atomic_table.specs.Seated.{TableId};
-    ghost use Rattle.gx_history.specs.declared.policy.PolicyData.{PolicyData};
+    ghost use Rattle.gx_policy.specs.declared.policy.PolicyData.{PolicyData};
 
     ghost table: { TableId };
 

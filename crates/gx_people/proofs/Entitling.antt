@@ -13,17 +13,18 @@ use Rattle.gx_desk.specs.Names.{is_written}
 use Rattle.gx_desk.specs.declared.WrittenName.{WrittenName}
 use Rattle.gx_desk.specs.declared.Action.{Action}
 use Rattle.gx_desk.specs.declared.Action.TheVariants as actions
-use Rattle.gx_history.specs.declared.policy.PolicyData.{PolicyData}
-use Rattle.gx_history.specs.declared.policy.Role.{Role}
-use Rattle.gx_history.specs.declared.policy.Role.TheVariants as roles
-use Rattle.gx_history.specs.declared.policy.User.{User}
+use Rattle.gx_policy.specs.declared.policy.PolicyData.{PolicyData}
+use Rattle.gx_policy.specs.declared.policy.Role.{Role}
+use Rattle.gx_policy.specs.declared.policy.Role.TheVariants as roles
+use Rattle.gx_policy.specs.declared.policy.User.{User}
 use Rattle.gx_history.specs.declared.record.Asked.{Asked}
 use Rattle.gx_history.specs.declared.record.RecordData.{RecordData}
 use Rattle.gx_history.specs.InForce.{in_role, is_entitled, grant_or_revoke_of, last_mark}
-use Rattle.gx_history.specs.Lists.{last_value, where_true}
-use Rattle.gx_history.specs.People.{is_reader, role_in, names_account, user_in, reader_in}
+use Rattle.gx_policy.specs.Lists.{last_value, where_true}
+use Rattle.gx_policy.specs.People.{is_reader, role_in, names_account, user_in}
+use Rattle.gx_history.specs.Readers.{reader_in}
 use Rattle.gx_history.specs.Requests.{granted, granted_actions, granted_mark, action_of}
-use Rattle.gx_history.specs.Soundness.{is_sound}
+use Rattle.gx_policy.specs.Soundness.{is_sound}
 use Rattle.gx_history_laws.proofs.Adding.{user_is}
 use Rattle.gx_history_laws.proofs.Names.{account_is, same_account_flip}
 use Rattle.gx_history_laws.proofs.Order.{some_same}

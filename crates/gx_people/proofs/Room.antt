@@ -14,11 +14,11 @@ use Rattle.gx_units.specs.declared.names.AccountName.{AccountName}
 use Rattle.gx_units.specs.declared.names.UserName.{UserName}
 use Rattle.gx_desk.specs.declared.Action.{Action}
 use Rattle.gx_desk.specs.declared.Action.TheVariants as actions
-use Rattle.gx_history.specs.declared.policy.Account.{Account}
-use Rattle.gx_history.specs.declared.policy.PolicyData.{PolicyData}
-use Rattle.gx_history.specs.declared.policy.Role.{Role}
-use Rattle.gx_history.specs.declared.policy.Role.TheVariants as roles
-use Rattle.gx_history.specs.declared.policy.User.{User}
+use Rattle.gx_policy.specs.declared.policy.Account.{Account}
+use Rattle.gx_policy.specs.declared.policy.PolicyData.{PolicyData}
+use Rattle.gx_policy.specs.declared.policy.Role.{Role}
+use Rattle.gx_policy.specs.declared.policy.Role.TheVariants as roles
+use Rattle.gx_policy.specs.declared.policy.User.{User}
 use Rattle.gx_history.specs.declared.record.Asked.{Asked}
 use Rattle.gx_history.specs.declared.record.RecordData.{RecordData}
 use Rattle.gx_history.specs.declared.record.Step.{Step}
@@ -26,10 +26,11 @@ use Rattle.gx_history.specs.declared.record.Step.TheVariants as steps
 use Rattle.gx_history.specs.declared.record.Verdict.{Verdict}
 use Rattle.gx_history.specs.declared.record.Verdict.TheVariants as verdicts
 use Rattle.gx_history.specs.Asking.{knows_names}
-use Rattle.gx_history.specs.Lists.{are_distinct}
-use Rattle.gx_history.specs.People.{account_named, names_account, reader_in, user_in}
+use Rattle.gx_policy.specs.Lists.{are_distinct}
+use Rattle.gx_policy.specs.People.{account_named, names_account, user_in}
+use Rattle.gx_history.specs.Readers.{reader_in}
 use Rattle.gx_history.specs.Requests.{action_of, asked, is_granted}
-use Rattle.gx_history.specs.Soundness.{are_accounts, is_role_sound, is_sound, is_user_sound}
+use Rattle.gx_policy.specs.Soundness.{are_accounts, is_role_sound, is_sound, is_user_sound}
 use Rattle.gx_history.specs.Verdicts.{Follows, IsLegal, next}
 use Rattle.gx_history_laws.proofs.Granting.{legal_keeps}
 use Rattle.gx_history_laws.proofs.Judging.{both}

@@ -10,9 +10,9 @@ use Rattle.gx_units.specs.Spelling.{is_space, is_blank}
 use Rattle.gx_units.specs.declared.names.UserName.{UserName}
 use Rattle.gx_desk.specs.Names.{is_written}
 use Rattle.gx_desk.specs.declared.WrittenName.{WrittenName}
-use Rattle.gx_history.specs.declared.policy.PolicyData.{PolicyData}
-use Rattle.gx_history.specs.declared.policy.User.{User}
-use Rattle.gx_history.specs.Soundness.{is_sound, is_user_sound, is_padded, is_folded, is_visible}
+use Rattle.gx_policy.specs.declared.policy.PolicyData.{PolicyData}
+use Rattle.gx_policy.specs.declared.policy.User.{User}
+use Rattle.gx_policy.specs.Soundness.{is_sound, is_user_sound, is_padded, is_folded, is_visible}
 use Rattle.gx_history_laws.proofs.Judging.{both}
 
 back_by : (low high : Bool) (c : ℕ) → nat_lt c 65 ≡ low → nat_lt c 91 ≡ high → not (is_lower_case c) ≡ true → to_ascii_uppercase (cond low c (cond high (c + 32) c)) ≡ c

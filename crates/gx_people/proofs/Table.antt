@@ -14,11 +14,12 @@ use Rattle.gx_units.specs.declared.names.Password.{Password}
 use Rattle.gx_units.specs.declared.names.UserName.{UserName}
 use Rattle.gx_desk.specs.Names.{is_written}
 use Rattle.gx_desk.specs.declared.WrittenName.{WrittenName}
-use Rattle.gx_history.specs.declared.policy.Role.{Role}
-use Rattle.gx_history.specs.declared.policy.User.{User}
-use Rattle.gx_history.specs.Lists.{are_distinct}
+use Rattle.gx_policy.specs.declared.policy.Role.{Role}
+use Rattle.gx_policy.specs.declared.policy.User.{User}
+use Rattle.gx_policy.specs.Lists.{are_distinct}
 use Rattle.gx_history.specs.Logins.{password_is, same_password}
-use Rattle.gx_history.specs.People.{is_reader, user_in, role_in, reader_in}
+use Rattle.gx_policy.specs.People.{is_reader, user_in, role_in}
+use Rattle.gx_history.specs.Readers.{reader_in}
 use Rattle.gx_history_laws.proofs.Adding.{user_is, user_is_itself}
 use Rattle.gx_history_laws.proofs.Judging.{both}
 use Rattle.gx_history_laws.proofs.Names.{same_user_flip}

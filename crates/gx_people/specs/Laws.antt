@@ -9,15 +9,16 @@ use Rattle.gx_units.specs.declared.names.UserName.{UserName}
 use Rattle.gx_desk.specs.declared.WrittenName.{WrittenName}
 use Rattle.gx_desk.specs.declared.Action.{Action}
 use Rattle.gx_desk.specs.declared.Action.TheVariants as actions
-use Rattle.gx_history.specs.declared.policy.PolicyData.{PolicyData}
-use Rattle.gx_history.specs.declared.policy.User.{User}
+use Rattle.gx_policy.specs.declared.policy.PolicyData.{PolicyData}
+use Rattle.gx_policy.specs.declared.policy.User.{User}
 use Rattle.gx_history.specs.declared.record.RecordData.{RecordData}
 use Rattle.gx_history.specs.Asking.{has_power, sees_now}
 use Rattle.gx_history.specs.InForce.{is_entitled}
 use Rattle.gx_history.specs.Logins.{password_is}
-use Rattle.gx_history.specs.People.{account_named, account_of, account_of_role, is_officer, is_reader, is_trader, reader_in, role_in, user_in}
+use Rattle.gx_policy.specs.People.{account_named, account_of, account_of_role, is_officer, is_reader, is_trader, role_in, user_in}
+use Rattle.gx_history.specs.Readers.{reader_in}
 use Rattle.gx_history.specs.Requests.{granted_action}
-use Rattle.gx_history.specs.Soundness.{is_sound, is_user_sound}
+use Rattle.gx_policy.specs.Soundness.{is_sound, is_user_sound}
 use Rattle.gx_history.specs.Verdicts.{IsLegal}
 use Rattle.gx_people.specs.Entitled.{given, granted_to, has, has_room, holds, holds_in_role, people_in_force, power_of, revoked_from, sees}
 

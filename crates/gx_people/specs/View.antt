@@ -1,9 +1,9 @@
 -- The users that the gate's table of persons stands for.
 use Rattle.std.specs.Prelude.{List, map}
 use Rattle.gx_units.specs.declared.names.UserName.{UserName}
-use Rattle.gx_history.specs.declared.policy.Role.{Role}
-use Rattle.gx_history.specs.declared.policy.Role.TheVariants as roles
-use Rattle.gx_history.specs.declared.policy.User.{User}
+use Rattle.gx_policy.specs.declared.policy.Role.{Role}
+use Rattle.gx_policy.specs.declared.policy.Role.TheVariants as roles
+use Rattle.gx_policy.specs.declared.policy.User.{User}
 use Rattle.gx_people.specs.declared.person.Person.{Person}
 use Rattle.gx_people.specs.declared.person.Standing.{Standing}
 use Rattle.gx_people.specs.declared.person.Standing.TheVariants as standings

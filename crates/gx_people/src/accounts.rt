@@ -2,7 +2,7 @@
 
 ghost use Rattle.std.specs.Prelude.{◌≡◌, ◌<◌, [], ◌∷◌, ◌++◌, length, filter, not, IfOk};
 ghost use Rattle.gx_units.specs.Names.{same_account};
-ghost use Rattle.gx_history.specs.People.{names_account};
+ghost use Rattle.gx_policy.specs.People.{names_account};
 ghost use Rattle.gx_people.specs.Entitled.{account_limit};
 
 use gx_units::{AccountName, OutOfMemory};

@@ -7,7 +7,8 @@ ghost use Rattle.gx_units.specs.declared.names.AccountName.{AccountName};
 ghost use Rattle.gx_units.specs.declared.names.UserName.{UserName};
 ghost use Rattle.gx_history.specs.Masks.{mask_by};
 ghost use Rattle.gx_history.specs.Logins.{password_is};
-ghost use Rattle.gx_history.specs.People.{account_of_role, is_officer, is_reader, reader_in, role_in, user_in};
+ghost use Rattle.gx_policy.specs.People.{account_of_role, is_officer, is_reader, role_in, user_in};
+ghost use Rattle.gx_history.specs.Readers.{reader_in};
 ghost use Rattle.gx_people.specs.Entitled.{granted_to, has, has_room, holds, may, revoked_from};
 ghost use Rattle.gx_people.specs.Entitled.{sees, sees_after, sees_with, sees_without};
 ghost use Rattle.gx_people.specs.View.{role_of_standing};
@@ -15,7 +16,7 @@ ghost use Rattle.gx_people.specs.View.{role_of_standing};
 use crate::person::{Person, Standing};
 use crate::power::Power;
 use gx_desk::WrittenName;
-use gx_history::policy::{Account, Policy};
+use gx_policy::{Account, Policy};
 use gx_units::{AccountName, OutOfMemory, Password, UserName};
 use indexmap::IndexMap;
 use std::alloc::Global;
@@ -39,7 +40,7 @@ pub struct People {
 
 impl Model for People {
     ghost use Rattle.std.specs.Prelude.{List};
-    ghost use Rattle.gx_history.specs.declared.policy.User.{User};
+    ghost use Rattle.gx_policy.specs.declared.policy.User.{User};
 
     ghost Value = { List User };
 

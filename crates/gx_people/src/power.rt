@@ -1,12 +1,12 @@
 //! The powers that commands ask for.
 
 ghost use Rattle.std.specs.Prelude.{◌≡◌, Option};
-ghost use Rattle.gx_history.specs.declared.policy.Role.{Role};
+ghost use Rattle.gx_policy.specs.declared.policy.Role.{Role};
 ghost use Rattle.gx_history.specs.Asking.{has_power};
 ghost use Rattle.gx_people.specs.Entitled.{has_in_role, includes, power_of};
 
 use gx_desk::Action;
-use gx_history::policy::Powers;
+use gx_policy::Powers;
 
 /// What an officer may be given, each for the commands of its name.
 #[derive(Clone, Copy, PartialEq, Eq)]

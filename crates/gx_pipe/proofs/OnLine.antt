@@ -18,8 +18,8 @@ use Rattle.gx_soup.specs.declared.packet.ClientPacket.TheVariants as client
 use Rattle.gx_soup.specs.Packets.{packets_of}
 use Rattle.gx_history.specs.declared.facts.Facts.{Facts}
 use Rattle.gx_history.specs.declared.facts.RuleFigures.{RuleFigures}
-use Rattle.gx_history.specs.declared.policy.FileRule.{FileRule}
-use Rattle.gx_history.specs.declared.policy.PolicyData.{PolicyData}
+use Rattle.gx_policy.specs.declared.policy.FileRule.{FileRule}
+use Rattle.gx_policy.specs.declared.policy.PolicyData.{PolicyData}
 use Rattle.gx_history.specs.declared.record.Asked.{Asked}
 use Rattle.gx_history.specs.declared.record.RecordData.{RecordData}
 use Rattle.gx_history.specs.declared.record.Request.TheVariants as requests
@@ -30,9 +30,9 @@ use Rattle.gx_history.specs.declared.record.Verdict.TheVariants as verdicts
 use Rattle.gx_history.specs.Asking.{facts, is_on_line}
 use Rattle.gx_history.specs.InForce.{is_closed, line_by, line_of, login_or_logout_of}
 use Rattle.gx_history.specs.Payloads.{asked_by as meant_by, request_of, unreadable}
-use Rattle.gx_history.specs.People.{covers}
+use Rattle.gx_policy.specs.People.{covers}
 use Rattle.gx_history.specs.Requests.{asked, is_granted}
-use Rattle.gx_history.specs.RuleNames.{rules_before, rules_behind}
+use Rattle.gx_policy.specs.RuleNames.{rules_before, rules_behind}
 use Rattle.gx_history.specs.Rules.{Rule, BuiltIn, OfFile, applies, written_order}
 use Rattle.gx_history.specs.Verdicts.{facts_now, rules_now, verdict}
 use Rattle.gx_history_laws.proofs.Logouts.{logouts_are_granted}

@@ -16,11 +16,11 @@ use Rattle.gx_soup.specs.declared.packet.ClientPacket.TheVariants as client
 use Rattle.gx_soup.specs.declared.packet.ServerPacket.TheVariants as server
 use Rattle.gx_soup.specs.Writing.{server_bytes}
 use Rattle.gx_soup.specs.Packets.{packets_of}
-use Rattle.gx_history.specs.declared.policy.PolicyData.{PolicyData}
+use Rattle.gx_policy.specs.declared.policy.PolicyData.{PolicyData}
 use Rattle.gx_history.specs.declared.record.Asked.{Asked}
 use Rattle.gx_history.specs.declared.record.RecordData.{RecordData}
-use Rattle.gx_history.specs.declared.record.RuleName.{RuleName}
-use Rattle.gx_history.specs.declared.record.RuleName.TheVariants.{L1, L2, L3, G1, G2, G3, I1, I2, I3, P1, P2, P3, P4, P5, P6, P7, P8, P9, P10, P11, P12, Q1, Q2, Q3, Q4, File}
+use Rattle.gx_policy.specs.declared.rule_name.RuleName.{RuleName}
+use Rattle.gx_policy.specs.declared.rule_name.RuleName.TheVariants.{L1, L2, L3, G1, G2, G3, I1, I2, I3, P1, P2, P3, P4, P5, P6, P7, P8, P9, P10, P11, P12, Q1, Q2, Q3, Q4, File}
 use Rattle.gx_history.specs.declared.record.Step.TheVariants as steps
 use Rattle.gx_history.specs.declared.record.Verdict.{Verdict}
 use Rattle.gx_history.specs.declared.record.Verdict.TheVariants as verdicts
@@ -29,7 +29,7 @@ use Rattle.gx_history.specs.Asking.{facts}
 use Rattle.gx_history.specs.Logins.{first_wanted}
 use Rattle.gx_history.specs.Payloads.{request_of}
 use Rattle.gx_history.specs.Requests.{asked}
-use Rattle.gx_history.specs.RuleNames.{rules_before}
+use Rattle.gx_policy.specs.RuleNames.{rules_before}
 use Rattle.gx_history.specs.Rules.{forbids}
 use Rattle.gx_history.specs.Streams.{stream, reports_of}
 use Rattle.gx_history.specs.Verdicts.{next, verdict, facts_now, moment_of}

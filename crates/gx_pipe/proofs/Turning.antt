@@ -11,7 +11,7 @@ use Rattle.gx_soup.specs.declared.packet.ClientPacket.TheVariants as client
 use Rattle.gx_history.specs.declared.record.Request.TheVariants as requests
 use Rattle.gx_history.specs.declared.report.Report.{Report}
 use Rattle.gx_history.specs.InForce.{is_closed}
-use Rattle.gx_history.specs.Lists.{slice}
+use Rattle.gx_policy.specs.Lists.{slice}
 use Rattle.gx_history.specs.Streams.{stream}
 use Rattle.gx_answers.specs.Gates.{GateData}
 use Rattle.gx_answers.specs.Told.{ends_before}

@@ -8,7 +8,7 @@ use Rattle.gx_soup.specs.Packets.{packets_of}
 use Rattle.gx_soup.specs.Feeding.{Held, HasRead}
 use Rattle.gx_history.specs.InForce.{is_closed}
 use Rattle.gx_history.specs.Verdicts.{day_limit}
-use Rattle.gx_history.specs.declared.policy.PolicyData.{PolicyData}
+use Rattle.gx_policy.specs.declared.policy.PolicyData.{PolicyData}
 use Rattle.gx_history.specs.declared.report.Report.{Report}
 use Rattle.gx_history.specs.declared.record.Asked.{Asked}
 use Rattle.gx_history.specs.declared.record.RecordData.{RecordData}

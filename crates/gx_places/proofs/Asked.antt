@@ -15,15 +15,15 @@ use Rattle.gx_desk.specs.declared.Action.{Action}
 use Rattle.gx_desk.specs.declared.Action.TheVariants as actions
 use Rattle.gx_desk.specs.declared.AnswerCode.{AnswerCode}
 use Rattle.gx_desk.specs.declared.Command.{Command}
-use Rattle.gx_history.specs.declared.policy.Account.{Account}
-use Rattle.gx_history.specs.declared.policy.PolicyData.{PolicyData}
-use Rattle.gx_history.specs.declared.policy.User.{User}
+use Rattle.gx_policy.specs.declared.policy.Account.{Account}
+use Rattle.gx_policy.specs.declared.policy.PolicyData.{PolicyData}
+use Rattle.gx_policy.specs.declared.policy.User.{User}
 use Rattle.gx_history.specs.declared.record.Asked.{Asked}
 use Rattle.gx_history.specs.declared.record.Fill.{Fill}
 use Rattle.gx_history.specs.declared.record.RecordData.{RecordData}
 use Rattle.gx_history.specs.declared.record.Request.{Request}
 use Rattle.gx_history.specs.declared.record.Request.TheVariants as requests
-use Rattle.gx_history.specs.declared.record.RuleName.{RuleName}
+use Rattle.gx_policy.specs.declared.rule_name.RuleName.{RuleName}
 use Rattle.gx_history.specs.declared.record.Step.TheVariants as steps
 use Rattle.gx_history.specs.declared.record.Verdict.{Verdict}
 use Rattle.gx_history.specs.declared.record.Verdict.TheVariants as verdicts
@@ -33,7 +33,7 @@ use Rattle.gx_history.specs.Executions.{Standing, live_orders}
 use Rattle.gx_history.specs.InForce.{line_of}
 use Rattle.gx_history.specs.Matched.{ExpiresOrder, FillsOrders, RestsOrder, left_by_fill}
 use Rattle.gx_history.specs.Orders.{entered}
-use Rattle.gx_history.specs.People.{is_trader, role_in, user_in}
+use Rattle.gx_policy.specs.People.{is_trader, role_in, user_in}
 use Rattle.gx_history.specs.Reasons.{denial_code}
 use Rattle.gx_history.specs.Requests.{is_judged, is_unreadable}
 use Rattle.gx_history.specs.Streams.{accepted, answer, canceled, granted_code, day_end, ended, rejected, replaced, reported, reports_of, reports_of_denial, stream, to_user}

@@ -8,25 +8,25 @@ use Rattle.gx_units.specs.declared.names.AccountName.{AccountName}
 use Rattle.gx_units.specs.declared.names.UserName.{UserName}
 use Rattle.gx_desk.specs.declared.Action.{Action}
 use Rattle.gx_desk.specs.declared.Action.TheVariants as actions
-use Rattle.gx_history.specs.declared.policy.Account.{Account}
-use Rattle.gx_history.specs.declared.policy.PolicyData.{PolicyData}
-use Rattle.gx_history.specs.declared.policy.Role.{Role}
-use Rattle.gx_history.specs.declared.policy.Role.TheVariants as roles
-use Rattle.gx_history.specs.declared.policy.User.{User}
+use Rattle.gx_policy.specs.declared.policy.Account.{Account}
+use Rattle.gx_policy.specs.declared.policy.PolicyData.{PolicyData}
+use Rattle.gx_policy.specs.declared.policy.Role.{Role}
+use Rattle.gx_policy.specs.declared.policy.Role.TheVariants as roles
+use Rattle.gx_policy.specs.declared.policy.User.{User}
 use Rattle.gx_history.specs.declared.record.Asked.{Asked}
 use Rattle.gx_history.specs.declared.record.RecordData.{RecordData}
 use Rattle.gx_history.specs.declared.record.Request.{Request}
 use Rattle.gx_history.specs.declared.record.Request.TheVariants as requests
-use Rattle.gx_history.specs.declared.record.RuleName.{RuleName}
-use Rattle.gx_history.specs.declared.record.RuleName.TheVariants.{L1, L2, L3, G1, G2, G3, Q1, Q2, Q3, Q4}
+use Rattle.gx_policy.specs.declared.rule_name.RuleName.{RuleName}
+use Rattle.gx_policy.specs.declared.rule_name.RuleName.TheVariants.{L1, L2, L3, G1, G2, G3, Q1, Q2, Q3, Q4}
 use Rattle.gx_history.specs.declared.record.Step.TheVariants as steps
 use Rattle.gx_history.specs.declared.record.Verdict.TheVariants as verdicts
 use Rattle.gx_history.specs.Asking.{are_his, changes, facts, has_power, is_on_line, knows_names, of_command}
 use Rattle.gx_history.specs.InForce.{is_untouched, kill_after, kill_in_force, kill_or_lift_of, line_of}
-use Rattle.gx_history.specs.Lists.{where_true}
-use Rattle.gx_history.specs.People.{account_named, covers, is_officer, role_in, user_in}
+use Rattle.gx_policy.specs.Lists.{where_true}
+use Rattle.gx_policy.specs.People.{account_named, covers, is_officer, role_in, user_in}
 use Rattle.gx_history.specs.Requests.{is_command, is_unreadable}
-use Rattle.gx_history.specs.RuleNames.{rules_before, rules_behind}
+use Rattle.gx_policy.specs.RuleNames.{rules_before, rules_behind}
 use Rattle.gx_history.specs.Rules.{forbids}
 use Rattle.gx_history.specs.Verdicts.{facts_now, next, rules_now}
 use Rattle.gx_history_laws.proofs.Adding.{user_is, user_is_itself}

@@ -5,7 +5,7 @@ use Rattle.std.proofs.lemmas.List.{map-append}
 use Rattle.std.specs.List.{list_all, list_any}
 use Rattle.std.proofs.lemmas.List.Folds.{list_any-append}
 use Rattle.toml.specs.Data.{Members}
-use Rattle.gx_history.specs.Lists.{are_distinct}
+use Rattle.gx_policy.specs.Lists.{are_distinct}
 use Rattle.gx_policyfile.specs.declared.fault.FaultKind.{FaultKind}
 use Rattle.gx_policyfile.specs.declared.fault.FaultKind.TheVariants.{DuplicateName, TooMany}
 use Rattle.gx_policyfile.specs.Place.{is_taken, next, each, place_of}

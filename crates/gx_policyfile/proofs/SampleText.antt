@@ -10,7 +10,7 @@ use Rattle.gx_policyfile.specs.Place.{is_taken}
 use Rattle.gx_policyfile.specs.Users.{user, role, powers}
 use Rattle.gx_policyfile.specs.Rules.{rule, rule_name, kind, kind_words}
 use Rattle.gx_policyfile.specs.Known.{with_account, with_stock, known_account, known_accounts, known_stocks, scope}
-use Rattle.gx_history.specs.RuleNames.{rules_before, rules_behind}
+use Rattle.gx_policy.specs.RuleNames.{rules_before, rules_behind}
 
 pub sample_is_read : means SAMPLE.now ≡ Ok sample
 unfolding toml_on_literals is_utf8 chars account stock accounts stocks users rules policy tree means version is_taken user role powers rule rule_name kind kind_words with_account with_stock known_account known_accounts known_stocks scope rules_before rules_behind sample

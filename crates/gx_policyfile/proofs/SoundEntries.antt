@@ -2,13 +2,13 @@
 use Rattle.std.proofs.Common.{◌≡◌, true, [], codes, Ok, refl}
 use Rattle.toml.specs.Data.{Members, get_member}
 use Rattle.gx_units.specs.Names.{same_account}
-use Rattle.gx_history.specs.declared.policy.PolicyData.{PolicyData}
-use Rattle.gx_history.specs.declared.policy.Account.{Account}
-use Rattle.gx_history.specs.declared.policy.Stock.{Stock}
-use Rattle.gx_history.specs.declared.policy.User.{User}
-use Rattle.gx_history.specs.declared.policy.Role.{Role}
-use Rattle.gx_history.specs.declared.policy.Role.TheVariants as roles
-use Rattle.gx_history.specs.Soundness.{is_account_sound, is_stock_sound, is_role_sound, is_user_sound, are_accounts}
+use Rattle.gx_policy.specs.declared.policy.PolicyData.{PolicyData}
+use Rattle.gx_policy.specs.declared.policy.Account.{Account}
+use Rattle.gx_policy.specs.declared.policy.Stock.{Stock}
+use Rattle.gx_policy.specs.declared.policy.User.{User}
+use Rattle.gx_policy.specs.declared.policy.Role.{Role}
+use Rattle.gx_policy.specs.declared.policy.Role.TheVariants as roles
+use Rattle.gx_policy.specs.Soundness.{is_account_sound, is_stock_sound, is_role_sound, is_user_sound, are_accounts}
 use Rattle.gx_policyfile.specs.declared.fault.Letters.TheVariants.{Plain, Visible}
 use Rattle.gx_policyfile.specs.declared.user.RoleWord.{RoleWord}
 use Rattle.gx_policyfile.specs.declared.user.RoleWord.TheVariants.{Trader, Officer, Reader}

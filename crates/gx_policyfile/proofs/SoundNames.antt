@@ -7,19 +7,19 @@ use Rattle.toml.specs.Data.{Data, Items, no_items, item, Members, get_member, as
 use Rattle.gx_units.specs.Names.{same_account, same_stock}
 use Rattle.gx_units.specs.declared.names.AccountName.{AccountName}
 use Rattle.gx_units.specs.declared.names.Symbol.{Symbol}
-use Rattle.gx_history.specs.Lists.{are_distinct}
-use Rattle.gx_history.specs.declared.policy.PolicyData.{PolicyData}
-use Rattle.gx_history.specs.declared.policy.Account.{Account}
-use Rattle.gx_history.specs.declared.policy.Stock.{Stock}
-use Rattle.gx_history.specs.declared.policy.Scope.{Scope}
-use Rattle.gx_history.specs.declared.policy.Scope.TheVariants as scopes
-use Rattle.gx_history.specs.Soundness.{are_accounts, are_stocks, is_scope}
+use Rattle.gx_policy.specs.Lists.{are_distinct}
+use Rattle.gx_policy.specs.declared.policy.PolicyData.{PolicyData}
+use Rattle.gx_policy.specs.declared.policy.Account.{Account}
+use Rattle.gx_policy.specs.declared.policy.Stock.{Stock}
+use Rattle.gx_policy.specs.declared.policy.Scope.{Scope}
+use Rattle.gx_policy.specs.declared.policy.Scope.TheVariants as scopes
+use Rattle.gx_policy.specs.Soundness.{are_accounts, are_stocks, is_scope}
 use Rattle.gx_policyfile.specs.declared.fault.FaultKind.{FaultKind}
 use Rattle.gx_policyfile.specs.declared.fault.FaultKind.TheVariants.{BadValue, UnknownName}
 use Rattle.gx_policyfile.specs.Field.{◌>>=◌, each_item}
 use Rattle.gx_policyfile.specs.Known.{is_account, is_stock, account_name, stock_name, with_account, with_stock, with_known_account, with_known_stock, listed_accounts, listed_stocks, known_account, known_accounts, known_stocks, scope}
 use Rattle.gx_policyfile.proofs.Parts.{bind_ok, passed, by_ok, and_both}
-use Rattle.gx_history.specs.People.{account_named, stock_named}
+use Rattle.gx_policy.specs.People.{account_named, stock_named}
 use Rattle.gx_policyfile.proofs.Placed.{all_push, distinct_push}
 
 pub find_some : {X : Type 0} (p : X → Bool) (xs : List X) → list_any p xs ≡ true → is_some (find p xs) ≡ true

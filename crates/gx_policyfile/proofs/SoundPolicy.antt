@@ -2,12 +2,12 @@
 use Rattle.std.proofs.Common.{◌≡◌, Bool, true, ◌&&◌, codes, Ok, refl}
 use Rattle.toml.specs.Data.{Members}
 use Rattle.gx_units.specs.Names.{same_account, same_stock, same_user, same_rule}
-use Rattle.gx_history.specs.declared.policy.PolicyData.{PolicyData}
-use Rattle.gx_history.specs.declared.policy.Account.{Account}
-use Rattle.gx_history.specs.declared.policy.Stock.{Stock}
-use Rattle.gx_history.specs.declared.policy.User.{User}
-use Rattle.gx_history.specs.declared.policy.FileRule.{FileRule}
-use Rattle.gx_history.specs.Soundness.{is_sound, is_account_sound, is_stock_sound, is_user_sound, is_rule_sound}
+use Rattle.gx_policy.specs.declared.policy.PolicyData.{PolicyData}
+use Rattle.gx_policy.specs.declared.policy.Account.{Account}
+use Rattle.gx_policy.specs.declared.policy.Stock.{Stock}
+use Rattle.gx_policy.specs.declared.policy.User.{User}
+use Rattle.gx_policy.specs.declared.policy.FileRule.{FileRule}
+use Rattle.gx_policy.specs.Soundness.{is_sound, is_account_sound, is_stock_sound, is_user_sound, is_rule_sound}
 use Rattle.gx_policyfile.specs.declared.fault.Letters.TheVariants.{Visible}
 use Rattle.gx_policyfile.specs.Users.{user}
 use Rattle.gx_policyfile.specs.Rules.{rule}

@@ -4,12 +4,12 @@ use Rattle.std.proofs.lemmas.Bool.{and_parts}
 use Rattle.toml.specs.Data.{Data, Members}
 use Rattle.gx_units.specs.declared.names.Symbol.{Symbol}
 use Rattle.gx_units.specs.declared.names.RuleId.{RuleId}
-use Rattle.gx_history.specs.RuleNames.{is_built_in}
-use Rattle.gx_history.specs.declared.policy.PolicyData.{PolicyData}
-use Rattle.gx_history.specs.declared.policy.FileRule.{FileRule}
-use Rattle.gx_history.specs.declared.policy.RuleKind.{RuleKind}
-use Rattle.gx_history.specs.declared.policy.RuleKind.TheVariants as kinds
-use Rattle.gx_history.specs.Soundness.{is_name_letter, is_spelled, greatest, are_stocks, is_kind_sound, is_rule_sound}
+use Rattle.gx_policy.specs.RuleNames.{is_built_in}
+use Rattle.gx_policy.specs.declared.policy.PolicyData.{PolicyData}
+use Rattle.gx_policy.specs.declared.policy.FileRule.{FileRule}
+use Rattle.gx_policy.specs.declared.policy.RuleKind.{RuleKind}
+use Rattle.gx_policy.specs.declared.policy.RuleKind.TheVariants as kinds
+use Rattle.gx_policy.specs.Soundness.{is_name_letter, is_spelled, greatest, are_stocks, is_kind_sound, is_rule_sound}
 use Rattle.gx_policyfile.specs.declared.fault.FaultKind.TheVariants.{BadValue}
 use Rattle.gx_policyfile.specs.declared.fault.Letters.TheVariants.{Plain}
 use Rattle.gx_policyfile.specs.declared.rule.KindWord.{KindWord}

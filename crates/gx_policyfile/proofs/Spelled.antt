@@ -10,7 +10,7 @@ use Rattle.std.proofs.lemmas.List.{map-append, length-map}
 use Rattle.std.proofs.lemmas.List.Folds.{list_all-map}
 use Rattle.toml.specs.Data.{Data, Members, as_str, as_integer}
 use Rattle.gx_units.specs.Spelling.{is_blank, padded}
-use Rattle.gx_history.specs.Soundness.{is_among, is_padded, is_spelled, is_visible, is_folded}
+use Rattle.gx_policy.specs.Soundness.{is_among, is_padded, is_spelled, is_visible, is_folded}
 use Rattle.gx_policyfile.specs.declared.fault.FaultKind.TheVariants.{BadValue}
 use Rattle.gx_policyfile.specs.declared.fault.Letters.{Letters}
 use Rattle.gx_policyfile.specs.declared.fault.Letters.TheVariants.{Visible}

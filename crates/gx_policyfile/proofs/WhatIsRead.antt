@@ -6,13 +6,13 @@ use Rattle.std.proofs.lemmas.Bool.{and_parts}
 use Rattle.toml.specs.Data.{Data, Members, get_member, as_str}
 use Rattle.gx_units.specs.Names.{same_account, same_stock, same_user, same_rule}
 use Rattle.gx_units.specs.Spelling.{padded, folded_user}
-use Rattle.gx_history.specs.declared.policy.PolicyData.{PolicyData}
-use Rattle.gx_history.specs.declared.policy.Account.{Account}
-use Rattle.gx_history.specs.declared.policy.Stock.{Stock}
-use Rattle.gx_history.specs.declared.policy.User.{User}
-use Rattle.gx_history.specs.declared.policy.FileRule.{FileRule}
-use Rattle.gx_history.specs.RuleNames.{is_built_in}
-use Rattle.gx_history.specs.Soundness.{is_sound, names_differ, is_within_limits}
+use Rattle.gx_policy.specs.declared.policy.PolicyData.{PolicyData}
+use Rattle.gx_policy.specs.declared.policy.Account.{Account}
+use Rattle.gx_policy.specs.declared.policy.Stock.{Stock}
+use Rattle.gx_policy.specs.declared.policy.User.{User}
+use Rattle.gx_policy.specs.declared.policy.FileRule.{FileRule}
+use Rattle.gx_policy.specs.RuleNames.{is_built_in}
+use Rattle.gx_policy.specs.Soundness.{is_sound, names_differ, is_within_limits}
 use Rattle.gx_policyfile.specs.declared.fault.FaultKind.{FaultKind}
 use Rattle.gx_policyfile.specs.declared.fault.FaultKind.TheVariants.{MissingKey, BadValue}
 use Rattle.gx_policyfile.specs.declared.fault.Letters.{Letters}

@@ -4,7 +4,7 @@ use Rattle.std.specs.List.{list_all, list_any}
 use Rattle.std.specs.Option.{ok_or, option_map_or, option_and_then}
 use Rattle.toml.specs.Data.{Data, Items, no_items, item, Members, no_members, member, get_member, as_integer, as_str}
 use Rattle.gx_units.specs.Spelling.{padded}
-use Rattle.gx_history.specs.Soundness.{is_among, is_name_letter, is_visible}
+use Rattle.gx_policy.specs.Soundness.{is_among, is_name_letter, is_visible}
 use Rattle.gx_policyfile.specs.declared.fault.FaultKind.{FaultKind}
 use Rattle.gx_policyfile.specs.declared.fault.FaultKind.TheVariants.{MissingKey, UnknownKey, BadValue, OutOfMemory}
 use Rattle.gx_policyfile.specs.declared.fault.PolicyFault.{PolicyFault}

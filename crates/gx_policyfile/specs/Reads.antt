@@ -4,11 +4,11 @@ use Rattle.std.specs.List.{list_all}
 use Rattle.std.specs.Option.{option_and_then, option_map_or}
 use Rattle.toml.specs.Data.{Items, no_items, item, Members, get_member, as_array, as_table, as_str}
 use Rattle.gx_units.specs.Spelling.{padded, folded_user}
-use Rattle.gx_history.specs.declared.policy.PolicyData.{PolicyData}
-use Rattle.gx_history.specs.declared.policy.Account.{Account}
-use Rattle.gx_history.specs.declared.policy.Stock.{Stock}
-use Rattle.gx_history.specs.declared.policy.User.{User}
-use Rattle.gx_history.specs.declared.policy.FileRule.{FileRule}
+use Rattle.gx_policy.specs.declared.policy.PolicyData.{PolicyData}
+use Rattle.gx_policy.specs.declared.policy.Account.{Account}
+use Rattle.gx_policy.specs.declared.policy.Stock.{Stock}
+use Rattle.gx_policy.specs.declared.policy.User.{User}
+use Rattle.gx_policy.specs.declared.policy.FileRule.{FileRule}
 use Rattle.gx_policyfile.specs.Field.{has_only}
 use Rattle.gx_policyfile.specs.Users.{keys_of_user}
 use Rattle.gx_policyfile.specs.Rules.{keys_of_rule}

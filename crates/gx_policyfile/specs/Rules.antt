@@ -3,15 +3,15 @@ use Rattle.std.specs.Prelude.{ℕ, List, [], ◌∷◌, ◌++◌, codes, Option,
 use Rattle.toml.specs.Data.{Data, Members}
 use Rattle.gx_units.specs.declared.names.RuleId.{RuleId}
 use Rattle.gx_units.specs.declared.names.Symbol.{Symbol}
-use Rattle.gx_history.specs.RuleNames.{is_built_in}
-use Rattle.gx_history.specs.Soundness.{greatest}
-use Rattle.gx_history.specs.declared.policy.Account.{Account}
-use Rattle.gx_history.specs.declared.policy.Stock.{Stock}
-use Rattle.gx_history.specs.declared.policy.Count.{Count}
-use Rattle.gx_history.specs.declared.policy.Count.TheVariants.{Each, Together}
-use Rattle.gx_history.specs.declared.policy.RuleKind.{RuleKind}
-use Rattle.gx_history.specs.declared.policy.RuleKind.TheVariants as kinds
-use Rattle.gx_history.specs.declared.policy.FileRule.{FileRule}
+use Rattle.gx_policy.specs.RuleNames.{is_built_in}
+use Rattle.gx_policy.specs.Soundness.{greatest}
+use Rattle.gx_policy.specs.declared.policy.Account.{Account}
+use Rattle.gx_policy.specs.declared.policy.Stock.{Stock}
+use Rattle.gx_policy.specs.declared.policy.Count.{Count}
+use Rattle.gx_policy.specs.declared.policy.Count.TheVariants.{Each, Together}
+use Rattle.gx_policy.specs.declared.policy.RuleKind.{RuleKind}
+use Rattle.gx_policy.specs.declared.policy.RuleKind.TheVariants as kinds
+use Rattle.gx_policy.specs.declared.policy.FileRule.{FileRule}
 use Rattle.gx_policyfile.specs.declared.fault.FaultKind.{FaultKind}
 use Rattle.gx_policyfile.specs.declared.fault.FaultKind.TheVariants.{BadValue}
 use Rattle.gx_policyfile.specs.declared.fault.Letters.TheVariants.{Plain}

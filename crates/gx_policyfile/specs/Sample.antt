@@ -1,14 +1,14 @@
 -- The sample policy.
 use Rattle.std.specs.Prelude.{ℕ, true, false, List, [], ◌∷◌, codes}
 use Rattle.gx_units.specs.declared.names.AccountName.{AccountName}
-use Rattle.gx_history.specs.declared.policy.PolicyData.{PolicyData}
-use Rattle.gx_history.specs.declared.policy.Lifters.TheVariants as lifting
-use Rattle.gx_history.specs.declared.policy.User.{User}
-use Rattle.gx_history.specs.declared.policy.Role.{Role}
-use Rattle.gx_history.specs.declared.policy.Role.TheVariants as roles
-use Rattle.gx_history.specs.declared.policy.Scope.TheVariants as scopes
-use Rattle.gx_history.specs.declared.policy.Count.TheVariants as counts
-use Rattle.gx_history.specs.declared.policy.RuleKind.TheVariants as kinds
+use Rattle.gx_policy.specs.declared.policy.PolicyData.{PolicyData}
+use Rattle.gx_policy.specs.declared.policy.Lifters.TheVariants as lifting
+use Rattle.gx_policy.specs.declared.policy.User.{User}
+use Rattle.gx_policy.specs.declared.policy.Role.{Role}
+use Rattle.gx_policy.specs.declared.policy.Role.TheVariants as roles
+use Rattle.gx_policy.specs.declared.policy.Scope.TheVariants as scopes
+use Rattle.gx_policy.specs.declared.policy.Count.TheVariants as counts
+use Rattle.gx_policy.specs.declared.policy.RuleKind.TheVariants as kinds
 
 -- the first account
 abbrev pub alfa : AccountName

@@ -3,11 +3,11 @@ use Rattle.std.specs.Prelude.{ℕ, true, false, List, [], ◌∷◌, codes, Opti
 use Rattle.std.specs.Option.{ok_or}
 use Rattle.toml.specs.Data.{Data, Members, as_array}
 use Rattle.gx_units.specs.Spelling.{folded_user, folded_password}
-use Rattle.gx_history.specs.declared.policy.Account.{Account}
-use Rattle.gx_history.specs.declared.policy.Powers.{Powers}
-use Rattle.gx_history.specs.declared.policy.Role.{Role}
-use Rattle.gx_history.specs.declared.policy.Role.TheVariants as roles
-use Rattle.gx_history.specs.declared.policy.User.{User}
+use Rattle.gx_policy.specs.declared.policy.Account.{Account}
+use Rattle.gx_policy.specs.declared.policy.Powers.{Powers}
+use Rattle.gx_policy.specs.declared.policy.Role.{Role}
+use Rattle.gx_policy.specs.declared.policy.Role.TheVariants as roles
+use Rattle.gx_policy.specs.declared.policy.User.{User}
 use Rattle.gx_policyfile.specs.declared.fault.FaultKind.{FaultKind}
 use Rattle.gx_policyfile.specs.declared.fault.FaultKind.TheVariants.{BadValue}
 use Rattle.gx_policyfile.specs.declared.fault.Letters.TheVariants.{Visible}

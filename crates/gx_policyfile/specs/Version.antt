@@ -1,8 +1,8 @@
 -- The version of a policy file, and what hangs on it.
 use Rattle.std.specs.Prelude.{ℕ, List, [], ◌∷◌, ◌==◌, codes, Result, Ok, Err, if◌then◌else◌}
 use Rattle.toml.specs.Data.{Members}
-use Rattle.gx_history.specs.declared.policy.Lifters.{Lifters}
-use Rattle.gx_history.specs.declared.policy.Lifters.TheVariants as lifting
+use Rattle.gx_policy.specs.declared.policy.Lifters.{Lifters}
+use Rattle.gx_policy.specs.declared.policy.Lifters.TheVariants as lifting
 use Rattle.gx_policyfile.specs.declared.fault.FaultKind.{FaultKind}
 use Rattle.gx_policyfile.specs.declared.version.FileVersion.{FileVersion}
 use Rattle.gx_policyfile.specs.declared.version.FileVersion.TheVariants.{One, Two}

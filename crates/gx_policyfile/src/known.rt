@@ -10,7 +10,7 @@ ghost use Rattle.gx_policyfile.specs.Known.{is_account, is_stock, account_name, 
 
 use crate::fault::{Allowed, FaultKind, Letters, PolicyFault};
 use crate::field;
-use gx_history::policy::{Account, AccountNames, Scope, Stock};
+use gx_policy::{Account, AccountNames, Scope, Stock};
 use gx_units::{AccountName, Symbol};
 use std::alloc::Global;
 use toml::{Table, Value};

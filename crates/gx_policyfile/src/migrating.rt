@@ -10,7 +10,7 @@ ghost use Rattle.gx_policyfile.specs.Migrating.{say_the_same, lift_alike};
 use crate::fault::PolicyFault;
 use crate::reading::{accepted, tree};
 use crate::version::{lifters, number, version};
-use gx_history::policy::Lifters;
+use gx_policy::Lifters;
 use gx_policytext::{is_same_at, printed};
 use std::alloc::Global;
 use toml::Table;

@@ -8,7 +8,7 @@ ghost use Rattle.gx_policyfile.specs.Place.{tables_at, table, is_taken, next, ea
 use crate::fault::{Allowed, EntryPlace, FaultKind, PolicyFault};
 use crate::field;
 use crate::version::FileVersion;
-use gx_history::policy::{Account, Stock};
+use gx_policy::{Account, Stock};
 use std::alloc::{AllocError, Global};
 use toml::{Table, Value};
 
@@ -22,8 +22,8 @@ const ANOTHER_NAME: Allowed = Allowed::Words("a name that no entry before it has
 pub trait Entry: Drop + Sized {
     ghost use Rattle.std.specs.Prelude.{Bool, Result, List};
     ghost use Rattle.toml.specs.Data.{Members};
-    ghost use Rattle.gx_history.specs.declared.policy.Account.{Account};
-    ghost use Rattle.gx_history.specs.declared.policy.Stock.{Stock};
+    ghost use Rattle.gx_policy.specs.declared.policy.Account.{Account};
+    ghost use Rattle.gx_policy.specs.declared.policy.Stock.{Stock};
     ghost use Rattle.gx_policyfile.specs.declared.fault.FaultKind.{FaultKind};
     ghost use Rattle.gx_policyfile.specs.declared.version.FileVersion.{FileVersion};
 

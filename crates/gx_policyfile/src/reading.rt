@@ -2,7 +2,7 @@
 
 ghost use Rattle.std.specs.Prelude.{◌≡◌, ◌≢◌, false, Ok, Err, OnOk, IfOk, IfErr, IsOk, IsTrue, map};
 ghost use Rattle.toml.specs.View.{table_view};
-ghost use Rattle.gx_history.specs.Soundness.{is_sound};
+ghost use Rattle.gx_policy.specs.Soundness.{is_sound};
 ghost use Rattle.gx_policyfile.specs.declared.fault.FaultKind.TheVariants.{NotToml, OutOfMemory};
 ghost use Rattle.gx_policyfile.specs.Field.{Gives, is_memory};
 ghost use Rattle.gx_policyfile.specs.Policies.{of_entries, of_places, policy, tree, means, version_of};
@@ -15,7 +15,7 @@ use crate::rule::rules;
 use crate::stock::stocks;
 use crate::user::users;
 use crate::version::{FileVersion, lifters, number, top_keys, version};
-use gx_history::policy::{Accounts, FileRules, Lifters, Policy, PolicyData, Stocks, Users};
+use gx_policy::{Accounts, FileRules, Lifters, Policy, PolicyData, Stocks, Users};
 use gx_units::SessionName;
 use std::alloc::Global;
 use toml::Table;

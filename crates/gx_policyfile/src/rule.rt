@@ -4,7 +4,7 @@ ghost use Rattle.std.specs.Prelude.{◌≡◌, map, codes, ok_or, bytes_eq};
 ghost use Rattle.std.specs.List.{list_any};
 ghost use Rattle.toml.specs.View.{view, table_view};
 ghost use Rattle.gx_units.specs.Names.{same_rule};
-ghost use Rattle.gx_history.specs.RuleNames.{is_built_in};
+ghost use Rattle.gx_policy.specs.RuleNames.{is_built_in};
 ghost use Rattle.gx_policyfile.specs.declared.fault.FaultKind.TheVariants.{BadValue};
 ghost use Rattle.gx_policyfile.specs.Field.{Gives, seen, choice_at, word_at};
 ghost use Rattle.gx_policyfile.specs.Rules.{kind_words, rule_keys, rule_name, limit, count, listed, kind, rule};
@@ -15,7 +15,7 @@ use crate::field;
 use crate::known::{STOCKS, known_stocks, scope};
 use crate::place::{Entry, entries};
 use crate::version::FileVersion;
-use gx_history::policy::{Account, Count, FileRule, Rate, Repeat, RuleKind, Stock, Symbols};
+use gx_policy::{Account, Count, FileRule, Rate, Repeat, RuleKind, Stock, Symbols};
 use gx_units::RuleId;
 use std::alloc::Global;
 use toml::{Table, Value};
@@ -167,7 +167,7 @@ fn is_listed(names: &[[u8; 8]], name: [u8; 8]) -> bool
     names.iter().any(|rule| *rule == name)
 }
 
-#[tactic(auto, unfolding(gx_history::specs::RuleNames::rules_before, gx_history::specs::RuleNames::rules_behind))]
+#[tactic(auto, unfolding(gx_policy::specs::RuleNames::rules_before, gx_policy::specs::RuleNames::rules_behind))]
 fn is_built_in(name: &RuleId) -> bool
     ensures { result ≡ is_built_in name.now }
 {

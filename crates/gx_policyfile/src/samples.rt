@@ -7,7 +7,7 @@ ghost use Rattle.gx_policyfile.specs.Sample as specs;
 
 use crate::fault::PolicyFault;
 use crate::reading::read_policy;
-use gx_history::policy::Policy;
+use gx_policy::Policy;
 use std::alloc::Global;
 
 /// The text of the sample policy.

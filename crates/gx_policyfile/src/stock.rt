@@ -10,7 +10,7 @@ use crate::fault::{Letters, PolicyFault};
 use crate::field;
 use crate::place::{Entry, entries};
 use crate::version::FileVersion;
-use gx_history::policy::{Account, Stock};
+use gx_policy::{Account, Stock};
 use gx_units::Symbol;
 use std::alloc::Global;
 use toml::Table;

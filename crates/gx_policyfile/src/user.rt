@@ -14,7 +14,7 @@ use crate::field;
 use crate::known::{AN_ACCOUNT, known_account, known_accounts, scope};
 use crate::place::{Entry, entries};
 use crate::version::FileVersion;
-use gx_history::policy::{Account, AccountNames, Powers, Role, Stock, User};
+use gx_policy::{Account, AccountNames, Powers, Role, Stock, User};
 use gx_units::{AccountName, Password, UserName};
 use std::alloc::Global;
 use toml::{Table, Value};

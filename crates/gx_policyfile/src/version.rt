@@ -7,7 +7,7 @@ ghost use Rattle.gx_policyfile.specs.Version.{number, version, top_keys, lifters
 
 use crate::fault::PolicyFault;
 use crate::field;
-use gx_history::policy::Lifters;
+use gx_policy::Lifters;
 use toml::Table;
 
 /// The version of a policy file.

@@ -13,7 +13,7 @@ use Rattle.gx_ouch.specs.declared.inbound.ReplaceOrder.{ReplaceOrder}
 use Rattle.gx_ouch.specs.declared.letters.Liquidity.{Liquidity}
 use Rattle.gx_ouch.specs.declared.letters.Liquidity.TheVariants as liquidities
 use Rattle.gx_desk.specs.declared.Command.{Command}
-use Rattle.gx_history.specs.declared.policy.PolicyData.{PolicyData}
+use Rattle.gx_policy.specs.declared.policy.PolicyData.{PolicyData}
 use Rattle.gx_history.specs.declared.record.Asked.{Asked}
 use Rattle.gx_history.specs.declared.record.Fill.{Fill}
 use Rattle.gx_history.specs.declared.record.RecordData.{RecordData}
@@ -27,7 +27,7 @@ use Rattle.gx_history.specs.Effects.{CutsOrder, ReplacesOrder, TakesEffect, repl
 use Rattle.gx_history.specs.Executions.{Execution, Standing, done, executions, is_live, live_orders, sides, standing, standings, standing_numbered, standing_under}
 use Rattle.gx_history.specs.Matched.{IsFair}
 use Rattle.gx_history.specs.Orders.{Order, orders}
-use Rattle.gx_history.specs.People.{stock_named}
+use Rattle.gx_policy.specs.People.{stock_named}
 use Rattle.gx_history.specs.Requests.{granted, is_judged}
 use Rattle.gx_history.specs.Verdicts.{IsGrantedKillOrLogout, IsKillOrLogout, IsLegal, last_moment, next}
 use Rattle.gx_history_laws.proofs.Entering.{entered_has_shares}

@@ -1,7 +1,7 @@
 -- A day begins with nothing, and goes on by one change a record.
 use Rattle.std.proofs.Common.{◌≡◌, List, [], ◌∷◌, ◌++◌, ap, map}
 use Rattle.std.specs.List.{filter}
-use Rattle.gx_history.specs.declared.policy.PolicyData.{PolicyData}
+use Rattle.gx_policy.specs.declared.policy.PolicyData.{PolicyData}
 use Rattle.gx_history.specs.Executions.{executions, is_live, live_orders, standing, standings}
 use Rattle.gx_history.specs.Orders.{Order}
 use Rattle.gx_history_laws.proofs.NextOrders.{executions_none, orders_none}

@@ -8,16 +8,16 @@ use Rattle.gx_ouch.specs.declared.inbound.EnterOrder.{EnterOrder}
 use Rattle.gx_ouch.specs.declared.inbound.ReplaceOrder.{ReplaceOrder}
 use Rattle.gx_history.specs.declared.live_order.LiveOrder.{LiveOrder}
 use Rattle.gx_history.specs.declared.facts.ProposedOrder.{ProposedOrder}
-use Rattle.gx_history.specs.declared.policy.PolicyData.{PolicyData}
+use Rattle.gx_policy.specs.declared.policy.PolicyData.{PolicyData}
 use Rattle.gx_history.specs.declared.record.Asked.{Asked}
 use Rattle.gx_history.specs.declared.record.RecordData.{RecordData}
 use Rattle.gx_history.specs.declared.record.Request.TheVariants as requests
-use Rattle.gx_history.specs.declared.record.RuleName.{RuleName}
-use Rattle.gx_history.specs.declared.record.RuleName.TheVariants.{L1, L2, L3, G1, G2, G3, I1, I2, I3, P1, P2, P3, P4, P5, P6}
+use Rattle.gx_policy.specs.declared.rule_name.RuleName.{RuleName}
+use Rattle.gx_policy.specs.declared.rule_name.RuleName.TheVariants.{L1, L2, L3, G1, G2, G3, I1, I2, I3, P1, P2, P3, P4, P5, P6}
 use Rattle.gx_history.specs.declared.record.Step.TheVariants as steps
 use Rattle.gx_history.specs.declared.record.Verdict.TheVariants as verdicts
 use Rattle.gx_history.specs.Executions.{Standing, live_orders, standing_under}
-use Rattle.gx_history.specs.RuleNames.{rules_before}
+use Rattle.gx_policy.specs.RuleNames.{rules_before}
 use Rattle.gx_history.specs.Rules.{forbids}
 use Rattle.gx_history.specs.Verdicts.{facts_now, next}
 use Rattle.gx_history.specs.LiveOrders.{kept}

@@ -5,12 +5,12 @@ use Rattle.std.specs.List.{AllByRecursion, IsDistinct}
 use Rattle.std.proofs.lemmas.Bool.{ne_eqb}
 use Rattle.std.proofs.lemmas.List.{length-map}
 use Rattle.gx_units.specs.Money.{value}
-use Rattle.gx_history.specs.declared.policy.PolicyData.{PolicyData}
+use Rattle.gx_policy.specs.declared.policy.PolicyData.{PolicyData}
 use Rattle.gx_history.specs.declared.record.RecordData.{RecordData}
 use Rattle.gx_history.specs.Executions.{Execution, Standing, executions, is_live, live_orders, standing, standings}
 use Rattle.gx_history.specs.Figures.{done_of_chosen, done_value, live_value, open_of_chosen, open_value}
 use Rattle.gx_history.specs.Orders.{Order, orders}
-use Rattle.gx_history.specs.People.{stock_named}
+use Rattle.gx_policy.specs.People.{stock_named}
 use Rattle.gx_history.specs.Verdicts.{day_limit, IsLegal}
 use Rattle.gx_history_laws.proofs.Adding.{all_pass}
 use Rattle.gx_history_laws.proofs.Listed.{orders_are_listed}

@@ -3,12 +3,12 @@ use Rattle.std.specs.Prelude.{ℕ, ◌≡◌, ◌≤◌, ◌<◌, ◌^◌, Bool,
 use Rattle.std.specs.List.{AllByRecursion, IsDistinct}
 use Rattle.gx_units.specs.Names.{same_stock}
 use Rattle.gx_units.specs.declared.names.AccountName.{AccountName}
-use Rattle.gx_history.specs.declared.policy.PolicyData.{PolicyData}
+use Rattle.gx_policy.specs.declared.policy.PolicyData.{PolicyData}
 use Rattle.gx_history.specs.declared.record.Fill.{Fill}
 use Rattle.gx_history.specs.Executions.{Standing, is_live, standing_numbered}
 use Rattle.gx_history.specs.Figures.{Positions, live_shares, live_value, done_shares, done_value}
 use Rattle.gx_history.specs.Orders.{Order}
-use Rattle.gx_history.specs.People.{stock_named}
+use Rattle.gx_policy.specs.People.{stock_named}
 use Rattle.gx_effects.specs.OneMore.{Change, Adds, EndsAll, Fills, Leaves, Nothing, Replaces, Rests}
 
 -- any account

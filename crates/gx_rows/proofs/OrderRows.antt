@@ -7,7 +7,7 @@ use Rattle.gx_history.specs.Figures.{figures, open_of_chosen, live_value, done_o
 use Rattle.gx_history.specs.InForce.{kill_in_force, is_closed, rules_in_force, is_entitled, line_of}
 use Rattle.gx_history.specs.Matching.{matching}
 use Rattle.gx_history.specs.Orders.{orders, total, is_dead, is_token_used}
-use Rattle.gx_history.specs.RuleNames.{rules_before, rules_behind}
+use Rattle.gx_policy.specs.RuleNames.{rules_before, rules_behind}
 use Rattle.gx_history.specs.Rules.{first_forbidding, written_order}
 use Rattle.gx_history.specs.Streams.{stream}
 use Rattle.gx_history.specs.Verdicts.{run, verdict, next, step_verdict}

@@ -1,7 +1,7 @@
 -- Runs on the sample policy with commands of officers.
 use Rattle.std.specs.Prelude.{◌≡◌, List, [], ◌∷◌, codes}
 use Rattle.gx_desk.specs.declared.Action.TheVariants as actions
-use Rattle.gx_history.specs.declared.record.RuleName.TheVariants as names
+use Rattle.gx_policy.specs.declared.rule_name.RuleName.TheVariants as names
 use Rattle.gx_history.specs.declared.record.Step.{Step}
 use Rattle.gx_history.specs.declared.record.Verdict.TheVariants as verdicts
 use Rattle.gx_history.specs.Verdicts.{run}

@@ -17,7 +17,7 @@ use Rattle.gx_history.specs.declared.record.Step.{Step}
 use Rattle.gx_history.specs.declared.report.Message.TheVariants as messages
 use Rattle.gx_history.specs.declared.report.Report.{Report}
 use Rattle.gx_history.specs.Showing.{is_showable}
-use Rattle.gx_history.specs.Soundness.{is_sound}
+use Rattle.gx_policy.specs.Soundness.{is_sound}
 use Rattle.gx_history.specs.Streams.{stream}
 use Rattle.gx_history.specs.Verdicts.{run}
 use Rattle.gx_rows.specs.Sample.{sample, alfa, alice, token, test_stock}

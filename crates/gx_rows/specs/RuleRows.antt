@@ -1,7 +1,7 @@
 -- Runs under rules of the file.
 use Rattle.std.specs.Prelude.{◌≡◌, true, List, [], ◌∷◌, codes}
-use Rattle.gx_history.specs.declared.policy.Count.TheVariants as counts
-use Rattle.gx_history.specs.declared.policy.RuleKind.TheVariants as kinds
+use Rattle.gx_policy.specs.declared.policy.Count.TheVariants as counts
+use Rattle.gx_policy.specs.declared.policy.RuleKind.TheVariants as kinds
 use Rattle.gx_history.specs.declared.record.Request.TheVariants as requests
 use Rattle.gx_history.specs.declared.record.Step.{Step}
 use Rattle.gx_history.specs.declared.record.Verdict.TheVariants as verdicts

@@ -1,8 +1,8 @@
 -- Stocks that are kept apart from their kind.
 use Rattle.std.proofs.Common.{◌≡◌, List, refl}
 use Rattle.gx_units.specs.declared.names.Symbol.{Symbol}
-use Rattle.gx_history.specs.declared.policy.RuleKind.{RuleKind}
-use Rattle.gx_history.specs.declared.policy.RuleKind.TheVariants as kinds
+use Rattle.gx_policy.specs.declared.policy.RuleKind.{RuleKind}
+use Rattle.gx_policy.specs.declared.policy.RuleKind.TheVariants as kinds
 use Rattle.gx_history.specs.InForce.{with_stocks}
 
 -- a change of the stocks is a change of the kind's list

@@ -7,12 +7,12 @@ use Rattle.std.proofs.lemmas.List.Folds.{list_any-append}
 use Rattle.gx_units.specs.Names.{same_rule, same_stock}
 use Rattle.gx_units.specs.declared.names.RuleId.{RuleId}
 use Rattle.gx_units.specs.declared.names.Symbol.{Symbol}
-use Rattle.gx_history.specs.declared.policy.FileRule.{FileRule}
-use Rattle.gx_history.specs.declared.policy.RuleKind.{RuleKind}
-use Rattle.gx_history.specs.declared.policy.RuleKind.TheVariants as kinds
+use Rattle.gx_policy.specs.declared.policy.FileRule.{FileRule}
+use Rattle.gx_policy.specs.declared.policy.RuleKind.{RuleKind}
+use Rattle.gx_policy.specs.declared.policy.RuleKind.TheVariants as kinds
 use Rattle.gx_history.specs.Asking.{knows_stocks}
 use Rattle.gx_history.specs.InForce.{adding, change_rule, limit_of, lists_stock, removing, stocks_of, with_limit, with_stocks}
-use Rattle.gx_history.specs.People.{rule_in}
+use Rattle.gx_policy.specs.People.{rule_in}
 use Rattle.gx_rules.specs.Laws.{names_of, scopes_of}
 use Rattle.gx_rules.specs.Settings.{limit_in, lists_in, restricted, unrestricted, with_limit_of}
 

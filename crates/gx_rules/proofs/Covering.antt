@@ -14,12 +14,12 @@ use Rattle.gx_units.specs.declared.names.RuleId.{RuleId}
 use Rattle.gx_history.specs.declared.facts.Facts.{Facts}
 use Rattle.gx_history.specs.declared.facts.ProposedOrder.{ProposedOrder}
 use Rattle.gx_history.specs.declared.facts.RuleFigures.{RuleFigures}
-use Rattle.gx_history.specs.declared.policy.Account.{Account}
-use Rattle.gx_history.specs.declared.policy.FileRule.{FileRule}
+use Rattle.gx_policy.specs.declared.policy.Account.{Account}
+use Rattle.gx_policy.specs.declared.policy.FileRule.{FileRule}
 use Rattle.gx_history.specs.declared.record.Request.{Request}
-use Rattle.gx_history.specs.declared.record.RuleName.{RuleName}
-use Rattle.gx_history.specs.declared.record.RuleName.TheVariants.{File}
-use Rattle.gx_history.specs.People.{covers}
+use Rattle.gx_policy.specs.declared.rule_name.RuleName.{RuleName}
+use Rattle.gx_policy.specs.declared.rule_name.RuleName.TheVariants.{File}
+use Rattle.gx_policy.specs.People.{covers}
 use Rattle.gx_history.specs.Rules.{figured, figured_from, first_file_rule, kind_forbids, of_proposed, proposed, rule_forbids}
 use Rattle.gx_rules.specs.declared.book_rule.BookRule.{BookRule}
 use Rattle.gx_rules.specs.Books.{kind_of, rule_named, rules_of}

@@ -8,9 +8,9 @@ use Rattle.indexmap.specs.IndexSet.{insert_key, remove_key}
 use Rattle.gx_units.specs.Names.{same_rule, same_stock}
 use Rattle.gx_units.specs.declared.names.RuleId.{RuleId}
 use Rattle.gx_units.specs.declared.names.Symbol.{Symbol}
-use Rattle.gx_history.specs.declared.policy.FileRule.{FileRule}
+use Rattle.gx_policy.specs.declared.policy.FileRule.{FileRule}
 use Rattle.gx_history.specs.InForce.{adding, lists_stock, removing}
-use Rattle.gx_history.specs.Lists.{are_distinct}
+use Rattle.gx_policy.specs.Lists.{are_distinct}
 use Rattle.gx_rules.specs.declared.book_rule.BookRule.{BookRule}
 use Rattle.gx_rules.specs.Books.{names_differ, rule_named, rules_of}
 

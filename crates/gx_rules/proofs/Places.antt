@@ -9,9 +9,9 @@ use Rattle.indexmap.specs.IndexMap.{set_value_at}
 use Rattle.indexmap.proofs.MapLemmas.{Found-position}
 use Rattle.gx_units.specs.Names.{same_rule}
 use Rattle.gx_units.specs.declared.names.RuleId.{RuleId}
-use Rattle.gx_history.specs.declared.policy.RuleKind.{RuleKind}
+use Rattle.gx_policy.specs.declared.policy.RuleKind.{RuleKind}
 use Rattle.gx_history.specs.InForce.{change_rule}
-use Rattle.gx_history.specs.People.{rule_in}
+use Rattle.gx_policy.specs.People.{rule_in}
 use Rattle.gx_rules.specs.declared.book_rule.BookRule.{BookRule}
 use Rattle.gx_rules.specs.Books.{kind_of, rule_named, rules_of}
 

@@ -5,13 +5,13 @@ use Rattle.std.proofs.lemmas.Bool.Decides.{nat_tests}
 use Rattle.std.proofs.lemmas.List.{length-map}
 use Rattle.std.specs.List.{list_all}
 use Rattle.gx_units.specs.Names.{same_stock}
-use Rattle.gx_history.specs.declared.policy.FileRule.{FileRule}
-use Rattle.gx_history.specs.declared.policy.PolicyData.{PolicyData}
-use Rattle.gx_history.specs.declared.policy.RuleKind.{RuleKind}
-use Rattle.gx_history.specs.declared.policy.RuleKind.TheVariants as kinds
+use Rattle.gx_policy.specs.declared.policy.FileRule.{FileRule}
+use Rattle.gx_policy.specs.declared.policy.PolicyData.{PolicyData}
+use Rattle.gx_policy.specs.declared.policy.RuleKind.{RuleKind}
+use Rattle.gx_policy.specs.declared.policy.RuleKind.TheVariants as kinds
 use Rattle.gx_history.specs.InForce.{stocks_of}
-use Rattle.gx_history.specs.Lists.{are_distinct}
-use Rattle.gx_history.specs.Soundness.{is_kind_sound, is_rule_sound, is_sound}
+use Rattle.gx_policy.specs.Lists.{are_distinct}
+use Rattle.gx_policy.specs.Soundness.{is_kind_sound, is_rule_sound, is_sound}
 use Rattle.gx_units.specs.declared.names.RuleId.{RuleId}
 use Rattle.gx_rules.specs.declared.book_rule.BookRule.{BookRule}
 use Rattle.gx_rules.specs.Books.{lists_once, names_differ, rule_named, rules_of}

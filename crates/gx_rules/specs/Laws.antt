@@ -5,14 +5,14 @@ use Rattle.gx_units.specs.Names.{same_rule, same_stock}
 use Rattle.gx_units.specs.declared.names.RuleId.{RuleId}
 use Rattle.gx_units.specs.declared.names.Symbol.{Symbol}
 use Rattle.gx_history.specs.declared.record.RecordData.{RecordData}
-use Rattle.gx_history.specs.declared.policy.FileRule.{FileRule}
-use Rattle.gx_history.specs.declared.policy.PolicyData.{PolicyData}
-use Rattle.gx_history.specs.declared.policy.RuleKind.{RuleKind}
-use Rattle.gx_history.specs.declared.policy.Scope.{Scope}
+use Rattle.gx_policy.specs.declared.policy.FileRule.{FileRule}
+use Rattle.gx_policy.specs.declared.policy.PolicyData.{PolicyData}
+use Rattle.gx_policy.specs.declared.policy.RuleKind.{RuleKind}
+use Rattle.gx_policy.specs.declared.policy.Scope.{Scope}
 use Rattle.gx_history.specs.Asking.{knows_stocks}
 use Rattle.gx_history.specs.InForce.{change_rule, changed, rules_in_force}
 use Rattle.gx_history.specs.Requests.{granted_action}
-use Rattle.gx_history.specs.People.{rule_in}
+use Rattle.gx_policy.specs.People.{rule_in}
 use Rattle.gx_rules.specs.Settings.{limit_in, lists_in, restricted, unrestricted, with_limit_of}
 
 -- one more record changes the rules by the command that it grants, if it grants one

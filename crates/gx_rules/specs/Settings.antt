@@ -4,9 +4,9 @@ use Rattle.std.specs.Option.{option_map_or}
 use Rattle.gx_units.specs.declared.names.AccountName.{AccountName}
 use Rattle.gx_units.specs.declared.names.RuleId.{RuleId}
 use Rattle.gx_units.specs.declared.names.Symbol.{Symbol}
-use Rattle.gx_history.specs.declared.policy.FileRule.{FileRule}
+use Rattle.gx_policy.specs.declared.policy.FileRule.{FileRule}
 use Rattle.gx_history.specs.Asking.{has_stock}
-use Rattle.gx_history.specs.People.{covers, rule_in}
+use Rattle.gx_policy.specs.People.{covers, rule_in}
 use Rattle.gx_history.specs.InForce.{limit_of, with_limit, with_stocks, adding, removing, change_rule}
 
 -- the rule's limit, if it has one that Set Limit may change

@@ -6,15 +6,15 @@ ghost use Rattle.std.specs.List.{list_any};
 ghost use Rattle.gx_units.specs.Names.{same_stock};
 ghost use Rattle.gx_history.specs.Asking.{has_stock};
 ghost use Rattle.gx_history.specs.InForce.{adding, limit_of, lists_stock, stocks_of, removing, with_limit, with_stocks};
-ghost use Rattle.gx_history.specs.Lists.{are_distinct};
+ghost use Rattle.gx_policy.specs.Lists.{are_distinct};
 ghost use Rattle.gx_history.specs.Rules.{kind_forbids, rule_forbids};
 ghost use Rattle.gx_rules.specs.Books.{kind_of, lists_once, rule_named};
 
 use crate::file_rule::{is_for_scope, is_forbidden_by_kind};
 use crate::request::proposed;
 use gx_history::facts::{Facts, NO_FIGURES, ProposedOrder, TellsFigures};
-use gx_history::policy::{FileRule, RuleKind, Scope, Symbols};
 use gx_history::record::Request;
+use gx_policy::{FileRule, RuleKind, Scope, Symbols};
 use gx_units::{OutOfMemory, RuleId, Symbol};
 use indexmap::IndexSet;
 use std::alloc::Global;

@@ -5,7 +5,8 @@ ghost use Rattle.gx_history.specs.Rules.{forbids};
 
 use crate::request::{is_command, is_login, is_order, names_order, proposed, takes_nothing};
 use gx_history::facts::Facts;
-use gx_history::record::{Request, RuleName};
+use gx_history::record::Request;
+use gx_policy::RuleName;
 use gx_units::Price;
 
 /// Whether the built-in rule of this name forbids the request. A rule of the file forbids nothing here:

@@ -4,11 +4,11 @@ ghost use Rattle.std.specs.Prelude.{◌≡◌, ◌+◌, ◌-◌, ◌+ℤ◌, ◌
 ghost use Rattle.std.specs.Option.{option_map_or};
 ghost use Rattle.gx_units.specs.Money.{value};
 ghost use Rattle.gx_history.specs.InForce.{lists_stock};
-ghost use Rattle.gx_history.specs.People.{covers};
+ghost use Rattle.gx_policy.specs.People.{covers};
 ghost use Rattle.gx_history.specs.Rules.{kind_forbids, is_outside_collar, new_open};
 
 use gx_history::facts::{Facts, ProposedOrder, RuleFigures};
-use gx_history::policy::{RuleKind, Scope};
+use gx_policy::{RuleKind, Scope};
 use gx_units::{Symbol, value_of};
 
 fn lists_stock(stocks: &[Symbol], stock: Symbol) -> bool

@@ -3,14 +3,15 @@
 
 ghost use Rattle.std.specs.Prelude.{◌≡◌, find};
 ghost use Rattle.gx_history.specs.declared.record.Request.TheVariants as requests;
-ghost use Rattle.gx_history.specs.RuleNames.{rules_before, rules_behind};
+ghost use Rattle.gx_policy.specs.RuleNames.{rules_before, rules_behind};
 ghost use Rattle.gx_history.specs.Rules.{forbids};
 
 use crate::built_in::is_forbidden;
 use crate::terms::{are_bad_shares, is_bad_display, is_bad_price, is_bad_side, is_bad_time};
 use gx_history::facts::Facts;
-use gx_history::record::{Request, RuleName};
+use gx_history::record::Request;
 use gx_ouch::{EnterOrder, ReplaceOrder};
+use gx_policy::RuleName;
 
 /// The built-in rules before those of the file.
 const RULES_BEFORE: [RuleName; 21] = [
@@ -52,7 +53,7 @@ fn first_of(names: &[RuleName], facts: &Facts, request: &Request) -> Option<Rule
         .find(|name| is_forbidden(*name, facts, request))
 }
 
-#[tactic(auto, unfolding(gx_history::specs::RuleNames::rules_before))]
+#[tactic(auto, unfolding(gx_policy::specs::RuleNames::rules_before))]
 fn first_of_enter(facts: &Facts, m: &EnterOrder) -> Option<RuleName>
     ensures { result
         ≡ find (λ name. forbids name facts.now (requests.Enter m.now)) rules_before }
@@ -102,7 +103,7 @@ fn first_of_enter(facts: &Facts, m: &EnterOrder) -> Option<RuleName>
     None
 }
 
-#[tactic(auto, unfolding(gx_history::specs::RuleNames::rules_before))]
+#[tactic(auto, unfolding(gx_policy::specs::RuleNames::rules_before))]
 fn first_of_replace(facts: &Facts, m: &ReplaceOrder) -> Option<RuleName>
     ensures { result
         ≡ find (λ name. forbids name facts.now (requests.Replace m.now)) rules_before }
@@ -147,7 +148,7 @@ fn first_of_replace(facts: &Facts, m: &ReplaceOrder) -> Option<RuleName>
 }
 
 /// The first of the built-in rules before those of the file that forbids.
-#[tactic(auto, unfolding(gx_history::specs::RuleNames::rules_before))]
+#[tactic(auto, unfolding(gx_policy::specs::RuleNames::rules_before))]
 pub fn first_before(facts: &Facts, request: &Request) -> Option<RuleName>
     ensures { result ≡ find (λ name. forbids name facts.now request.now) rules_before }
 {
@@ -160,7 +161,7 @@ pub fn first_before(facts: &Facts, request: &Request) -> Option<RuleName>
 }
 
 /// The first of the built-in rules behind those of the file that forbids: they are for commands.
-#[tactic(auto, unfolding(gx_history::specs::RuleNames::rules_behind))]
+#[tactic(auto, unfolding(gx_policy::specs::RuleNames::rules_behind))]
 pub fn first_behind(facts: &Facts, request: &Request) -> Option<RuleName>
     ensures { result ≡ find (λ name. forbids name facts.now request.now) rules_behind }
 {

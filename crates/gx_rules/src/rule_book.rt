@@ -5,7 +5,7 @@ ghost use Rattle.std.specs.List.{list_all, list_any};
 ghost use Rattle.std.specs.Map.{lookup};
 ghost use Rattle.gx_units.specs.Names.{same_account};
 ghost use Rattle.gx_history.specs.Asking.{knows_stocks};
-ghost use Rattle.gx_history.specs.People.{rule_in};
+ghost use Rattle.gx_policy.specs.People.{rule_in};
 ghost use Rattle.gx_history.specs.Rules.{applies, figured, figured_from, first_forbidding, first_file_rule, written_order, IsFirstForbidding};
 ghost use Rattle.gx_rules.specs.Books.{lists_once, names_differ, rules_of};
 ghost use Rattle.gx_rules.specs.Places.{forbids_at, named_at, AreTied};
@@ -16,8 +16,8 @@ use crate::order::{first_before, first_behind};
 use crate::request::proposed;
 use crate::rule_places::{RulePlaces, places_by_account};
 use gx_history::facts::{Facts, ProposedOrder, TellsFigures};
-use gx_history::policy::{FileRule, Policy};
-use gx_history::record::{Request, RuleName};
+use gx_history::record::Request;
+use gx_policy::{FileRule, Policy, RuleName};
 use gx_units::{AccountName, OutOfMemory, RuleId, Symbol};
 use indexmap::IndexMap;
 use indexmap::map::Slice;
@@ -35,7 +35,7 @@ pub struct RuleBook {
 
 impl Model for RuleBook {
     ghost use Rattle.std.specs.Prelude.{List};
-    ghost use Rattle.gx_history.specs.declared.policy.FileRule.{FileRule};
+    ghost use Rattle.gx_policy.specs.declared.policy.FileRule.{FileRule};
     ghost use Rattle.gx_rules.specs.Books.{rules_of};
     ghost use Rattle.gx_rules.specs.Places.{AreTied};
 

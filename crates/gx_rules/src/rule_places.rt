@@ -3,7 +3,7 @@
 ghost use Rattle.std.specs.Prelude.{◌≡◌, ◌∷◌, ◌++◌, [], IfOk, OnOk, IsTrue, if◌then◌else◌};
 ghost use Rattle.gx_rules.specs.Places.{accounts_differ, covering, places_of};
 
-use gx_history::policy::{Account, FileRule};
+use gx_policy::{Account, FileRule};
 use gx_units::{AccountName, OutOfMemory};
 use indexmap::IndexMap;
 use std::alloc::Global;

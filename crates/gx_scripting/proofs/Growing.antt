@@ -5,7 +5,7 @@ use Rattle.std.specs.Option.{option_map_or}
 use Rattle.gx_history.specs.declared.record.Asked.{Asked}
 use Rattle.gx_history.specs.declared.record.RecordData.{RecordData}
 use Rattle.gx_history.specs.declared.record.Step.TheVariants as steps
-use Rattle.gx_history.specs.People.{user_in}
+use Rattle.gx_policy.specs.People.{user_in}
 use Rattle.gx_history.specs.Verdicts.{next, verdict}
 use Rattle.gx_effects.proofs.Settling.{settled_adds}
 use Rattle.gx_devices.specs.Stopping.{AreFirst}

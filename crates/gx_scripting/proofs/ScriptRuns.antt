@@ -9,7 +9,7 @@ use Rattle.gx_scripting.specs.declared.script_fault.ScriptFault.{ScriptFault}
 use Rattle.gx_devices.specs.Devices.{IsFront}
 use Rattle.gx_devices.specs.Stopping.{AreFirst, Mark, Memory, Writing, IsBetween, IsUnsent, Stops, trail}
 use Rattle.gx_devices.proofs.Stopping.{first_behind, first_same, stops_here, trail_stops}
-use Rattle.gx_history.specs.declared.policy.PolicyData.{PolicyData}
+use Rattle.gx_policy.specs.declared.policy.PolicyData.{PolicyData}
 use Rattle.gx_history.specs.declared.record.RecordData.{RecordData}
 use Rattle.gx_scripting.specs.declared.script_fault.ScriptFault.TheVariants as faults
 use Rattle.gx_script.specs.ScriptLines.{is_too_long}

@@ -6,7 +6,7 @@ use Rattle.gx_scripting.specs.declared.script_fault.ScriptFault.{ScriptFault}
 use Rattle.gx_scripting.specs.declared.script_fault.ScriptFault.TheVariants as faults
 use Rattle.gx_devices.specs.Devices.{IsUnfailing}
 use Rattle.gx_devices.specs.Stopping.{Cause, Memory, Full, Writing, Reading, Mark, Stops, trail}
-use Rattle.gx_history.specs.declared.policy.PolicyData.{PolicyData}
+use Rattle.gx_policy.specs.declared.policy.PolicyData.{PolicyData}
 use Rattle.gx_history.specs.declared.record.RecordData.{RecordData}
 use Rattle.gx_scripting.specs.Scripting.{ScriptRun, line_effect, on_line, cut_of, after_lines, script_of, is_settled}
 

@@ -7,7 +7,7 @@ use Rattle.gx_history.specs.declared.record.RecordData.{RecordData}
 use Rattle.gx_history.specs.declared.record.Request.{Request}
 use Rattle.gx_history.specs.declared.record.Request.TheVariants as requests
 use Rattle.gx_history.specs.Logins.{blank_session}
-use Rattle.gx_history.specs.People.{user_in}
+use Rattle.gx_policy.specs.People.{user_in}
 use Rattle.gx_history.specs.Streams.{stream}
 use Rattle.gx_history.specs.Verdicts.{verdict, day_limit}
 use Rattle.gx_answers.specs.Gates.{GateData}

@@ -7,7 +7,7 @@ use Rattle.std.specs.Io.KnownBytes.{Appends}
 use Rattle.std.proofs.KnownBytes.{Appends-nil, Appends-trans}
 use Rattle.gx_units.specs.declared.names.SessionName.{SessionName}
 use Rattle.gx_units.specs.declared.names.UserName.{UserName}
-use Rattle.gx_history.specs.declared.policy.PolicyData.{PolicyData}
+use Rattle.gx_policy.specs.declared.policy.PolicyData.{PolicyData}
 use Rattle.gx_answers.specs.declared.outcome.LoginAnswer.{LoginAnswer}
 use Rattle.gx_answers.specs.declared.outcome.LoginAnswer.TheVariants as answers
 use Rattle.gx_devices.specs.Devices.{IsFront}

@@ -6,7 +6,7 @@ use Rattle.gx_units.specs.declared.names.LoginRejection.{LoginRejection}
 use Rattle.gx_units.specs.declared.names.SessionName.{SessionName}
 use Rattle.gx_units.specs.declared.names.UserName.{UserName}
 use Rattle.gx_units.specs.Spelling.{folded_user}
-use Rattle.gx_history.specs.declared.policy.PolicyData.{PolicyData}
+use Rattle.gx_policy.specs.declared.policy.PolicyData.{PolicyData}
 use Rattle.gx_history.specs.declared.record.RecordData.{RecordData}
 use Rattle.gx_history.specs.InForce.{line_of}
 use Rattle.gx_history.specs.Verdicts.{IsLegal}

@@ -8,7 +8,7 @@ ghost use Rattle.gx_server.specs.Telling.{out_of_memory};
 use crate::policies::{policy_line, sample_policy};
 use crate::program_fault::ProgramFault;
 use gx_core::Gate;
-use gx_history::policy::Policy;
+use gx_policy::Policy;
 use gx_policyfile::{migrate, read_policy, read_version};
 use std::alloc::Global;
 

@@ -3,3 +3,4 @@ pub mod LoggedOut
 pub mod Meetings
 pub mod Noted
 pub mod Refusals
+pub mod Resting

@@ -4,7 +4,7 @@ use Rattle.std.proofs.Math.Seq.{take-add}
 use mathlib.Core.Logic.{dite}
 use native.Mathlib.Decide.{ℕ_discrete}
 use Rattle.gx_history.specs.declared.record.RecordData.{RecordData}
-use Rattle.gx_history.specs.Lists.{slice}
+use Rattle.gx_policy.specs.Lists.{slice}
 use Rattle.gx_pass.specs.declared.view.Keeps.{Keeps}
 use Rattle.gx_pass.specs.Rules.{Has, MayNote}
 use Rattle.gx_pass.specs.Views.{keeps, line_in}

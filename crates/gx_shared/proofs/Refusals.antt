@@ -1,6 +1,6 @@
 -- What a step that was refused is not, and when it is told that the day is full.
 use Rattle.std.proofs.Common.{◌≡◌, Bool, true, false, Result, Ok, Err, IfErr, OnErr, is_ok, refl, ap, subst}
-use Rattle.gx_history.specs.declared.policy.PolicyData.{PolicyData}
+use Rattle.gx_policy.specs.declared.policy.PolicyData.{PolicyData}
 use Rattle.gx_history.specs.declared.record.Asked.{Asked}
 use Rattle.gx_answers.specs.declared.outcome.StepFault.{StepFault}
 use Rattle.gx_answers.specs.declared.outcome.StepFault.TheVariants as faults

@@ -1,2 +1,3 @@
+pub mod GoingOn
 pub mod Lines
 pub mod Logouts

@@ -2,13 +2,33 @@
 //!
 //! A caller holds a pass, and each call gives it back with all that was met under the lock: a legal history, which
 //! begins with all that the pass had met before. Of the pass's line it has the caller's own records, and no others.
+//!
+//! And a server over a gate of its own: for a day that begins with it, or for one that is kept in a journal and may go on
+//! from what a file holds.
+//!
+//! # Modules
+//!
+//! - `shared`: the gate that threads share, a [`Door`](gx_door::Door), behind its lock;
+//! - `desk`: what lies under the lock, a gate and the keeper of its history, whose records are the same;
+//! - `steps`: each step is one call of the gate, and the keeper notes its record before the lock is let go;
+//! - `leaving`: logouts of all who are logged in, where no connection is left;
+//! - `resuming`: the keeper of a history that was there before it, which it reads a portion at a time;
+//! - `serving`: a server whose day begins with it, and the gate of all that was done;
+//! - `keeping`: a server whose day is kept in a journal, on whatever device that lies, and may go on from records that
+//!   were there;
+//! - `rest`: what the journal lacks at the end of the day, taken from the closed gate.
 #![tactic(auto)]
 
 mod desk;
+mod keeping;
 mod leaving;
+mod rest;
 mod resuming;
+mod serving;
 mod shared;
 mod steps;
 
+pub use keeping::{Kept, close_kept, serve_journaled};
 pub use leaving::log_out_all;
+pub use serving::{Served, serve};
 pub use shared::SharedGate;

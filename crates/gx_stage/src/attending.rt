@@ -4,6 +4,7 @@ use crate::devices::{Client, Sheet};
 use crate::holding::Holds;
 use crate::plays::{Play, Stage, Who};
 use gx_door::Door;
+use gx_pass::PassFault;
 use gx_serve::{Link, converse, match_on};
 use std::alloc::Global;
 use std::sync::Wait;
@@ -42,6 +43,17 @@ fn attend<'x, T: Drop + Send, D: Door<Ticket = T> + Sync, R: Threads + Wait + Cl
         line,
     );
     sheet.into_text()
+}
+
+/// A pass for each of the two, and one for the matcher.
+pub fn three_passes<D: Door, R: Wait>(
+    rt: &R,
+    door: &D,
+) -> Result<(D::Ticket, D::Ticket, D::Ticket), PassFault> {
+    let one = door.issue(rt)?;
+    let two = door.issue(rt)?;
+    let three = door.issue(rt)?;
+    Ok((one, two, three))
 }
 
 /// Serves both, beside a matcher. Gives the matcher's pass and what they were sent; None where no thread could be made.

@@ -1,5 +1,5 @@
-//! Users of the sample policy at any door, in threads of their own and on connections over devices in memory: what they
-//! do, what they wait for, and what is printed of it.
+//! Connections of two traders over devices in memory, at any door: what they do, what they wait for, and what is printed
+//! of what they were sent.
 #![tactic(auto)]
 
 mod attending;
@@ -7,7 +7,6 @@ mod counting;
 mod devices;
 mod ended;
 mod holding;
-mod lines;
 mod packets;
 mod papers;
 mod people;
@@ -15,9 +14,8 @@ mod plays;
 mod printing;
 mod still;
 
-pub use attending::{Texts, play_on};
+pub use attending::{Texts, play_on, three_passes};
 pub use ended::Ended;
-pub use lines::{ask_in_threads, put_lines, three_passes};
 pub use packets::{has_first_reports, put_sent};
 pub use papers::{Paper, journal_of};
 pub use people::{ALICE, BOB};

@@ -1,7 +1,6 @@
 //! Packets as bytes: those of clients, and the reports in what clients were sent.
 
 use crate::ended::Ended;
-use crate::people::numbered;
 use crate::printing::{put, put_number};
 use gx_history::report::Report;
 use gx_ouch::MESSAGE_ROOM;
@@ -25,6 +24,15 @@ pub(crate) const BUY_AND_LEAVE: &[u8; 55] =
 /// An order to sell 300 TEST at $1.00.
 pub(crate) const SELL_MANY: &[u8; 52] =
     b"\x002UOS1            S\x00\x00\x01,TEST    \x00\x00'\x10\x00\x01\x86\x9f    YAN\x00\x00\x00\x00NN";
+
+/// `A000` for 0, `A001` for 1 and so on.
+fn numbered(number: u16) -> [u8; 14] {
+    let mut bytes = *b"A000          ";
+    bytes[1] = b'0' + (number / 100 % 10) as u8;
+    bytes[2] = b'0' + (number / 10 % 10) as u8;
+    bytes[3] = b'0' + (number % 10) as u8;
+    bytes
+}
 
 /// An order to buy 1 share, under the token of this number.
 fn order(number: u16) -> [u8; 52] {

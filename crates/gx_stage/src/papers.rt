@@ -1,7 +1,7 @@
 //! A device for a journal, and the file that it stands for.
 
 use gx_audit_bytes::write_header;
-use gx_history::policy::Policy;
+use gx_policy::Policy;
 use gx_units::OutOfMemory;
 use std::alloc::Global;
 use std::io;

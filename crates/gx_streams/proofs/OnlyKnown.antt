@@ -16,18 +16,18 @@ use Rattle.gx_desk.specs.declared.Action.{Action}
 use Rattle.gx_desk.specs.declared.Action.TheVariants as actions
 use Rattle.gx_history.specs.declared.facts.Facts.{Facts}
 use Rattle.gx_history.specs.declared.facts.RuleFigures.{RuleFigures}
-use Rattle.gx_history.specs.declared.policy.FileRule.{FileRule}
-use Rattle.gx_history.specs.declared.policy.PolicyData.{PolicyData}
-use Rattle.gx_history.specs.declared.policy.Role.{Role}
-use Rattle.gx_history.specs.declared.policy.Role.TheVariants as roles
-use Rattle.gx_history.specs.declared.policy.User.{User}
+use Rattle.gx_policy.specs.declared.policy.FileRule.{FileRule}
+use Rattle.gx_policy.specs.declared.policy.PolicyData.{PolicyData}
+use Rattle.gx_policy.specs.declared.policy.Role.{Role}
+use Rattle.gx_policy.specs.declared.policy.Role.TheVariants as roles
+use Rattle.gx_policy.specs.declared.policy.User.{User}
 use Rattle.gx_history.specs.declared.record.Asked.{Asked}
 use Rattle.gx_history.specs.declared.record.Fill.{Fill}
 use Rattle.gx_history.specs.declared.record.RecordData.{RecordData}
 use Rattle.gx_history.specs.declared.record.Request.{Request}
 use Rattle.gx_history.specs.declared.record.Request.TheVariants as requests
-use Rattle.gx_history.specs.declared.record.RuleName.{RuleName}
-use Rattle.gx_history.specs.declared.record.RuleName.TheVariants as names
+use Rattle.gx_policy.specs.declared.rule_name.RuleName.{RuleName}
+use Rattle.gx_policy.specs.declared.rule_name.RuleName.TheVariants as names
 use Rattle.gx_history.specs.declared.record.Step.{Step}
 use Rattle.gx_history.specs.declared.record.Step.TheVariants as steps
 use Rattle.gx_history.specs.declared.record.Verdict.{Verdict}
@@ -39,9 +39,9 @@ use Rattle.gx_history.specs.Asking.{facts, fits_role}
 use Rattle.gx_history.specs.Executions.{Execution, Standing, executions, live_orders, is_live, side_of, sides, standing, standing_numbered, standings}
 use Rattle.gx_history.specs.InForce.{grant_or_revoke_of, in_role, is_entitled, last_mark}
 use Rattle.gx_history.specs.Orders.{Order, ends_account, order_numbered, orders}
-use Rattle.gx_history.specs.People.{account_of, account_of_role, is_officer, is_reader, is_trader, role_in, user_in}
+use Rattle.gx_policy.specs.People.{account_of, account_of_role, is_officer, is_reader, is_trader, role_in, user_in}
 use Rattle.gx_history.specs.Requests.{is_login}
-use Rattle.gx_history.specs.RuleNames.{rules_before, rules_behind}
+use Rattle.gx_policy.specs.RuleNames.{rules_before, rules_behind}
 use Rattle.gx_history.specs.Rules.{BuiltIn, OfFile, applies, first_forbidding, name_of, written_order}
 use Rattle.gx_history.specs.Streams.{answer, canceled, copies, copies_of, day_end, drop_copy, ended, executed_message, granted_code, reported, reports_of, reports_of_denial, reports_of_execution, reports_of_expiry, reports_of_grant, reports_of_verdict, stream, to_user}
 use Rattle.gx_streams.specs.Sending.{is_fill}

@@ -5,10 +5,10 @@ use Rattle.std.specs.Option.{option_map_or}
 use Rattle.std.specs.List.{AllByRecursion, find, flat_map}
 use Rattle.gx_units.specs.Names.{same_user}
 use Rattle.gx_units.specs.declared.names.UserName.{UserName}
-use Rattle.gx_history.specs.declared.policy.User.{User}
-use Rattle.gx_history.specs.declared.policy.PolicyData.{PolicyData}
+use Rattle.gx_policy.specs.declared.policy.User.{User}
+use Rattle.gx_policy.specs.declared.policy.PolicyData.{PolicyData}
 use Rattle.gx_history.specs.declared.report.Report.{Report}
-use Rattle.gx_history.specs.People.{is_reader}
+use Rattle.gx_policy.specs.People.{is_reader}
 use Rattle.gx_history_laws.proofs.Adding.{user_is_itself}
 use Rattle.gx_streams.specs.declared.entry.Entry.{Entry}
 use Rattle.gx_streams.specs.declared.fill.ToldFill.{ToldFill}

@@ -8,8 +8,8 @@ use Rattle.indexmap.specs.IndexMap.{insert_entry}
 use Rattle.indexmap.proofs.MapLemmas.{insert_entry-absent}
 use Rattle.gx_units.specs.Names.{same_user}
 use Rattle.gx_units.specs.declared.names.UserName.{UserName}
-use Rattle.gx_history.specs.declared.policy.User.{User}
-use Rattle.gx_history.specs.Lists.{are_distinct}
+use Rattle.gx_policy.specs.declared.policy.User.{User}
+use Rattle.gx_policy.specs.Lists.{are_distinct}
 use Rattle.gx_history_laws.proofs.Names.{same_user_flip}
 use Rattle.gx_history_laws.proofs.Tables.{new_next}
 use Rattle.gx_streams.specs.declared.entry.Entry.{Entry}

@@ -9,7 +9,7 @@ use Rattle.gx_units.specs.declared.names.UserName.{UserName}
 use Rattle.gx_ouch.specs.declared.outbound.Executed.{Executed}
 use Rattle.gx_ouch.specs.declared.outbound.Outbound.TheVariants as outbounds
 use Rattle.gx_desk.specs.declared.DropCopy.{DropCopy}
-use Rattle.gx_history.specs.declared.policy.PolicyData.{PolicyData}
+use Rattle.gx_policy.specs.declared.policy.PolicyData.{PolicyData}
 use Rattle.gx_history.specs.declared.record.RecordData.{RecordData}
 use Rattle.gx_history.specs.declared.record.Verdict.{Verdict}
 use Rattle.gx_history.specs.declared.record.Verdict.TheVariants as verdicts
@@ -23,7 +23,7 @@ use Rattle.gx_history.specs.Executions.{Execution, sides, side_of as side_of_fil
 use Rattle.gx_history.specs.Orders.{Order, order_numbered, orders}
 use Rattle.gx_history.specs.InForce.{is_entitled}
 use Rattle.gx_history.specs.Masks.{mask_by}
-use Rattle.gx_history.specs.People.{is_reader, role_in}
+use Rattle.gx_policy.specs.People.{is_reader, role_in}
 use Rattle.gx_history.specs.Streams.{copies_of, drop_copy, executed_message, reported, reports_of, reports_of_execution, reports_of_verdict}
 use Rattle.gx_history_laws.proofs.Adding.{user_is}
 use Rattle.gx_history_laws.proofs.Masks.{has_where}

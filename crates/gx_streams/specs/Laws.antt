@@ -3,13 +3,13 @@ use Rattle.std.specs.Prelude.{◌≡◌, ◌-◌, ◌<◌, ◌≤◌, ℕ, max, 
 use Rattle.gx_units.specs.Names.{same_user}
 use Rattle.gx_units.specs.declared.names.UserName.{UserName}
 use Rattle.gx_desk.specs.declared.Action.{Action}
-use Rattle.gx_history.specs.declared.policy.PolicyData.{PolicyData}
+use Rattle.gx_policy.specs.declared.policy.PolicyData.{PolicyData}
 use Rattle.gx_history.specs.declared.record.RecordData.{RecordData}
 use Rattle.gx_history.specs.declared.report.Message.{Message}
 use Rattle.gx_history.specs.declared.report.Report.{Report}
 use Rattle.gx_history.specs.Executions.{Standing, live_orders}
 use Rattle.gx_history.specs.Orders.{ends_account}
-use Rattle.gx_history.specs.People.{is_reader, role_in, user_in}
+use Rattle.gx_policy.specs.People.{is_reader, role_in, user_in}
 use Rattle.gx_history.specs.Streams.{copies, ended, reported, reports_of, stream, to_user}
 use Rattle.gx_history.specs.Verdicts.{IsLegal}
 use Rattle.gx_streams.specs.Kept.{Kept, places_in, with_kept_last, with_last, with_places}

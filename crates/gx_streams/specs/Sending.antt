@@ -2,8 +2,8 @@
 use Rattle.std.specs.Prelude.{◌≡◌, ℕ, Bool, true, false, IsFalse, List, [], ◌∷◌, Option, Some, None, is_some, option_map, if◌then◌else◌}
 use Rattle.std.specs.List.{slice_get}
 use Rattle.gx_units.specs.declared.names.UserName.{UserName}
-use Rattle.gx_history.specs.declared.policy.Account.{Account}
-use Rattle.gx_history.specs.declared.policy.PolicyData.{PolicyData}
+use Rattle.gx_policy.specs.declared.policy.Account.{Account}
+use Rattle.gx_policy.specs.declared.policy.PolicyData.{PolicyData}
 use Rattle.gx_history.specs.declared.record.Fill.{Fill}
 use Rattle.gx_history.specs.declared.record.RecordData.{RecordData}
 use Rattle.gx_history.specs.declared.record.Verdict.{Verdict}
@@ -11,7 +11,7 @@ use Rattle.gx_history.specs.declared.record.Verdict.TheVariants as verdicts
 use Rattle.gx_history.specs.Executions.{Execution, sides}
 use Rattle.gx_history.specs.InForce.{is_entitled}
 use Rattle.gx_history.specs.Masks.{mask_by}
-use Rattle.gx_history.specs.People.{is_reader, role_in}
+use Rattle.gx_policy.specs.People.{is_reader, role_in}
 use Rattle.gx_history.specs.Streams.{executed_message}
 use Rattle.gx_streams.specs.declared.fill.Party.{Party}
 use Rattle.gx_streams.specs.declared.fill.Party.TheVariants as parties

@@ -8,7 +8,7 @@ ghost use Rattle.gx_streams.specs.Spans.{counted, entitled_from, first_spans, is
 
 use crate::fill::ToldFill;
 use crate::reader::Reader;
-use gx_history::policy::{Policy, Role};
+use gx_policy::{Policy, Role};
 use gx_units::{OutOfMemory, UserName};
 use std::alloc::Global;
 use std::marker::Model;

@@ -2,7 +2,7 @@
 
 ghost use Rattle.std.specs.Prelude.{◌≡◌, ◌<◌, ◌^◌, ◌≤◌, length, map, option_map};
 ghost use Rattle.std.specs.Prelude.{IsTrue, IfOk, IsOk, OnOk, OnErr};
-ghost use Rattle.gx_history.specs.Lists.{slice};
+ghost use Rattle.gx_policy.specs.Lists.{slice};
 ghost use Rattle.gx_streams.specs.Kept.{places_in, with_kept_last, with_last, with_places};
 ghost use Rattle.gx_streams.specs.Spans.{copies_in, AreNumbered};
 ghost use Rattle.gx_streams.specs.Streams.{empty_streams, entitled, is_told, on_told, reports_in};
@@ -15,10 +15,10 @@ use crate::reader::Reader;
 use crate::readers::Readers;
 use crate::told::Told;
 use crate::window::Window;
-use gx_history::policy::Policy;
 use gx_history::report::{Message, Report};
 use gx_history::slices::{count_before, slice};
 use gx_ouch::{EventCode, Outbound};
+use gx_policy::Policy;
 use gx_units::{OutOfMemory, UserName};
 use std::alloc::Global;
 use std::marker::Model;

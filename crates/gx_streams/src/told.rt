@@ -5,7 +5,7 @@ ghost use Rattle.gx_streams.specs.Kept.{is_known, items_in, nothing_told, on_use
 
 use crate::entry::Entry;
 use crate::stream::Stream;
-use gx_history::policy::Policy;
+use gx_policy::Policy;
 use gx_units::{OutOfMemory, UserName};
 use indexmap::IndexMap;
 use std::alloc::Global;

@@ -1,7 +1,7 @@
 //! What a case begins with: its title and its policy.
 
 use crate::texts::{halves, put, text_of};
-use gx_history::policy::{Count, FileRule, Policy, RuleKind, Scope};
+use gx_policy::{Count, FileRule, Policy, RuleKind, Scope};
 use gx_policyfile::SAMPLE;
 use gx_units::{AccountName, OutOfMemory, Symbol};
 use std::alloc::Global;

@@ -1,5 +1,5 @@
 use Rattle.std.proofs.Common.{◌≡◌, IsTrue, map, take}
-use Rattle.gx_history.specs.Soundness.{is_sound}
+use Rattle.gx_policy.specs.Soundness.{is_sound}
 use Rattle.gx_day.proofs.Table.{entry_off}
 use Rattle.gx_day.proofs.day.no_lines.Given as goal
 

@@ -2,7 +2,7 @@ use Rattle.std.proofs.Common.{arith, ◌∙◌, List}
 use Rattle.std.proofs.Math.Path.{subst}
 use Rattle.std.proofs.lemmas.List.{take_all}
 use Rattle.gx_units.specs.declared.names.UserName.{UserName}
-use Rattle.gx_history.specs.declared.policy.User.{User}
+use Rattle.gx_policy.specs.declared.policy.User.{User}
 use Rattle.gx_keepers.specs.Keepers.{HaveEnough}
 use Rattle.gx_keepers.proofs.Keepings.{more_have_enough}
 use Rattle.gx_keepers.proofs.places.keep_enough_for_all.Goals as goal

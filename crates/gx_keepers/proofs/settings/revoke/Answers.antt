@@ -1,7 +1,7 @@
 use Rattle.std.proofs.Common.{◌≡◌, ◌∙◌, ap, sym}
 use Rattle.std.specs.Prelude.{ℕ, Some, option_map}
-use Rattle.gx_history.specs.People.{reader_in}
-use Rattle.gx_history.specs.declared.policy.User.{User}
+use Rattle.gx_history.specs.Readers.{reader_in}
+use Rattle.gx_policy.specs.declared.policy.User.{User}
 use Rattle.gx_streams.specs.Streams.{entitled}
 use Rattle.gx_keepers.proofs.Sending.{sent_named, without_is}
 use Rattle.gx_keepers.proofs.settings.revoke.Goals as goal

@@ -1,7 +1,7 @@
 use Rattle.std.proofs.Common.{◌≡◌, ◌<◌, List, length, get_or, sym, ap, ◌∙◌, subst}
 use Rattle.gx_units.specs.Spelling.{folded_user}
-use Rattle.gx_history.specs.declared.policy.PolicyData.{PolicyData}
-use Rattle.gx_history.specs.declared.policy.User.{User}
+use Rattle.gx_policy.specs.declared.policy.PolicyData.{PolicyData}
+use Rattle.gx_policy.specs.declared.policy.User.{User}
 use Rattle.gx_shared.specs.Logouts.{IsOff}
 use Rattle.gx_shared.proofs.LoggedOut.{adds_more, one_more_off}
 use Rattle.gx_shared.proofs.leaving.log_out_all.Goals as goal

@@ -1,7 +1,7 @@
 use Rattle.std.proofs.Common.{◌≡◌, take}
 use Rattle.std.specs.List.{AllByRecursion}
 use Rattle.gx_units.specs.Spelling.{folded_user}
-use Rattle.gx_history.specs.declared.policy.User.{User}
+use Rattle.gx_policy.specs.declared.policy.User.{User}
 use Rattle.gx_shared.specs.Logouts.{AddsLogouts, IsOff}
 use Rattle.gx_shared.proofs.leaving.log_out_all.Given as goal
 

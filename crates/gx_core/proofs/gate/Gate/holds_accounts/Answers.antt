@@ -1,5 +1,5 @@
 use Rattle.std.proofs.Common.{◌≡◌, Bool, true, false, ◌&&◌, ◌∙◌, ap, sym}
-use Rattle.gx_history.specs.People.{is_officer, role_in}
+use Rattle.gx_policy.specs.People.{is_officer, role_in}
 use Rattle.gx_answers.specs.Gates.{GateData}
 use Rattle.gx_core.specs.Known.{has_concerned}
 use Rattle.gx_core.proofs.Commanding.{concerned_are_his}

@@ -1,6 +1,6 @@
 use Rattle.std.proofs.Common.{◌∙◌, ap}
 use Rattle.std.specs.List.{list_all}
-use Rattle.gx_history.specs.People.{role_in}
+use Rattle.gx_policy.specs.People.{role_in}
 use Rattle.gx_answers.specs.Gates.{GateData}
 use Rattle.gx_core.specs.Known.{is_his_or_not_its}
 use Rattle.gx_core.proofs.Commanding.{its_accounts_are_his, its_accounts_are_known}

@@ -2,7 +2,7 @@ use Rattle.std.proofs.Common.{◌≡◌, arith, true, false, length, ◌∙◌, 
 use Rattle.std.proofs.Math.Path.{subst}
 use Rattle.gx_units.specs.declared.names.AccountName.{AccountName}
 use Rattle.gx_history.specs.declared.record.RecordData.{RecordData}
-use Rattle.gx_history.specs.declared.record.RuleName.{RuleName}
+use Rattle.gx_policy.specs.declared.rule_name.RuleName.{RuleName}
 use Rattle.gx_history.specs.InForce.{is_killed}
 use Rattle.gx_history_laws.proofs.Granting.{denied_names_first, granted_exactly}
 use Rattle.gx_effects.proofs.Lifting.{kill_ends_by_lift}

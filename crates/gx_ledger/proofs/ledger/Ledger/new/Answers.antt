@@ -1,5 +1,5 @@
 use Rattle.std.proofs.Common.{◌≡◌, ◌∙◌, ap, sym, subst, map}
-use Rattle.gx_history.specs.declared.policy.PolicyData.{PolicyData}
+use Rattle.gx_policy.specs.declared.policy.PolicyData.{PolicyData}
 use Rattle.gx_history_laws.proofs.Names.{accounts_differ as accounts_apart}
 use Rattle.gx_positions.specs.Changing.{nothing}
 use Rattle.gx_ledger.specs.Counts.{counting}

@@ -1,5 +1,5 @@
 use Rattle.std.proofs.Common.{◌∙◌, ap, sym, refl, true≢false}
-use Rattle.gx_history.specs.People.{is_reader, role_in}
+use Rattle.gx_policy.specs.People.{is_reader, role_in}
 use Rattle.gx_people.specs.Entitled.{granted_to, has_room, sees, with_account}
 use Rattle.gx_people.specs.View.{users_of}
 use Rattle.gx_people.specs.declared.person.Person.{Person}

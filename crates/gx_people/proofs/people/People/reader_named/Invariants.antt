@@ -1,5 +1,5 @@
 use Rattle.std.proofs.Common.{◌≡◌}
-use Rattle.gx_history.specs.People.{reader_in}
+use Rattle.gx_history.specs.Readers.{reader_in}
 use Rattle.gx_people.specs.View.{users_of}
 use Rattle.gx_people.proofs.people.People.reader_named.Given as goal
 

@@ -1,6 +1,6 @@
 use Rattle.std.proofs.Common.{◌∙◌, ap, sym, Some, None, option_copied}
 use Rattle.gx_history.specs.Asking.{knows_stocks}
-use Rattle.gx_history.specs.People.{rule_in}
+use Rattle.gx_policy.specs.People.{rule_in}
 use Rattle.gx_rules.proofs.Places.{rule_found}
 use Rattle.gx_rules.proofs.rule_book.RuleBook.has_list.Goals as goal
 

@@ -1,5 +1,5 @@
 use Rattle.std.proofs.Common.{List, ◌∙◌, ap, map, subst, sym}
-use Rattle.gx_history.specs.Lists.{slice}
+use Rattle.gx_policy.specs.Lists.{slice}
 use Rattle.gx_history.specs.declared.report.Report.{Report}
 use Rattle.gx_streams.specs.declared.entry.Entry.{Entry}
 use Rattle.gx_streams.specs.declared.fill.ToldFill.{ToldFill}

@@ -1,0 +1,5 @@
+use Rattle.gx_audit.proofs.Days.{begins_header}
+use Rattle.gx_audit.proofs.resuming.is_new.Goals as goal
+
+pub returns-then-file-lt-RECORD_SIZE : goal.returns-then-file-lt-RECORD_SIZE
+returns-then-file-lt-RECORD_SIZE c = begins_header c.args.policy.now c.args.file.now c.write_header.result c.starts_with.result c.if-file-lt-RECORD_SIZE.true c.write_header.ensures.bytes c.starts_with.ensures.value

@@ -1,0 +1,81 @@
+//! The day that a file holds.
+
+ghost use Rattle.std.specs.Prelude.{◌≡◌, ◌≢◌, ◌<◌, ◌≤◌, ◌^◌, [], length, IfErr, IfOk, IsTrue};
+ghost use Rattle.gx_audit.specs.declared.fault.AuditFault.TheVariants as faults;
+ghost use Rattle.gx_history.specs.Verdicts.{IsLegal};
+ghost use Rattle.gx_audit.specs.Replaying.{journal_size, IsReplayFault};
+ghost use Rattle.gx_audit.specs.Resuming.{IsNew, Stands};
+
+use crate::fault::AuditFault;
+use crate::replaying::replay;
+use gx_audit_bytes::{RECORD_SIZE, write_header};
+use gx_core::Gate;
+use gx_policy::Policy;
+use std::alloc::Global;
+
+/// A day as a file holds it. Its gate is closed, and never dropped.
+pub struct Resumed {
+    /// The gate of the records in the file.
+    pub gate: Gate,
+    /// How many bytes of the file stand: the journal of these records, or nothing, where no header is there. What is
+    /// behind them is to be cut off.
+    pub kept: u64,
+}
+
+/// Whether the bytes are a front of the policy's header, but not all of it.
+fn is_new(policy: &Policy, file: &[u8]) -> bool
+    ensures { IsTrue result → IsNew policy.now file.now }
+{
+    file.len() < RECORD_SIZE && write_header(policy).starts_with(file)
+}
+
+/// How many bytes the journal of so many records has.
+fn size_of(count: u64) -> u64
+    requires { journal_size count < 2 ^ 64 }
+    ensures { result ≡ journal_size count }
+{
+    RECORD_SIZE as u64 + RECORD_SIZE as u64 * count
+}
+
+/// A day of which a file holds nothing yet.
+fn begun(alloc: Global, policy: &Policy) -> Result<Resumed, AuditFault>
+    ensures policy { IfOk result (λ r. r.gate.policy ≡ policy.now) }
+    ensures records { IfOk result (λ r. r.gate.records ≡ []) }
+    ensures kept { IfOk result (λ r. r.kept ≡ 0) }
+    ensures legal { IfOk result (λ r. IsLegal policy.now r.gate.records) }
+    ensures fault { IfErr result (λ e. e ≡ faults.OutOfMemory) }
+{
+    match Gate::open(alloc, policy) {
+        Ok(gate) => {
+            gate.is_legal();
+            Ok(Resumed { gate, kept: 0 })
+        }
+        Err(_) => Err(AuditFault::OutOfMemory),
+    }
+}
+
+/// The day that a file holds, which goes on with its last whole record.
+///
+/// A file that is empty, or was cut in its header, holds a new day.
+///
+/// # Errors
+///
+/// As of [`replay`]: what the file holds is no journal of a day under the policy. `OutOfMemory` where memory was refused.
+pub fn resume(alloc: Global, policy: &Policy, file: &[u8]) -> Result<Resumed, AuditFault>
+    ensures policy { IfOk result (λ r. r.gate.policy ≡ policy.now) }
+    ensures legal { IfOk result (λ r. IsLegal policy.now r.gate.records) }
+    ensures stands { IfOk result (λ r. Stands policy.now file.now r.gate.records r.kept) }
+    ensures fault { IfErr result (λ e. e ≢ faults.OutOfMemory
+        → IsReplayFault policy.now file.now e) }
+{
+    if is_new(policy, file) {
+        return begun(alloc, policy);
+    }
+    match replay(alloc, policy, file) {
+        Ok(gate) => {
+            let kept = size_of(gate.length());
+            Ok(Resumed { gate, kept })
+        }
+        Err(fault) => Err(fault),
+    }
+}

@@ -1,5 +1,0 @@
-use Rattle.gx_host.proofs.serving.serve.Given as goal
-
--- the table that was just made, and the policy handed in
-abbrev pub ghosts-serve_named : goal.ghosts-serve_named
-ghosts-serve_named g a = record { table = a.blank; policy = a.policy.now }

@@ -1,0 +1,4 @@
+pub mod Lists
+pub mod RuleNames
+pub mod People
+pub mod Soundness

@@ -1,0 +1,79 @@
+-- What the policy says of users, accounts and stocks.
+use Rattle.std.specs.Prelude.{Bool, true, false, ◌&&◌, List, Option, Some, None, option_and_then, option_map}
+use Rattle.std.specs.List.{find, list_any, list_all}
+use Rattle.gx_units.specs.Names.{same_account, same_stock, same_user, same_rule}
+use Rattle.gx_units.specs.declared.names.AccountName.{AccountName}
+use Rattle.gx_units.specs.declared.names.UserName.{UserName}
+use Rattle.gx_units.specs.declared.names.Symbol.{Symbol}
+use Rattle.gx_units.specs.declared.names.RuleId.{RuleId}
+use Rattle.gx_policy.specs.declared.policy.PolicyData.{PolicyData}
+use Rattle.gx_policy.specs.declared.policy.Account.{Account}
+use Rattle.gx_policy.specs.declared.policy.Stock.{Stock}
+use Rattle.gx_policy.specs.declared.policy.User.{User}
+use Rattle.gx_policy.specs.declared.policy.Role.{Role}
+use Rattle.gx_policy.specs.declared.policy.Role.TheVariants as roles
+use Rattle.gx_policy.specs.declared.policy.Scope.{Scope}
+use Rattle.gx_policy.specs.declared.policy.Scope.TheVariants as scopes
+use Rattle.gx_policy.specs.declared.policy.FileRule.{FileRule}
+
+-- the user of this name
+abbrev pub user_in : List User → UserName → Option User
+user_in users name = find (λ (u : User). same_user u.name name) users
+
+-- the account of this name
+abbrev pub account_named : PolicyData → AccountName → Option Account
+account_named policy name = find (λ (a : Account). same_account a.name name) policy.accounts
+
+-- the stock of this name
+abbrev pub stock_named : PolicyData → Symbol → Option Stock
+stock_named policy name = find (λ (s : Stock). same_stock s.name name) policy.stocks
+
+-- the rule of this name
+abbrev pub rule_in : List FileRule → RuleId → Option FileRule
+rule_in rules name = find (λ (r : FileRule). same_rule r.name name) rules
+
+-- the role of the user, if he is known
+abbrev pub role_in : List User → UserName → Option Role
+role_in users name = option_map (λ (u : User). u.role) (user_in users name)
+
+-- a known user who trades for an account
+abbrev pub is_trader : Option Role → Bool
+is_trader (Some (roles.Trader account)) = true
+is_trader other = false
+
+-- a known user who gives commands
+abbrev pub is_officer : Option Role → Bool
+is_officer (Some (roles.Officer powers scope)) = true
+is_officer other = false
+
+-- a known user who is shown fills of others
+abbrev pub is_reader : Option Role → Bool
+is_reader (Some (roles.Reader names)) = true
+is_reader other = false
+
+-- the account that a trader trades for
+abbrev pub account_of_role : Role → Option AccountName
+account_of_role (roles.Trader account) = Some account
+account_of_role other = None
+
+-- the account that a trader trades for
+abbrev pub account_of : PolicyData → UserName → Option AccountName
+account_of policy name = option_and_then account_of_role (role_in policy.users name)
+
+-- the account is among these
+abbrev pub names_account : List AccountName → AccountName → Bool
+names_account names account = list_any (λ name. same_account name account) names
+
+-- the account is in the scope
+abbrev pub covers : Scope → AccountName → Bool
+covers scopes.All account = true
+covers (scopes.Only names) account = names_account names account
+
+-- each account of the policy that the first scope covers is covered by the second
+abbrev pub is_within : PolicyData → Scope → Scope → Bool
+is_within policy inner outer =
+    list_all (λ (a : Account). not_or (covers inner a.name) (covers outer a.name)) policy.accounts
+  where
+    not_or : Bool → Bool → Bool
+    not_or true covered = covered
+    not_or false covered = true

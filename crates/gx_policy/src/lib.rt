@@ -1,0 +1,12 @@
+//! A policy, as data: what a policy file says of accounts, stocks, users and rules; and the names of the rules.
+#![tactic(auto)]
+
+mod copies;
+mod policy;
+mod rule_name;
+
+pub use policy::{
+    Account, AccountNames, Accounts, Count, FileRule, FileRules, Lifters, Policy, PolicyData,
+    Powers, Rate, Repeat, Role, RuleKind, Scope, Stock, Stocks, Symbols, User, Users,
+};
+pub use rule_name::RuleName;

@@ -1,0 +1,65 @@
+-- What is put behind the last record of a day, and what a day that goes on begins with.
+use Rattle.std.proofs.Common.{◌≡◌, ℕ, ◌+◌, ◌-◌, ◌<◌, ◌≤◌, Bool, false, List, ◌++◌, Option, Some, None, length, take, drop, min, is_some, refl, sym, ap, ◌∙◌, subst, arith}
+use Rattle.std.specs.Io.KnownBytes.{Appends}
+use Rattle.std.proofs.lemmas.List.{length-take, length-drop, take_all}
+use mathlib.Core.List.{IsPrefix}
+use Rattle.gx_policy.specs.declared.policy.PolicyData.{PolicyData}
+use Rattle.gx_history.specs.declared.record.RecordData.{RecordData}
+use Rattle.gx_answers.specs.Gates.{GateData}
+use Rattle.gx_door.specs.Acts.{gate_at}
+use Rattle.gx_pass.proofs.Fronts.{prefix_length, prefix_trans}
+use Rattle.gx_shared.specs.Logouts.{AddsLogouts, NobodyIsOn}
+use Rattle.gx_journal.specs.declared.fault.JournalFault.{JournalFault}
+use Rattle.gx_journal.specs.Journals.{added, is_broken, journal_bytes, IsGrown, IsKept, JournalData, TapeData}
+use Rattle.gx_journal.proofs.Keeping.{earlier_begin, sound_of}
+use Rattle.gx_journal.proofs.Rolling.{added_later, more_appended, whole_written}
+use Rattle.gx_shared.specs.GoingOn.{GoesOn}
+
+pub sound_at : (tape : TapeData) (answer : Bool) → answer ≡ is_broken tape → answer ≡ false → tape.fault ≡ None
+sound_at tape answer is denied = none_of tape.fault (sym is ∙ denied)
+  where
+    none_of : (fault : Option JournalFault) → is_some fault ≡ false → fault ≡ None
+    none_of None e = refl
+    none_of (Some fault) e = absurd (cc e)
+
+-- the next records were put there
+pub rest_put : (records : List RecordData) (first before after : TapeData) (most : ℕ) → first.done ≤ before.done → before.done + most ≤ length records
+    → Appends first.contents before.contents (journal_bytes (added first.done before.done records)) → Appends before.contents after.contents (journal_bytes (take most (drop before.done records)))
+    → after.done ≡ before.done + most → Appends first.contents after.contents (journal_bytes (added first.done after.done records))
+rest_put records first before after most begun left so_far put done =
+    let next = take most (drop before.done records) in
+    let size : length next ≡ most = length-take most (drop before.done records) ∙ omega (arith, length-drop before.done records, left) in
+    subst (λ (n : ℕ). Appends first.contents after.contents (journal_bytes (added first.done n records))) (ap (λ (n : ℕ). before.done + n) size ∙ sym done)
+    (more_appended first.contents before.contents after.contents first.done before.done records next begun (omega (arith, left)) (ap (λ (n : ℕ). take n (drop before.done records)) (sym size)) so_far put)
+
+-- all were put there
+pub rest_is_put : (records : List RecordData) (first last : TapeData) → length records ≤ last.done → Appends first.contents last.contents (journal_bytes (added first.done last.done records))
+    → Appends first.contents last.contents (journal_bytes (drop first.done records))
+rest_is_put records first last all put = subst (λ (rs : List RecordData). Appends first.contents last.contents (journal_bytes (drop first.done rs))) (take_all last.done records all) put
+
+-- all records of the day are there
+pub all_kept : (begun : Option (List ℕ)) (count : ℕ) (earlier : List RecordData) (j : JournalData) (records : List RecordData) (after : TapeData) → IsKept begun count earlier j → IsPrefix j.met.front records
+    → (after.fault ≡ None → Appends j.tape.contents after.contents (journal_bytes (drop j.tape.done records))) → (after.fault ≡ None → j.tape.fault ≡ None) → after.fault ≡ None
+    → IsGrown begun after.contents (journal_bytes (drop count records))
+all_kept begun count earlier j records after kept begins put sound none =
+    let before = j.tape in
+    let longer = prefix_length j.met.front records begins in
+    let so_far : IsGrown begun before.contents (journal_bytes (added count before.done records)) =
+    subst (λ (rs : List RecordData). IsGrown begun before.contents (journal_bytes rs)) (sym (added_later count before.done j.met.front records kept.met begins)) (kept.whole (sound_of before (sound none))) in
+    whole_written begun before.contents after.contents count before.done records kept.first (omega (arith, kept.met, longer)) so_far (put none)
+
+-- they begin with the earlier ones
+pub earlier_kept : (begun : Option (List ℕ)) (count : ℕ) (earlier : List RecordData) (j : JournalData) (records : List RecordData) → IsKept begun count earlier j → IsPrefix j.met.front records → IsPrefix earlier records
+earlier_kept begun count earlier j records kept begins = prefix_trans earlier j.met.front records (earlier_begin earlier j.met.front kept.begins) begins
+
+pub longer : (before after : List RecordData) → AddsLogouts before after → length before ≤ length after
+longer before after logouts = prefix_length before after (logouts.added, sym logouts.grown)
+
+-- a day goes on with logouts
+pub day_goes_on : (policy : PolicyData) (records : List RecordData) (gate : GateData) (later : List RecordData) → gate.policy ≡ policy → AddsLogouts records gate.records → NobodyIsOn gate → IsPrefix gate.records later → GoesOn policy records later
+day_goes_on policy records gate later same logouts off begins = record {
+  earlier = gate.records;
+  logouts = logouts;
+  nobody_on = subst (λ (p : PolicyData). NobodyIsOn (gate_at p gate.records)) same off;
+  front = begins;
+}

@@ -1,0 +1,25 @@
+use Rattle.std.proofs.Common.{◌≡◌, ℕ, List, Option, None, length, drop, subst, sym, ap, ◌∙◌}
+use Rattle.std.specs.Io.KnownBytes.{Appends}
+use mathlib.Core.List.{IsPrefix}
+use Rattle.gx_pass.specs.declared.view.Holds.{Holds}
+use Rattle.gx_journal.specs.Journals.{journal_bytes, IsGrown, TapeData}
+use Rattle.gx_shared.proofs.Resting.{all_kept, earlier_kept}
+use Rattle.gx_shared.proofs.keeping.close_kept.Goals as goal
+
+pub returns-clause-front : goal.returns-clause-front
+returns-clause-front g c =
+    let records = c.close-gate.result.records in
+    let begins : IsPrefix c.args.journal.met.front records = subst (λ (h : Holds). IsPrefix h.front records) c.into_parts-pass.ensures.met c.close-gate.ensures.front in
+    earlier_kept g.J.JournalName.begun g.J.JournalName.count g.J.JournalName.earlier c.args.journal records c.into_parts-pass.ensures.kept begins
+
+pub returns-clause-kept : goal.returns-clause-kept
+returns-clause-kept g c = λ none.
+    let records = c.close-gate.result.records in
+    let after = c.put_rest.new.tape in
+    let is = c.into_parts-pass.ensures.tape in
+    let begins : IsPrefix c.args.journal.met.front records = subst (λ (h : Holds). IsPrefix h.front records) c.into_parts-pass.ensures.met c.close-gate.ensures.front in
+    let put : after.fault ≡ None → Appends c.args.journal.tape.contents after.contents (journal_bytes (drop c.args.journal.tape.done records)) =
+    subst (λ (t : TapeData). after.fault ≡ None → Appends t.contents after.contents (journal_bytes (drop t.done records))) is c.put_rest.ensures.whole in
+    let sound : after.fault ≡ None → c.args.journal.tape.fault ≡ None = subst (λ (t : TapeData). after.fault ≡ None → t.fault ≡ None) is c.put_rest.ensures.sound in
+    subst (λ (o : Option (List ℕ)). IsGrown g.J.JournalName.begun o (journal_bytes (drop g.J.JournalName.count records))) (sym c.into_parts-device.ensures.contents)
+    (all_kept g.J.JournalName.begun g.J.JournalName.count g.J.JournalName.earlier c.args.journal records after c.into_parts-pass.ensures.kept begins put sound (sym c.into_parts-device.ensures.fault ∙ none))
