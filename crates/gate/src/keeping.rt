@@ -3,6 +3,7 @@
 ghost use Rattle.std.specs.Prelude.{◌-◌, ◌^◌, ◌<◌};
 
 use crate::ending::{Ended, Place};
+use gx_answers::AccessGate;
 use gx_audit::{Resumed, resume};
 use gx_audit_bytes::write_header;
 use gx_command_line::JournalFile;
@@ -65,7 +66,7 @@ fn read_day<'a>(
     rt: &HostRuntime,
     policy: &Policy,
     path: &'a str,
-) -> Result<(Resumed, u64), Ended<'a>> {
+) -> Result<(Resumed<Gate>, u64), Ended<'a>> {
     let bytes = match fs::read(rt, path) {
         Ok(bytes) => bytes,
         Err(error) => return Err(Ended::unread(path, error)),

@@ -9,6 +9,7 @@ mod keeping;
 use clap::Error;
 use clap::error::ErrorKind as UsageFault;
 use ending::{Ended, Place, tell};
+use gx_answers::AccessGate;
 use gx_audit::{AuditAnswer, Choice, more_of_audit, show_audit, told_of_audit, write_audit};
 use gx_command_line::{
     Asked, AuditFiles, JournalFile, LONGEST_WORD, RunFiles, Serving, Wanted, first_bad_word,
@@ -138,7 +139,7 @@ fn follow_under<'a>(
     file: Option<&[u8]>,
     audit: Option<&'a str>,
 ) -> Result<(), Ended<'a>> {
-    let mut gate = open_gate(rt.alloc(), file)?;
+    let mut gate: Gate = open_gate(rt.alloc(), file)?;
     let followed = follow(rt, input, &mut gate);
     let kept = close_audited(rt, gate, audit);
     followed.and(kept)
@@ -229,7 +230,7 @@ fn serve_on<'a, R>(
     host: &HostRuntime,
     policy: &Policy,
     serving: &Serving<'a>,
-) -> Result<Served, Ended<'a>>
+) -> Result<Served<Gate>, Ended<'a>>
 where
     R: Net<Listener = TcpListener, Stream = TcpStream> + Threads + Wait + Clock + Eprint + Sync,
 {
@@ -264,7 +265,7 @@ fn go_on<'a, R>(
     host: &HostRuntime,
     serving: &Serving<'a>,
     day: Day,
-) -> Result<Kept<Noted<JournalDevice>>, Ended<'a>>
+) -> Result<Kept<Gate, Noted<JournalDevice>>, Ended<'a>>
 where
     R: Net<Listener = TcpListener, Stream = TcpStream> + Threads + Wait + Clock + Eprint + Sync,
 {
@@ -345,7 +346,7 @@ where
 /// Puts behind an answer what more there is to tell of it; nothing where there is no memory for it. The first line on
 /// standard error is that of a fault of the program: it stays empty.
 fn tell_more_of(rt: &HostRuntime, policy: &Policy, audit: &[u8], told: &AuditAnswer) {
-    if let Ok(Some(line)) = more_of_audit(rt.alloc(), policy, audit, told.answer) {
+    if let Ok(Some(line)) = more_of_audit::<Gate>(rt.alloc(), policy, audit, told.answer) {
         let _ = eprintln!(rt; "");
         let _ = rt.stderr().write_all(line.as_slice());
     }
@@ -353,7 +354,7 @@ fn tell_more_of(rt: &HostRuntime, policy: &Policy, audit: &[u8], told: &AuditAns
 
 /// Tells what an audit is: the status that says so.
 fn tell_audit<'a>(rt: &HostRuntime, policy: &Policy, audit: &[u8]) -> Result<ExitCode, Ended<'a>> {
-    let told = match told_of_audit(rt.alloc(), policy, audit) {
+    let told = match told_of_audit::<Gate>(rt.alloc(), policy, audit) {
         Ok(told) => told,
         Err(fault) => return Err(Ended::of_writing(fault, Place::Output, None)),
     };

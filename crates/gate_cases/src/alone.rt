@@ -1,6 +1,7 @@
 //! Runs on gates of their own.
 
 use crate::runs::{End, put_verdicts, run_kind, run_on};
+use gx_answers::AccessGate;
 use gx_core::Gate;
 use gx_devices::Counted;
 use gx_policy::Policy;

@@ -46,7 +46,7 @@ fn put_told(
     told: &AuditAnswer,
 ) -> Result<(), OutOfMemory> {
     put_bytes(out, told.line.as_slice())?;
-    match more_of_audit(alloc, policy, audit, told.answer)? {
+    match more_of_audit::<Gate>(alloc, policy, audit, told.answer)? {
         Some(more) => put_bytes(out, more.as_slice()),
         None => Ok(()),
     }
@@ -59,7 +59,7 @@ fn tell_check(
     policy: &Policy,
     audit: &[u8],
 ) -> Result<(), OutOfMemory> {
-    match told_of_audit(alloc, policy, audit) {
+    match told_of_audit::<Gate>(alloc, policy, audit) {
         Ok(told) => put_told(alloc, out, policy, audit, &told),
         Err(fault) => put_ended(out, Some(fault)),
     }

@@ -3,6 +3,7 @@
 
 ghost use Rattle.std.specs.Prelude.{◌≡◌, []};
 
+use gx_answers::AccessGate;
 use gx_audit::{Resumed, audit_of, check_audit, resume};
 use gx_audit_bytes::AuditVersion;
 use gx_core::Gate;
@@ -43,7 +44,10 @@ fn put_user(
 /// Puts at the end what the audit of the closed gate is found to be.
 fn put_audit(alloc: Global, policy: &Policy, gate: &Gate, out: &mut String) -> Result<(), Ended> {
     let audit = audit_of(alloc, AuditVersion::Two, gate)?;
-    put_found(out, check_audit(alloc, policy, audit.as_slice()).ok())
+    put_found(
+        out,
+        check_audit::<Gate>(alloc, policy, audit.as_slice()).ok(),
+    )
 }
 
 /// Puts at the end what both were sent, and what the audit of the closed gate is.
@@ -90,7 +94,7 @@ fn put_told(
     texts: &Texts,
     out: &mut String,
 ) -> Result<(), Ended> {
-    let Ok(Resumed { gate, kept: _ }) = resume(alloc, policy, file) else {
+    let Ok(Resumed { gate, kept: _ }) = resume::<Gate>(alloc, policy, file) else {
         return put(out, "the journal is not legal\n");
     };
     let kept = are_kept(&gate, texts);
@@ -128,7 +132,7 @@ fn play_at<N: GateName + Send + Sync, R: Threads + Wait + Clock + Sync>(
     rt: &R,
     alloc: Global,
     policy: &Policy,
-    shared: SharedGate<N>,
+    shared: SharedGate<Gate, N>,
     pass: Pass<N>,
     stage: &Stage,
     device: Device,
@@ -144,7 +148,7 @@ fn play_at<N: GateName + Send + Sync, R: Threads + Wait + Clock + Sync>(
         }
     };
     let paper = Paper::new(alloc, device.most, device.room);
-    let door: Journaled<'_, SharedGate<N>, Paper, Brand> = Journaled::new(
+    let door: Journaled<'_, SharedGate<Gate, N>, Paper, Brand> = Journaled::new(
         alloc, &shared, pass, 0, paper,
     );
     let played = play_on(rt, alloc, &door, stage, passes);
@@ -186,7 +190,7 @@ pub(crate) fn run_kept<N: GateName + Send + Sync, R: Threads + Wait + Clock + Sy
     requires blank { blank ≡ N.table }
 {
     let gate = Gate::open(alloc, policy)?;
-    match SharedGate::<N>::over(gate, blank) {
+    match SharedGate::<Gate, N>::over(gate, blank) {
         Ok((shared, pass)) => play_at(rt, alloc, policy, shared, pass, stage, device, out),
         Err(fault) => Err(Ended::Pass(fault)),
     }

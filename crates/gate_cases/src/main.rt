@@ -51,6 +51,8 @@ mod policies;
 mod runs;
 mod threads;
 
+use gx_answers::AccessGate;
+use gx_core::Gate;
 use gx_policy::Policy;
 use gx_policyfile::read_policy;
 use gx_server::{open_gate, sample_policy, told_of_policy};
@@ -75,7 +77,7 @@ fn run_once(
     parts: &str,
     usual: Limits,
 ) -> Result<(), OutOfMemory> {
-    match open_gate(alloc, file) {
+    match open_gate::<Gate>(alloc, file) {
         Ok(gate) => {
             let mut gate = gate;
             let told = tell_parts(alloc, out, &mut gate, policy, parts, usual);

@@ -5,6 +5,7 @@ ghost use Rattle.std.specs.Prelude.{◌-◌, ◌^◌, ◌<◌};
 use crate::alone::Alone;
 use crate::audits::{tell_audit, tell_audit_1, tell_checks, tell_shown};
 use crate::endless::tell_endless;
+use gx_answers::AccessGate;
 use gx_audit_bytes::AuditVersion::{One, Two};
 use gx_core::Gate;
 use gx_devices::Counted;

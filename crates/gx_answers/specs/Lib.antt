@@ -1,4 +1,5 @@
 pub mod Asking
+pub mod Effects
 pub mod Gates
 pub mod Logins
 pub mod Matches

@@ -11,11 +11,10 @@ ghost use Rattle.gx_audit_bytes.specs.Records.{record_bytes};
 ghost use Rattle.gx_audit_bytes.specs.Versions.{version_of};
 
 use crate::fault::AuditFault;
-use gx_answers::{Outcome, StepFault};
+use gx_answers::{AccessGate, Outcome, StepFault};
 use gx_audit_bytes::{
     AuditVersion, RECORD_SIZE, has_bytes, read_record_in, same_bytes, whole, write_header,
 };
-use gx_core::Gate;
 use gx_history::record::{RecordData, Step};
 use gx_policy::Policy;
 use std::alloc::Global;
@@ -23,14 +22,18 @@ use std::alloc::Global;
 /// Whether the bytes are the audit of a legal day under the policy: how many records there are, or the first fault. Bytes
 /// that begin with `GXH2` are taken as version 2, all others as version 1.
 #[tactic(auto, using(crate::proofs::Only::is_only))]
-pub fn check_audit(alloc: Global, policy: &Policy, bytes: &[u8]) -> Result<u64, AuditFault>
+pub fn check_audit<G: AccessGate>(
+    alloc: Global,
+    policy: &Policy,
+    bytes: &[u8],
+) -> Result<u64, AuditFault>
     ensures answer { IsAnswer policy.now bytes.now result }
     // Where memory was not refused, no other answer is right.
     ensures only { IsOnlyAnswer policy.now bytes.now result }
 {
     let version = AuditVersion::of(bytes);
     match records_start(policy, version, bytes) {
-        Ok(start) => check_behind(alloc, policy, version, bytes, start),
+        Ok(start) => check_behind::<G>(alloc, policy, version, bytes, start),
         Err(fault) => Err(fault),
     }
 }
@@ -70,7 +73,7 @@ pub(crate) fn header_end(policy: &Policy, bytes: &[u8]) -> Result<usize, AuditFa
 
 /// Checks the records from this place on, on a gate of its own.
 #[tactic(auto, using(crate::proofs::Walking::answer_under))]
-fn check_behind(
+fn check_behind<G: AccessGate>(
     alloc: Global,
     policy: &Policy,
     version: AuditVersion,
@@ -82,7 +85,7 @@ fn check_behind(
     requires front { front_of version policy.now ++ drop start bytes.now ≡ bytes.now }
     ensures { IsAnswer policy.now bytes.now result }
 {
-    let Ok(mut gate) = Gate::open(alloc, policy) else {
+    let Ok(mut gate) = G::open(alloc, policy) else {
         return Err(AuditFault::OutOfMemory);
     };
     let answer = check_records(&mut gate, version, bytes, start);
@@ -92,17 +95,18 @@ fn check_behind(
 
 /// Makes the steps of the records from this place on, on a new gate: how many records there are, or the first fault.
 #[tactic(auto, using(crate::proofs::Walking::answer_of_records, crate::proofs::Walking::left_told, crate::proofs::Walking::all_legal))]
-fn check_records(
-    gate: &mut Gate,
+fn check_records<G: AccessGate>(
+    gate: &mut G,
     version: AuditVersion,
     bytes: &[u8],
     start: usize,
 ) -> Result<u64, AuditFault>
-    requires new { gate.old.records ≡ [] }
+    requires new { (G.seen gate.old).records ≡ [] }
     requires version { version_of bytes.now ≡ version }
     requires within { start ≤ length bytes.now }
-    requires front { front_of version gate.old.policy ++ drop start bytes.now ≡ bytes.now }
-    ensures { IsAnswer gate.old.policy bytes.now result }
+    requires front { front_of version (G.seen gate.old).policy ++ drop start bytes.now
+        ≡ bytes.now }
+    ensures { IsAnswer (G.seen gate.old).policy bytes.now result }
 {
     match follow_records(gate, version, bytes, start) {
         Ok(end) if end < bytes.len() => Err(AuditFault::Truncated),
@@ -112,21 +116,22 @@ fn check_records(
 }
 
 /// Makes the steps of the whole records from this place on, on a new gate. Answers where they end.
-pub(crate) fn follow_records(
-    gate: &mut Gate,
+pub(crate) fn follow_records<G: AccessGate>(
+    gate: &mut G,
     version: AuditVersion,
     bytes: &[u8],
     start: usize,
 ) -> Result<usize, AuditFault>
-    requires new { gate.old.records ≡ [] }
+    requires new { (G.seen gate.old).records ≡ [] }
     requires version { version_of bytes.now ≡ version }
     requires within { start ≤ length bytes.now }
-    requires front { front_of version gate.old.policy ++ drop start bytes.now ≡ bytes.now }
-    ensures policy { gate.new.policy ≡ gate.old.policy }
-    ensures legal { OnOk result (IsLegal gate.old.policy gate.new.records) }
+    requires front { front_of version (G.seen gate.old).policy ++ drop start bytes.now
+        ≡ bytes.now }
+    ensures policy { (G.seen gate.new).policy ≡ (G.seen gate.old).policy }
+    ensures legal { OnOk result (IsLegal (G.seen gate.old).policy (G.seen gate.new).records) }
     ensures whole { IfOk result (λ end.
-        EndsAt version gate.old.policy bytes.now gate.new.records end) }
-    ensures fault { IfErr result (λ e. IsRecordsFault gate.old.policy bytes.now e) }
+        EndsAt version (G.seen gate.old).policy bytes.now (G.seen gate.new).records end) }
+    ensures fault { IfErr result (λ e. IsRecordsFault (G.seen gate.old).policy bytes.now e) }
 {
     let mut at = start;
     while bytes.len() - at >= RECORD_SIZE {
@@ -162,17 +167,19 @@ pub fn record_at(bytes: &[u8], at: usize) -> [u8; RECORD_SIZE]
 /// Checks that these bytes are the gate's next record in this version, by making its step.
 ///
 /// After `IllegalVerdict` the gate has the record that the step left, if it left one.
-pub fn check_record(
-    gate: &mut Gate,
+pub fn check_record<G: AccessGate>(
+    gate: &mut G,
     version: AuditVersion,
     bytes: &[u8; RECORD_SIZE],
 ) -> Result<(), AuditFault>
-    ensures policy { gate.new.policy ≡ gate.old.policy }
-    ensures legal { IsLegal gate.old.policy gate.old.records }
-    ensures ok { OnOk result (IsOneMore version gate.old.records gate.new.records bytes.now) }
-    ensures len { OnOk result (length gate.new.records ≡ length gate.old.records + 1) }
+    ensures policy { (G.seen gate.new).policy ≡ (G.seen gate.old).policy }
+    ensures legal { IsLegal (G.seen gate.old).policy (G.seen gate.old).records }
+    ensures ok { OnOk result
+        (IsOneMore version (G.seen gate.old).records (G.seen gate.new).records bytes.now) }
+    ensures len { OnOk result (length (G.seen gate.new).records
+        ≡ length (G.seen gate.old).records + 1) }
     ensures fault { IfErr result (λ e.
-        IsRecordFault version gate.old.policy gate.old.records bytes.now e) }
+        IsRecordFault version (G.seen gate.old).policy (G.seen gate.old).records bytes.now e) }
 {
     // that the records so far are those of a legal day
     gate.is_legal();
@@ -188,22 +195,24 @@ pub fn check_record(
 }
 
 /// Makes the step of the record that these bytes show, and checks that it leaves this record.
-fn follow(
-    gate: &mut Gate,
+fn follow<G: AccessGate>(
+    gate: &mut G,
     version: AuditVersion,
     number: u64,
     shown: &RecordData,
     bytes: &[u8; RECORD_SIZE],
 ) -> Result<(), AuditFault>
-    requires number { number ≡ length gate.old.records + 1 }
+    requires number { number ≡ length (G.seen gate.old).records + 1 }
     requires numbered { shown.now.number ≡ number }
     requires shows { record_of version bytes.now ≡ Some shown.now }
     requires askable { IsAskableStep shown.now.step }
-    ensures policy { gate.new.policy ≡ gate.old.policy }
-    ensures ok { OnOk result (IsOneMore version gate.old.records gate.new.records bytes.now) }
-    ensures len { OnOk result (length gate.new.records ≡ length gate.old.records + 1) }
+    ensures policy { (G.seen gate.new).policy ≡ (G.seen gate.old).policy }
+    ensures ok { OnOk result
+        (IsOneMore version (G.seen gate.old).records (G.seen gate.new).records bytes.now) }
+    ensures len { OnOk result (length (G.seen gate.new).records
+        ≡ length (G.seen gate.old).records + 1) }
     ensures fault { IfErr result (λ e.
-        IsRecordFault version gate.old.policy gate.old.records bytes.now e) }
+        IsRecordFault version (G.seen gate.old).policy (G.seen gate.old).records bytes.now e) }
 {
     match made(gate, shown.step) {
         Ok(Some(left)) => {
@@ -220,14 +229,15 @@ fn follow(
 
 /// Makes the step: the record that it leaves, if it leaves one. `DayFull` where no record of this step follows.
 #[tactic(auto, using(crate::proofs::Full::none_asked, crate::proofs::Full::none_matched))]
-fn made(gate: &mut Gate, step: Step) -> Result<Option<RecordData>, StepFault>
+fn made<G: AccessGate>(gate: &mut G, step: Step) -> Result<Option<RecordData>, StepFault>
     requires askable { IsAskableStep step }
-    ensures policy { gate.new.policy ≡ gate.old.policy }
-    ensures next { IfOk result (λ left. next gate.old.policy gate.old.records step ≡ left) }
+    ensures policy { (G.seen gate.new).policy ≡ (G.seen gate.old).policy }
+    ensures next { IfOk result
+        (λ left. next (G.seen gate.old).policy (G.seen gate.old).records step ≡ left) }
     ensures records { IfOk result (λ left.
-        gate.new.records ≡ with_left gate.old.records left) }
+        (G.seen gate.new).records ≡ with_left (G.seen gate.old).records left) }
     ensures day_full { IfErr result (λ e. e ≡ stepping.DayFull
-        → NoneFollows gate.old.policy gate.old.records step) }
+        → NoneFollows (G.seen gate.old).policy (G.seen gate.old).records step) }
 {
     match step {
         Step::Asked(asked) => {

@@ -3,8 +3,8 @@
 use crate::checking::check_record;
 use crate::fault::AuditFault;
 use crate::places::bytes_at;
+use gx_answers::AccessGate;
 use gx_audit_bytes::{AuditVersion, RECORD_SIZE, read_record_in, wrong_field};
-use gx_core::Gate;
 use gx_history::record::RecordData;
 use gx_policy::Policy;
 use gx_script::{append, append_number, append_verdict};
@@ -13,7 +13,7 @@ use std::alloc::Global;
 
 /// What more there is to tell of an answer: the wrong field of a bad record, or what an illegal one says and what the
 /// rules say; nothing of others.
-pub fn more_of_audit(
+pub fn more_of_audit<G: AccessGate>(
     alloc: Global,
     policy: &Policy,
     audit: &[u8],
@@ -28,7 +28,7 @@ pub fn more_of_audit(
             None => Ok(None),
         },
         Err(AuditFault::IllegalVerdict(number)) => match bytes_at(audit, number) {
-            Some(bytes) => illegal_line(alloc, policy, audit, number, &bytes),
+            Some(bytes) => illegal_line::<G>(alloc, policy, audit, number, &bytes),
             None => Ok(None),
         },
         _ => Ok(None),
@@ -44,7 +44,7 @@ fn field_line(alloc: Global, field: &str) -> Result<Vec<u8>, OutOfMemory> {
 }
 
 /// The line that says what an illegal record says, and what the rules say.
-fn illegal_line(
+fn illegal_line<G: AccessGate>(
     alloc: Global,
     policy: &Policy,
     audit: &[u8],
@@ -57,7 +57,7 @@ fn illegal_line(
     let mut line = Vec::from_slice(alloc, b"record: ")?;
     append_said(&mut line, &recorded.content())?;
     append(&mut line, b"; rules: ")?;
-    match left_by_rules(alloc, policy, audit, number)? {
+    match left_by_rules::<G>(alloc, policy, audit, number)? {
         Some(left) => append_said(&mut line, &left)?,
         None => append(&mut line, b"no record")?,
     }
@@ -74,21 +74,21 @@ fn append_said(line: &mut Vec<u8>, content: &RecordData) -> Result<(), OutOfMemo
 }
 
 /// The record that the step of an illegal one leaves by the rules: it is made again, behind the records before it.
-fn left_by_rules(
+fn left_by_rules<G: AccessGate>(
     alloc: Global,
     policy: &Policy,
     audit: &[u8],
     number: u64,
 ) -> Result<Option<RecordData>, OutOfMemory> {
-    let mut gate = Gate::open(alloc, policy)?;
+    let mut gate = G::open(alloc, policy)?;
     let left = left_behind(&mut gate, audit, number);
     gate.close();
     left
 }
 
 /// The record of this number once the steps of the records up to it are made; `None` where the last leaves none.
-fn left_behind(
-    gate: &mut Gate,
+fn left_behind<G: AccessGate>(
+    gate: &mut G,
     audit: &[u8],
     number: u64,
 ) -> Result<Option<RecordData>, OutOfMemory> {
@@ -101,7 +101,7 @@ fn left_behind(
 }
 
 /// Makes the steps of the records up to this number, as far as each leaves its record.
-fn replay(gate: &mut Gate, audit: &[u8], number: u64) -> Result<(), OutOfMemory> {
+fn replay<G: AccessGate>(gate: &mut G, audit: &[u8], number: u64) -> Result<(), OutOfMemory> {
     let version = AuditVersion::of(audit);
     for at in 0..number {
         let Some(bytes) = bytes_at(audit, at + 1) else {

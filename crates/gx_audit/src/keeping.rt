@@ -11,8 +11,8 @@ ghost use Rattle.gx_policy.specs.Lists.{slice};
 
 use crate::day::header_of;
 use crate::writing_fault::AuditingFault;
+use gx_answers::AccessGate;
 use gx_audit_bytes::{AuditVersion, audit_bytes};
-use gx_core::Gate;
 use gx_devices::{Counted, write_whole};
 use std::alloc::Global;
 use std::io::Write;
@@ -23,18 +23,18 @@ const PIECE: u64 = 256;
 /// Writes the audit of the gate's records in version 2: the policy's header, and then each record as its 128 bytes, one
 /// behind the other. After a fault a front of that is written.
 #[tactic(auto, using(crate::proofs::Pieces::behind_front, crate::proofs::Pieces::front_cut, crate::proofs::Pieces::records_cut))]
-pub fn write_audit<W: Write>(
+pub fn write_audit<G: AccessGate, W: Write>(
     alloc: Global,
-    gate: &Gate,
+    gate: &G,
     writer: &mut Counted<W>,
 ) -> Result<(), AuditingFault>
     requires { writer.old.failed < 2 ^ 64 - 1 }
     ensures written { OnOk result (Appends
         (W.contents writer.old.device) (W.contents writer.new.device)
-        (whole_audit versions.Two gate.now.policy gate.now.records)) }
+        (whole_audit versions.Two (G.seen gate.now).policy (G.seen gate.now).records)) }
     ensures front { OnErr result (IsFront
         (W.contents writer.old.device) (W.contents writer.new.device)
-        (whole_audit versions.Two gate.now.policy gate.now.records)) }
+        (whole_audit versions.Two (G.seen gate.now).policy (G.seen gate.now).records)) }
     ensures kept { OnOk result (writer.new.failed ≡ writer.old.failed) }
     ensures told { IfErr result (IsBlamed writer.old.failed writer.new.failed) }
 {
@@ -43,14 +43,17 @@ pub fn write_audit<W: Write>(
 }
 
 /// Writes the header of the gate's policy.
-fn write_front<W: Write>(gate: &Gate, writer: &mut Counted<W>) -> Result<(), AuditingFault>
+fn write_front<G: AccessGate, W: Write>(
+    gate: &G,
+    writer: &mut Counted<W>,
+) -> Result<(), AuditingFault>
     requires { writer.old.failed < 2 ^ 64 - 1 }
     ensures written { OnOk result (Appends
         (W.contents writer.old.device) (W.contents writer.new.device)
-        (header_bytes gate.now.policy)) }
+        (header_bytes (G.seen gate.now).policy)) }
     ensures front { OnErr result (IsFront
         (W.contents writer.old.device) (W.contents writer.new.device)
-        (header_bytes gate.now.policy)) }
+        (header_bytes (G.seen gate.now).policy)) }
     ensures kept { OnOk result (writer.new.failed ≡ writer.old.failed) }
     ensures told { IfErr result (IsBlamed writer.old.failed writer.new.failed) }
 {
@@ -59,18 +62,18 @@ fn write_front<W: Write>(gate: &Gate, writer: &mut Counted<W>) -> Result<(), Aud
 }
 
 /// Writes the gate's records.
-fn write_records<W: Write>(
+fn write_records<G: AccessGate, W: Write>(
     alloc: Global,
-    gate: &Gate,
+    gate: &G,
     writer: &mut Counted<W>,
 ) -> Result<(), AuditingFault>
     requires { writer.old.failed < 2 ^ 64 - 1 }
     ensures written { OnOk result (Appends
         (W.contents writer.old.device) (W.contents writer.new.device)
-        (all_bytes versions.Two gate.now.records)) }
+        (all_bytes versions.Two (G.seen gate.now).records)) }
     ensures front { OnErr result (IsFront
         (W.contents writer.old.device) (W.contents writer.new.device)
-        (all_bytes versions.Two gate.now.records)) }
+        (all_bytes versions.Two (G.seen gate.now).records)) }
     ensures kept { OnOk result (writer.new.failed ≡ writer.old.failed) }
     ensures told { IfErr result (IsBlamed writer.old.failed writer.new.failed) }
 {
@@ -85,9 +88,9 @@ fn write_records<W: Write>(
 }
 
 /// Writes so many records, from this number on.
-fn write_piece<W: Write>(
+fn write_piece<G: AccessGate, W: Write>(
     alloc: Global,
-    gate: &Gate,
+    gate: &G,
     from: u64,
     size: u64,
     writer: &mut Counted<W>,
@@ -95,10 +98,10 @@ fn write_piece<W: Write>(
     requires { writer.old.failed < 2 ^ 64 - 1 }
     ensures written { OnOk result (Appends
         (W.contents writer.old.device) (W.contents writer.new.device)
-        (all_bytes versions.Two (slice gate.now.records from size))) }
+        (all_bytes versions.Two (slice (G.seen gate.now).records from size))) }
     ensures front { OnErr result (IsFront
         (W.contents writer.old.device) (W.contents writer.new.device)
-        (all_bytes versions.Two (slice gate.now.records from size))) }
+        (all_bytes versions.Two (slice (G.seen gate.now).records from size))) }
     ensures kept { OnOk result (writer.new.failed ≡ writer.old.failed) }
     ensures told { IfErr result (IsBlamed writer.old.failed writer.new.failed) }
 {

@@ -6,8 +6,8 @@ ghost use Rattle.gx_audit.specs.Replaying.{journal_size, HoldsRecords, IsReplayF
 
 use crate::checking::{follow_records, header_end};
 use crate::fault::AuditFault;
+use gx_answers::AccessGate;
 use gx_audit_bytes::AuditVersion;
-use gx_core::Gate;
 use gx_policy::Policy;
 use std::alloc::Global;
 
@@ -19,16 +19,21 @@ use std::alloc::Global;
 /// `Truncated` only where the bytes are too few for a header, and `OtherPolicy` where they do not begin with the policy's.
 /// Any other fault names its record.
 #[tactic(auto, using(crate::proofs::Journals::holds_records, crate::proofs::Journals::is_within))]
-pub fn replay(alloc: Global, policy: &Policy, journal: &[u8]) -> Result<Gate, AuditFault>
-    ensures policy { IfOk result (λ gate. gate.policy ≡ policy.now) }
-    ensures records { IfOk result (λ gate. HoldsRecords policy.now journal.now gate.records) }
-    ensures legal { IfOk result (λ gate. IsLegal policy.now gate.records) }
+pub fn replay<G: AccessGate>(
+    alloc: Global,
+    policy: &Policy,
+    journal: &[u8],
+) -> Result<G, AuditFault>
+    ensures policy { IfOk result (λ gate. (G.seen gate).policy ≡ policy.now) }
+    ensures records { IfOk result
+        (λ gate. HoldsRecords policy.now journal.now (G.seen gate).records) }
+    ensures legal { IfOk result (λ gate. IsLegal policy.now (G.seen gate).records) }
     ensures size { IfOk result (λ gate.
-        journal_size (length gate.records) ≤ length journal.now) }
+        journal_size (length (G.seen gate).records) ≤ length journal.now) }
     ensures fault { IfErr result (λ e. IsReplayFault policy.now journal.now e) }
 {
     let start = header_end(policy, journal)?;
-    let Ok(mut gate) = Gate::open(alloc, policy) else {
+    let Ok(mut gate) = G::open(alloc, policy) else {
         return Err(AuditFault::OutOfMemory);
     };
     match follow_records(&mut gate, AuditVersion::Two, journal, start) {

@@ -8,15 +8,15 @@ ghost use Rattle.gx_audit.specs.Resuming.{IsNew, Stands};
 
 use crate::fault::AuditFault;
 use crate::replaying::replay;
+use gx_answers::AccessGate;
 use gx_audit_bytes::{RECORD_SIZE, write_header};
-use gx_core::Gate;
 use gx_policy::Policy;
 use std::alloc::Global;
 
 /// A day as a file holds it. Its gate is closed, and never dropped.
-pub struct Resumed {
+pub struct Resumed<G> {
     /// The gate of the records in the file.
-    pub gate: Gate,
+    pub gate: G,
     /// How many bytes of the file stand: the journal of these records, or nothing, where no header is there. What is
     /// behind them is to be cut off.
     pub kept: u64,
@@ -38,14 +38,14 @@ fn size_of(count: u64) -> u64
 }
 
 /// A day of which a file holds nothing yet.
-fn begun(alloc: Global, policy: &Policy) -> Result<Resumed, AuditFault>
-    ensures policy { IfOk result (λ r. r.gate.policy ≡ policy.now) }
-    ensures records { IfOk result (λ r. r.gate.records ≡ []) }
+fn begun<G: AccessGate>(alloc: Global, policy: &Policy) -> Result<Resumed<G>, AuditFault>
+    ensures policy { IfOk result (λ r. (G.seen r.gate).policy ≡ policy.now) }
+    ensures records { IfOk result (λ r. (G.seen r.gate).records ≡ []) }
     ensures kept { IfOk result (λ r. r.kept ≡ 0) }
-    ensures legal { IfOk result (λ r. IsLegal policy.now r.gate.records) }
+    ensures legal { IfOk result (λ r. IsLegal policy.now (G.seen r.gate).records) }
     ensures fault { IfErr result (λ e. e ≡ faults.OutOfMemory) }
 {
-    match Gate::open(alloc, policy) {
+    match G::open(alloc, policy) {
         Ok(gate) => {
             gate.is_legal();
             Ok(Resumed { gate, kept: 0 })
@@ -61,17 +61,22 @@ fn begun(alloc: Global, policy: &Policy) -> Result<Resumed, AuditFault>
 /// # Errors
 ///
 /// As of [`replay`]: what the file holds is no journal of a day under the policy. `OutOfMemory` where memory was refused.
-pub fn resume(alloc: Global, policy: &Policy, file: &[u8]) -> Result<Resumed, AuditFault>
-    ensures policy { IfOk result (λ r. r.gate.policy ≡ policy.now) }
-    ensures legal { IfOk result (λ r. IsLegal policy.now r.gate.records) }
-    ensures stands { IfOk result (λ r. Stands policy.now file.now r.gate.records r.kept) }
+pub fn resume<G: AccessGate>(
+    alloc: Global,
+    policy: &Policy,
+    file: &[u8],
+) -> Result<Resumed<G>, AuditFault>
+    ensures policy { IfOk result (λ r. (G.seen r.gate).policy ≡ policy.now) }
+    ensures legal { IfOk result (λ r. IsLegal policy.now (G.seen r.gate).records) }
+    ensures stands { IfOk result
+        (λ r. Stands policy.now file.now (G.seen r.gate).records r.kept) }
     ensures fault { IfErr result (λ e. e ≢ faults.OutOfMemory
         → IsReplayFault policy.now file.now e) }
 {
     if is_new(policy, file) {
         return begun(alloc, policy);
     }
-    match replay(alloc, policy, file) {
+    match replay::<G>(alloc, policy, file) {
         Ok(gate) => {
             let kept = size_of(gate.length());
             Ok(Resumed { gate, kept })

@@ -8,6 +8,7 @@ ghost use Rattle.gx_script.specs.Printing.{line_end};
 use crate::checking::check_audit;
 use crate::fault::AuditFault;
 use crate::writing_fault::AuditingFault;
+use gx_answers::AccessGate;
 use gx_policy::Policy;
 use gx_script::{append, with_number};
 use gx_units::OutOfMemory;
@@ -33,7 +34,7 @@ impl AuditAnswer {
 }
 
 /// Checks that the bytes are the audit of a legal day under the policy.
-pub fn told_of_audit(
+pub fn told_of_audit<G: AccessGate>(
     alloc: Global,
     policy: &Policy,
     audit: &[u8],
@@ -43,7 +44,7 @@ pub fn told_of_audit(
     ensures judged { IfOk result (λ told. IsJudgement told.answer) }
     ensures line { IfOk result (λ told. told.line.items ≡ answer_line told.answer) }
 {
-    let answer = check_audit(alloc, policy, audit);
+    let answer = check_audit::<G>(alloc, policy, audit);
     let line = line_of(alloc, answer)?;
     Ok(AuditAnswer { answer, line })
 }

@@ -25,7 +25,7 @@ use Rattle.gx_effects.proofs.Replacing.{replace_takes_effect}
 use Rattle.gx_effects.proofs.RuleChanges.{limit_takes_effect, restrict_takes_effect, unrestrict_takes_effect}
 use Rattle.gx_effects.proofs.SightChanges.{grant_takes_effect, revoke_takes_effect}
 use Rattle.gx_effects.proofs.Taking.{takes_effect}
-use Rattle.gx_core.specs.Effects.{CommandEffect, GrantEffect, VerdictEffect}
+use Rattle.gx_answers.specs.Effects.{CommandEffect, GrantEffect, VerdictEffect}
 use Rattle.gx_places.proofs.Kills.{unreadable_is_denied}
 
 by_command : (policy : PolicyData) (history : List RecordData) (a : Asked) (r : RecordData) (c : Command)

@@ -13,7 +13,7 @@ ghost use Rattle.gx_answers.specs.Steps.{next_of, verdict_of};
 ghost use Rattle.gx_answers.specs.Told.{stream_of};
 
 use crate::gate::Gate;
-use gx_answers::Outcome;
+use gx_answers::{AccessGate, Outcome};
 use gx_decide::decide;
 use gx_desk::Action;
 use gx_history::facts::Facts;

@@ -7,7 +7,7 @@ ghost use Rattle.gx_answers.specs.Matches.{matching_of, next_match};
 ghost use Rattle.gx_core.specs.Known.{first_of};
 
 use crate::gate::Gate;
-use gx_answers::Outcome;
+use gx_answers::{AccessGate, Outcome};
 use gx_history::live_order::LiveOrder;
 use gx_market::meeting::{best_against, met};
 use gx_units::Moment;

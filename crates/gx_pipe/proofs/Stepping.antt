@@ -28,7 +28,7 @@ use Rattle.gx_answers.specs.Matches.{matching_of, next_match, with_match, settle
 use Rattle.gx_answers.specs.Logins.{login_answered}
 use Rattle.gx_answers.specs.declared.outcome.LoginAnswer.{LoginAnswer}
 use Rattle.gx_answers.specs.declared.outcome.Outcome.{Outcome}
-use Rattle.gx_core.proofs.Stepped.{stepped_is}
+use Rattle.gx_answers.proofs.Stepped.{stepped_is}
 use Rattle.gx_answers.specs.Asking.{stepped}
 use Rattle.gx_pipe.specs.Steps.{login_asked_at, login_told}
 

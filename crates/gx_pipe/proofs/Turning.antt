@@ -45,7 +45,7 @@ use Rattle.gx_pipe.specs.Steps.{login_asked_at, login_told}
 use Rattle.gx_session.specs.Table.{SessionData, row_in, turn}
 use Rattle.gx_session.specs.Sending.{control_bytes, control_text, reports_text}
 use Rattle.gx_pipe.specs.Transcript.{Run, run_at, and_then, with_text, silent, acted, on_event, first_told, logged_in, login_in, with_login, answered, sent, unsent, is_on, pulled}
-use Rattle.gx_core.proofs.Stepped.{all_taken}
+use Rattle.gx_answers.proofs.Stepped.{all_taken}
 
 -- Rows of the table.
 

@@ -6,15 +6,14 @@ ghost use Rattle.gx_answers.specs.Asking.{stepped};
 ghost use Rattle.gx_pipe.specs.Faults.{IsToldFull};
 ghost use Rattle.gx_pipe.specs.Steps.{login_of, login_asked_at, login_told};
 
-use gx_answers::{LoginAnswer, StepFault, asked};
-use gx_core::Gate;
+use gx_answers::{AccessGate, LoginAnswer, StepFault, asked};
 use gx_history::record::Request;
 use gx_soup::LoginRequest;
 
 /// The request of a Login Request packet: whether the password and the session name are right, and the
 /// number wanted.
-fn login_request(gate: &Gate, login: &LoginRequest) -> Request
-    ensures asked { result ≡ login_of gate.now login.now }
+fn login_request<G: AccessGate>(gate: &G, login: &LoginRequest) -> Request
+    ensures asked { result ≡ login_of (G.seen gate.now) login.now }
     ensures first { IsTrue (has_its_first result) }
 {
     gate.login_request(login.user, login.password, login.session, login.wanted)
@@ -22,16 +21,18 @@ fn login_request(gate: &Gate, login: &LoginRequest) -> Request
 
 /// Makes the login's step, and says what it is told.
 #[tactic(auto, unfolding(crate::specs::Steps::login_told), using(gx_history_laws::proofs::Granting::verdict_of_next, crate::proofs::Stepping::told_full))]
-pub(crate) fn login_step(
-    gate: &mut Gate,
+pub(crate) fn login_step<G: AccessGate>(
+    gate: &mut G,
     moment: u64,
     login: &LoginRequest,
 ) -> Result<LoginAnswer, StepFault>
     ensures gate { OnOk result
-        (gate.new ≡ stepped gate.old (login_asked_at gate.old moment login.now)) }
-    ensures told { IfOk result (λ answer. answer ≡ login_told gate.old moment login.now) }
-    ensures err { OnErr result (gate.new ≡ gate.old) }
-    ensures full { IfErr result (IsToldFull gate.new) }
+        (G.seen gate.new
+        ≡ stepped (G.seen gate.old) (login_asked_at (G.seen gate.old) moment login.now)) }
+    ensures told { IfOk result
+        (λ answer. answer ≡ login_told (G.seen gate.old) moment login.now) }
+    ensures err { OnErr result (G.seen gate.new ≡ G.seen gate.old) }
+    ensures full { IfErr result (IsToldFull (G.seen gate.new)) }
 {
     let request = login_request(gate, login);
     let outcome = gate.step(asked(login.user, request, moment))?;

@@ -19,8 +19,7 @@ ghost use Rattle.gx_pipe.specs.Transcript.{run_at, finished, first_told};
 
 use crate::asking::login_step;
 use crate::fault::PipeFault;
-use gx_answers::{LoginAnswer, Pulled, StepFault, asked, count_of};
-use gx_core::Gate;
+use gx_answers::{AccessGate, LoginAnswer, Pulled, StepFault, asked, count_of};
 use gx_devices::Counted;
 use gx_history::record::Request;
 use gx_session::{Event, Next, Phase, Session, send_control, send_pulled};
@@ -43,14 +42,20 @@ pub struct Connection {
 
 /// Makes the step that a session asks for.
 #[tactic(auto, using(crate::proofs::Stepping::told_full))]
-fn act(gate: &mut Gate, user: UserName, next: Next, moment: u64) -> Result<(), StepFault>
+fn act<G: AccessGate>(
+    gate: &mut G,
+    user: UserName,
+    next: Next,
+    moment: u64,
+) -> Result<(), StepFault>
     requires { CanAsk next }
-    ensures ok { OnOk result (gate.new ≡ acted gate.old user moment next) }
-    ensures err { OnErr result (gate.new ≡ gate.old) }
+    ensures ok { OnOk result (G.seen gate.new ≡ acted (G.seen gate.old) user moment next) }
+    ensures err { OnErr result (G.seen gate.new ≡ G.seen gate.old) }
     ensures step { OnErr result (IsTrue (asks_step next)) }
-    ensures sure { OnErr result (IsFalse (is_never_refused gate.old (step_of user moment next))) }
-    ensures grows { length gate.old.records ≤ length gate.new.records }
-    ensures full { IfErr result (IsToldFull gate.new) }
+    ensures sure { OnErr result
+        (IsFalse (is_never_refused (G.seen gate.old) (step_of user moment next))) }
+    ensures grows { length (G.seen gate.old).records ≤ length (G.seen gate.new).records }
+    ensures full { IfErr result (IsToldFull (G.seen gate.new)) }
 {
     match next {
         Next::Act(request) => {
@@ -69,13 +74,13 @@ fn act(gate: &mut Gate, user: UserName, next: Next, moment: u64) -> Result<(), S
 ///
 /// A refused step ends it. Those before it stand, and an order still waits.
 #[tactic(auto, using(crate::proofs::Stepping::match_told_full))]
-fn settle(gate: &mut Gate, moment: u64) -> Result<(), StepFault>
-    ensures ok { OnOk result (gate.new ≡ settled_gate gate.old moment) }
-    ensures err { OnErr result (IsSettling gate.old moment gate.new) }
+fn settle<G: AccessGate>(gate: &mut G, moment: u64) -> Result<(), StepFault>
+    ensures ok { OnOk result (G.seen gate.new ≡ settled_gate (G.seen gate.old) moment) }
+    ensures err { OnErr result (IsSettling (G.seen gate.old) moment (G.seen gate.new)) }
     ensures left { OnErr result (AreFewer
-        gate.new.records (settled_gate gate.old moment).records) }
-    ensures grows { length gate.old.records ≤ length gate.new.records }
-    ensures full { IfErr result (IsToldFull gate.new) }
+        (G.seen gate.new).records (settled_gate (G.seen gate.old) moment).records) }
+    ensures grows { length (G.seen gate.old).records ≤ length (G.seen gate.new).records }
+    ensures full { IfErr result (IsToldFull (G.seen gate.new)) }
 {
     loop {
         // What this ensures: the records are those of a legal day, on which what settles rests.
@@ -104,10 +109,10 @@ impl Connection {
     ///
     /// Where the step is refused, the session stands as before the event.
     #[tactic(auto, using(crate::proofs::Stepping::of_step), unfolding(crate::specs::Transcript::on_event))]
-    fn turn<W: Write>(
+    fn turn<G: AccessGate, W: Write>(
         &mut self,
         alloc: Global,
-        gate: &mut Gate,
+        gate: &mut G,
         event: Event<'_>,
         moment: u64,
         writer: &mut Counted<W>,
@@ -116,14 +121,15 @@ impl Connection {
         ensures next { IfOk result (λ next.
             next ≡ (turn self.old.session (happening event.entry) moment).reply.next) }
         ensures ok { OnOk result (IsTaken
-            (on_event gate.old self.old (happening event.entry) moment) gate.new self.new
+            (on_event (G.seen gate.old) self.old (happening event.entry) moment)
+            (G.seen gate.new) self.new
             (W.contents writer.old.device) (W.contents writer.new.device)) }
-        ensures err { IfErr result (λ fault. IsTurnGivenUp gate.old self.old
-            (happening event.entry) moment fault gate.new self.new
+        ensures err { IfErr result (λ fault. IsTurnGivenUp (G.seen gate.old) self.old
+            (happening event.entry) moment fault (G.seen gate.new) self.new
             (W.contents writer.old.device) (W.contents writer.new.device)) }
         ensures kept { OnOk result (writer.new.failed ≡ writer.old.failed) }
         ensures told { IfErr result (IsToldRightly
-            0 0 writer.old.failed writer.new.failed gate.new) }
+            0 0 writer.old.failed writer.new.failed (G.seen gate.new)) }
     {
         let mut session = self.session;
         let reply = session.on(event, moment);
@@ -137,24 +143,26 @@ impl Connection {
 
     /// Makes a login's step, and tells the session of its answer.
     #[tactic(auto, using(crate::proofs::Stepping::of_step), unfolding(crate::specs::Transcript::logged_in))]
-    fn log_in<W: Write>(
+    fn log_in<G: AccessGate, W: Write>(
         &mut self,
         alloc: Global,
-        gate: &mut Gate,
+        gate: &mut G,
         login: &LoginRequest,
         moment: u64,
         writer: &mut Counted<W>,
     ) -> Result<(), PipeFault>
         requires waiting { self.old.session.phase ≡ Waiting }
         requires writer { writer.old.failed < 2 ^ 64 - 1 }
-        ensures ok { OnOk result (IsTaken (logged_in gate.old self.old login.now moment)
-            gate.new self.new (W.contents writer.old.device) (W.contents writer.new.device)) }
-        ensures err { IfErr result (λ fault. IsGivenUp gate.old self.old
-            (logged_in gate.old self.old login.now moment) fault gate.new self.new
+        ensures ok { OnOk result (IsTaken (logged_in (G.seen gate.old) self.old login.now moment)
+            (G.seen gate.new) self.new
+            (W.contents writer.old.device) (W.contents writer.new.device)) }
+        ensures err { IfErr result (λ fault. IsGivenUp (G.seen gate.old) self.old
+            (logged_in (G.seen gate.old) self.old login.now moment) fault
+            (G.seen gate.new) self.new
             (W.contents writer.old.device) (W.contents writer.new.device)) }
         ensures kept { OnOk result (writer.new.failed ≡ writer.old.failed) }
         ensures told { IfErr result (IsToldRightly
-            0 0 writer.old.failed writer.new.failed gate.new) }
+            0 0 writer.old.failed writer.new.failed (G.seen gate.new)) }
     {
         let answer = login_step(gate, moment, login)?;
         self.user = login.user;
@@ -165,23 +173,25 @@ impl Connection {
 
     /// Tells the session of a packet; where it asks for a login, makes and answers it.
     #[tactic(auto, unfolding(crate::specs::Transcript::answered))]
-    fn answer<W: Write>(
+    fn answer<G: AccessGate, W: Write>(
         &mut self,
         alloc: Global,
-        gate: &mut Gate,
+        gate: &mut G,
         packet: &ClientPacket,
         moment: u64,
         writer: &mut Counted<W>,
     ) -> Result<(), PipeFault>
         requires { writer.old.failed < 2 ^ 64 - 1 }
-        ensures ok { OnOk result (IsTaken (answered gate.old self.old packet.now moment)
-            gate.new self.new (W.contents writer.old.device) (W.contents writer.new.device)) }
-        ensures err { IfErr result (λ fault. IsGivenUp gate.old self.old
-            (answered gate.old self.old packet.now moment) fault gate.new self.new
+        ensures ok { OnOk result (IsTaken (answered (G.seen gate.old) self.old packet.now moment)
+            (G.seen gate.new) self.new
+            (W.contents writer.old.device) (W.contents writer.new.device)) }
+        ensures err { IfErr result (λ fault. IsGivenUp (G.seen gate.old) self.old
+            (answered (G.seen gate.old) self.old packet.now moment) fault
+            (G.seen gate.new) self.new
             (W.contents writer.old.device) (W.contents writer.new.device)) }
         ensures kept { OnOk result (writer.new.failed ≡ writer.old.failed) }
         ensures told { IfErr result (IsToldRightly
-            0 0 writer.old.failed writer.new.failed gate.new) }
+            0 0 writer.old.failed writer.new.failed (G.seen gate.new)) }
     {
         let next = self.turn(alloc, gate, Event::Packet(packet), moment, writer)?;
         match (next, packet) {
@@ -194,11 +204,12 @@ impl Connection {
 
     /// Makes the matching steps that follow a packet; none once the session is over.
     #[tactic(auto, using(crate::proofs::Stepping::of_matching), unfolding(crate::specs::Transcript::matched))]
-    fn match_orders(&self, gate: &mut Gate, moment: u64) -> Result<(), StepFault>
-        ensures ok { OnOk result (gate.new ≡ (matched gate.old self.now moment).gate) }
+    fn match_orders<G: AccessGate>(&self, gate: &mut G, moment: u64) -> Result<(), StepFault>
+        ensures ok { OnOk result
+            (G.seen gate.new ≡ (matched (G.seen gate.old) self.now moment).gate) }
         ensures err { IfErr result (λ refused. IsMatchedInPart
-            gate.old self.now moment (fault_of_step refused) gate.new) }
-        ensures full { IfErr result (IsToldFull gate.new) }
+            (G.seen gate.old) self.now moment (fault_of_step refused) (G.seen gate.new)) }
+        ensures full { IfErr result (IsToldFull (G.seen gate.new)) }
     {
         if self.is_over() {
             return Ok(());
@@ -207,8 +218,9 @@ impl Connection {
     }
 
     /// All reports that are there.
-    fn reports(&self, gate: &Gate) -> Result<Pulled, OutOfMemory>
-        ensures all { IfOk result (λ p. GivesAll gate.now self.now p.reports p.next p.ended) }
+    fn reports<G: AccessGate>(&self, gate: &G) -> Result<Pulled, OutOfMemory>
+        ensures all { IfOk result
+            (λ p. GivesAll (G.seen gate.now) self.now p.reports p.next p.ended) }
     {
         let pulled = gate.reports(self.user.folded(), self.next, u64::MAX)?;
         let _few = count_of(pulled.reports.as_slice());
@@ -217,26 +229,27 @@ impl Connection {
 
     /// Sends all reports that are there, where a user is logged in, and tells the session of them.
     #[tactic(auto, unfolding(crate::specs::Transcript::pulled, crate::specs::Transcript::sent))]
-    fn pull<W: Write>(
+    fn pull<G: AccessGate, W: Write>(
         &mut self,
         alloc: Global,
-        gate: &mut Gate,
+        gate: &mut G,
         moment: u64,
         writer: &mut Counted<W>,
     ) -> Result<(), PipeFault>
         requires { writer.old.failed < 2 ^ 64 - 1 }
-        ensures ok { OnOk result (IsTaken (pulled gate.old self.old moment)
-            gate.new self.new (W.contents writer.old.device) (W.contents writer.new.device)) }
+        ensures ok { OnOk result (IsTaken (pulled (G.seen gate.old) self.old moment)
+            (G.seen gate.new) self.new
+            (W.contents writer.old.device) (W.contents writer.new.device)) }
         ensures err { IfErr result (λ fault. (text : List ℕ)
             (more : List (Mark RecordData Standing)) → StopsIn
-            (run_at gate.old self.old text)
-            (pull_marks (run_at gate.old self.old text) moment ++ more)
-            fault gate.new self.new
+            (run_at (G.seen gate.old) self.old text)
+            (pull_marks (run_at (G.seen gate.old) self.old text) moment ++ more)
+            fault (G.seen gate.new) self.new
             (W.contents writer.old.device) (W.contents writer.new.device)) }
         ensures kept { OnOk result (writer.new.failed ≡ writer.old.failed) }
         ensures finite { IfErr result IsFinite }
         ensures told { IfErr result (IsToldRightly
-            0 0 writer.old.failed writer.new.failed gate.new) }
+            0 0 writer.old.failed writer.new.failed (G.seen gate.new)) }
     {
         if !self.is_on() {
             return Ok(());
@@ -253,26 +266,27 @@ impl Connection {
     /// Takes a packet at its moment: tells the session of it, makes matching steps until no order
     /// waits, and then sends reports. Nothing once the session is over.
     #[tactic(auto, unfolding(crate::specs::Transcript::handled))]
-    pub(crate) fn take<W: Write>(
+    pub(crate) fn take<G: AccessGate, W: Write>(
         &mut self,
         alloc: Global,
-        gate: &mut Gate,
+        gate: &mut G,
         packet: &ClientPacket,
         writer: &mut Counted<W>,
     ) -> Result<(), PipeFault>
         requires { writer.old.failed < 2 ^ 64 - 1 }
-        ensures ok { OnOk result (IsTaken (handled gate.old self.old packet.now)
-            gate.new self.new (W.contents writer.old.device) (W.contents writer.new.device)) }
+        ensures ok { OnOk result (IsTaken (handled (G.seen gate.old) self.old packet.now)
+            (G.seen gate.new) self.new
+            (W.contents writer.old.device) (W.contents writer.new.device)) }
         ensures err { IfErr result (λ fault. (text : List ℕ)
             (more : List (Mark RecordData Standing)) → StopsIn
-            (run_at gate.old self.old text)
-            (packet_marks (run_at gate.old self.old text) packet.now ++ more)
-            fault gate.new self.new
+            (run_at (G.seen gate.old) self.old text)
+            (packet_marks (run_at (G.seen gate.old) self.old text) packet.now ++ more)
+            fault (G.seen gate.new) self.new
             (W.contents writer.old.device) (W.contents writer.new.device)) }
         ensures kept { OnOk result (writer.new.failed ≡ writer.old.failed) }
         ensures finite { IfErr result IsFinite }
         ensures told { IfErr result (IsToldRightly
-            0 0 writer.old.failed writer.new.failed gate.new) }
+            0 0 writer.old.failed writer.new.failed (G.seen gate.new)) }
     {
         if self.is_over() {
             return Ok(());
@@ -308,14 +322,20 @@ impl Connection {
     ///
     /// A logout that the gate grants is not refused; and of a user who is on it grants it, wherever a run stops.
     #[tactic(auto, using(crate::proofs::Leaving::leaves_as_at_the_end, crate::proofs::Leaving::refused_as_at_the_end, crate::proofs::Leaving::asks_as_at_the_end))]
-    pub(crate) fn leave(&mut self, gate: &mut Gate, event: Event<'_>) -> Result<(), StepFault>
+    pub(crate) fn leave<G: AccessGate>(
+        &mut self,
+        gate: &mut G,
+        event: Event<'_>,
+    ) -> Result<(), StepFault>
         requires { IsLeaving (happening event) }
-        ensures ok { OnOk result (gate.new ≡ (finished (silent gate.old self.old)).gate) }
-        ensures err { OnErr result ((gate.new ≡ gate.old) × (self.new ≡ self.old)) }
+        ensures ok { OnOk result
+            (G.seen gate.new ≡ (finished (silent (G.seen gate.old) self.old)).gate) }
+        ensures err { OnErr result ((G.seen gate.new ≡ G.seen gate.old) × (self.new ≡ self.old)) }
         ensures asks { OnErr result (IsTrue (is_on self.old.session.phase)) }
-        ensures sure { OnErr result (IsFalse (is_never_refused gate.old (logout_of self.old))) }
-        ensures grows { length gate.old.records ≤ length gate.new.records }
-        ensures full { IfErr result (IsToldFull gate.new) }
+        ensures sure { OnErr result
+            (IsFalse (is_never_refused (G.seen gate.old) (logout_of self.old))) }
+        ensures grows { length (G.seen gate.old).records ≤ length (G.seen gate.new).records }
+        ensures full { IfErr result (IsToldFull (G.seen gate.new)) }
     {
         let moment = self.session.heard();
         let mut session = self.session;

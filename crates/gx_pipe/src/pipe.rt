@@ -12,8 +12,7 @@ ghost use Rattle.gx_pipe.specs.Transcript.{run_at, silent, on_packet, opened_at}
 
 use crate::connection::Connection;
 use crate::fault::PipeFault;
-use gx_answers::StepFault;
-use gx_core::Gate;
+use gx_answers::{AccessGate, StepFault};
 use gx_devices::Counted;
 use gx_session::Event;
 use gx_soup::{ClientPacket, Feeder};
@@ -24,24 +23,27 @@ use std::io::{Read, Write};
 const READS: u64 = 1_000_000_000;
 
 /// Takes packets in order, each answered before the next.
-fn take_packets<W: Write>(
+fn take_packets<G: AccessGate, W: Write>(
     alloc: Global,
-    gate: &mut Gate,
+    gate: &mut G,
     connection: &mut Connection,
     writer: &mut Counted<W>,
     packets: &[ClientPacket],
 ) -> Result<(), PipeFault>
     requires { writer.old.failed < 2 ^ 64 - 1 }
-    ensures ok { OnOk result (IsTaken (fold on_packet (silent gate.old connection.old) packets.now)
-        gate.new connection.new (W.contents writer.old.device) (W.contents writer.new.device)) }
+    ensures ok { OnOk result
+        (IsTaken (fold on_packet (silent (G.seen gate.old) connection.old) packets.now)
+        (G.seen gate.new) connection.new
+        (W.contents writer.old.device) (W.contents writer.new.device)) }
     ensures err { IfErr result (λ fault. (text : List ℕ) → StopsIn
-        (run_at gate.old connection.old text)
-        (trail packet_marks on_packet (run_at gate.old connection.old text) packets.now)
-        fault gate.new connection.new
+        (run_at (G.seen gate.old) connection.old text)
+        (trail packet_marks on_packet (run_at (G.seen gate.old) connection.old text) packets.now)
+        fault (G.seen gate.new) connection.new
         (W.contents writer.old.device) (W.contents writer.new.device)) }
     ensures kept { OnOk result (writer.new.failed ≡ writer.old.failed) }
     ensures finite { IfErr result IsFinite }
-    ensures told { IfErr result (IsToldRightly 0 0 writer.old.failed writer.new.failed gate.new) }
+    ensures told { IfErr result
+        (IsToldRightly 0 0 writer.old.failed writer.new.failed (G.seen gate.new)) }
 {
     for packet in packets {
         connection.take(alloc, gate, packet, writer)?;
@@ -50,9 +52,9 @@ fn take_packets<W: Write>(
 }
 
 /// Reads a piece, and answers its packets. The answer says whether the connection is at its end.
-fn exchange<W: Write>(
+fn exchange<G: AccessGate, W: Write>(
     alloc: Global,
-    gate: &mut Gate,
+    gate: &mut G,
     connection: &mut Connection,
     feeder: &mut Feeder,
     writer: &mut Counted<W>,
@@ -60,16 +62,17 @@ fn exchange<W: Write>(
 ) -> Result<bool, PipeFault>
     requires { writer.old.failed < 2 ^ 64 - 1 }
     ensures ok { IfOk result (λ over. (before : GateData) (first : ℕ) (bytes : List ℕ)
-        → Follows before first bytes gate.old connection.old feeder.old
-        → Exchanged before first bytes piece.now over gate.new connection.new feeder.new
+        → Follows before first bytes (G.seen gate.old) connection.old feeder.old
+        → Exchanged before first bytes piece.now over (G.seen gate.new) connection.new feeder.new
         (W.contents writer.old.device) (W.contents writer.new.device)) }
     ensures err { IfErr result (λ fault. (before : GateData) (first : ℕ) (bytes : List ℕ)
-        → Follows before first bytes gate.old connection.old feeder.old
-        → Broken before first bytes piece.now fault gate.new connection.new
+        → Follows before first bytes (G.seen gate.old) connection.old feeder.old
+        → Broken before first bytes piece.now fault (G.seen gate.new) connection.new
         (W.contents writer.old.device) (W.contents writer.new.device)) }
     ensures kept { OnOk result (writer.new.failed ≡ writer.old.failed) }
     ensures finite { IfErr result IsFinite }
-    ensures told { IfErr result (IsToldRightly 0 0 writer.old.failed writer.new.failed gate.new) }
+    ensures told { IfErr result
+        (IsToldRightly 0 0 writer.old.failed writer.new.failed (G.seen gate.new)) }
 {
     let fed = feeder.feed(piece)?;
     take_packets(alloc, gate, connection, writer, fed.packets.as_slice())?;
@@ -77,9 +80,9 @@ fn exchange<W: Write>(
 }
 
 /// Runs a connection until its end or a fault, with so many reads at most.
-fn serve<R: Read, W: Write>(
+fn serve<G: AccessGate, R: Read, W: Write>(
     alloc: Global,
-    gate: &mut Gate,
+    gate: &mut G,
     first: u64,
     connection: &mut Connection,
     reader: &mut Counted<R>,
@@ -91,19 +94,22 @@ fn serve<R: Read, W: Write>(
     requires writer { writer.old.failed < 2 ^ 64 - 1 }
     ensures pipe { OnOk result (IsTranscript
         (R.remaining reader.old.device) (R.remaining reader.new.device)
-        (W.contents writer.old.device) (W.contents writer.new.device) gate.old first gate.new) }
+        (W.contents writer.old.device) (W.contents writer.new.device)
+        (G.seen gate.old) first (G.seen gate.new)) }
     ensures all { OnOk result (IfSome (R.remaining reader.old.device) (λ input. IsPipe input
-        (W.contents writer.old.device) (W.contents writer.new.device) gate.old first gate.new)) }
+        (W.contents writer.old.device) (W.contents writer.new.device)
+        (G.seen gate.old) first (G.seen gate.new))) }
     ensures cut { IfErr result (λ fault. IsCutShort
         (R.remaining reader.old.device) (R.remaining reader.new.device)
         (W.contents writer.old.device) (W.contents writer.new.device)
-        gate.old first fault gate.new connection.new) }
+        (G.seen gate.old) first fault (G.seen gate.new) connection.new) }
     ensures unfailing { OnOk result (IsUnfailing
         reader.old.failed reader.new.failed writer.old.failed writer.new.failed) }
     ensures endless { IsErrOf result PipeFault.Endless
         → counted_on reader.old.calls reads ≤ reader.new.calls }
     ensures told { IfErr result (IsToldRightly
-        reader.old.failed reader.new.failed writer.old.failed writer.new.failed gate.new) }
+        reader.old.failed reader.new.failed writer.old.failed writer.new.failed
+        (G.seen gate.new)) }
 {
     let mut feeder = Feeder::new(alloc);
     let mut buffer = [0u8; 4096];
@@ -145,9 +151,9 @@ fn told<'a>(fault: PipeFault) -> Event<'a>
 /// out at the moment of the last packet, without exception: it wants no memory, and no room in the day.
 ///
 /// The input is read at most `reads` times, and is called endless where it has not ended by then.
-pub fn run_pipe_within<R: Read, W: Write>(
+pub fn run_pipe_within<G: AccessGate, R: Read, W: Write>(
     alloc: Global,
-    gate: &mut Gate,
+    gate: &mut G,
     first: u64,
     reader: &mut Counted<R>,
     writer: &mut Counted<W>,
@@ -157,21 +163,24 @@ pub fn run_pipe_within<R: Read, W: Write>(
     requires writer { writer.old.failed < 2 ^ 64 - 1 }
     ensures pipe { OnOk result (IsTranscript
         (R.remaining reader.old.device) (R.remaining reader.new.device)
-        (W.contents writer.old.device) (W.contents writer.new.device) gate.old first gate.new) }
+        (W.contents writer.old.device) (W.contents writer.new.device)
+        (G.seen gate.old) first (G.seen gate.new)) }
     // Where the reader tells its bytes: the gate and the bytes written are the pipe's of all.
     ensures all { OnOk result (IfSome (R.remaining reader.old.device) (λ input. IsPipe input
-        (W.contents writer.old.device) (W.contents writer.new.device) gate.old first gate.new)) }
+        (W.contents writer.old.device) (W.contents writer.new.device)
+        (G.seen gate.old) first (G.seen gate.new))) }
     // The first packets were taken and answered whole; at a failed read or an endless input, all.
     ensures fault { IfErr result (λ fault. IsAfterFault
         (R.remaining reader.old.device) (R.remaining reader.new.device)
         (W.contents writer.old.device) (W.contents writer.new.device)
-        gate.old first gate.new fault) }
+        (G.seen gate.old) first (G.seen gate.new) fault) }
     ensures unfailing { OnOk result (IsUnfailing
         reader.old.failed reader.new.failed writer.old.failed writer.new.failed) }
     ensures endless { IsErrOf result PipeFault.Endless
         → counted_on reader.old.calls reads ≤ reader.new.calls }
     ensures told { IfErr result (IsToldRightly
-        reader.old.failed reader.new.failed writer.old.failed writer.new.failed gate.new) }
+        reader.old.failed reader.new.failed writer.old.failed writer.new.failed
+        (G.seen gate.new)) }
 {
     let mut connection = Connection::new(first);
     match serve(alloc, gate, first, &mut connection, reader, writer, reads) {
@@ -184,9 +193,9 @@ pub fn run_pipe_within<R: Read, W: Write>(
 }
 
 /// [`run_pipe_within`] a thousand million reads.
-pub fn run_pipe<R: Read, W: Write>(
+pub fn run_pipe<G: AccessGate, R: Read, W: Write>(
     alloc: Global,
-    gate: &mut Gate,
+    gate: &mut G,
     first: u64,
     reader: &mut Counted<R>,
     writer: &mut Counted<W>,
@@ -195,21 +204,24 @@ pub fn run_pipe<R: Read, W: Write>(
     requires writer { writer.old.failed < 2 ^ 64 - 1 }
     ensures pipe { OnOk result (IsTranscript
         (R.remaining reader.old.device) (R.remaining reader.new.device)
-        (W.contents writer.old.device) (W.contents writer.new.device) gate.old first gate.new) }
+        (W.contents writer.old.device) (W.contents writer.new.device)
+        (G.seen gate.old) first (G.seen gate.new)) }
     // Where the reader tells its bytes: the gate and the bytes written are the pipe's of all.
     ensures all { OnOk result (IfSome (R.remaining reader.old.device) (λ input. IsPipe input
-        (W.contents writer.old.device) (W.contents writer.new.device) gate.old first gate.new)) }
+        (W.contents writer.old.device) (W.contents writer.new.device)
+        (G.seen gate.old) first (G.seen gate.new))) }
     // The first packets were taken and answered whole; at a failed read or an endless input, all.
     ensures fault { IfErr result (λ fault. IsAfterFault
         (R.remaining reader.old.device) (R.remaining reader.new.device)
         (W.contents writer.old.device) (W.contents writer.new.device)
-        gate.old first gate.new fault) }
+        (G.seen gate.old) first (G.seen gate.new) fault) }
     ensures unfailing { OnOk result (IsUnfailing
         reader.old.failed reader.new.failed writer.old.failed writer.new.failed) }
     ensures endless { IsErrOf result PipeFault.Endless
         → counted_on reader.old.calls 1000000000 ≤ reader.new.calls }
     ensures told { IfErr result (IsToldRightly
-        reader.old.failed reader.new.failed writer.old.failed writer.new.failed gate.new) }
+        reader.old.failed reader.new.failed writer.old.failed writer.new.failed
+        (G.seen gate.new)) }
 {
     run_pipe_within(alloc, gate, first, reader, writer, READS)
 }

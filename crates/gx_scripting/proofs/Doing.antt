@@ -17,7 +17,7 @@ use Rattle.gx_script.specs.Printing.{outcome_line, refused_line}
 use Rattle.gx_devices.proofs.Stopping.{first_same}
 use Rattle.gx_scripting.specs.Leaving.{IsHalf}
 use Rattle.gx_scripting.specs.Scripting.{Printed, step_of}
-use Rattle.gx_core.proofs.Stepped.{stepped_is, all_taken}
+use Rattle.gx_answers.proofs.Stepped.{stepped_is, all_taken}
 
 pub if_ok : {T E : Type 0} (r : Result T E) (P Q : T → Type 0) → ((x : T) → P x → Q x) → IfOk r P → IfOk r Q
 if_ok (Ok x) P Q f p = f x p

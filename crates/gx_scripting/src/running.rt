@@ -12,8 +12,7 @@ ghost use Rattle.gx_scripting.specs.Scripting.{effect_of, line_effect};
 ghost use Rattle.gx_scripting.specs.Leaving.{IsHalf, Leaves};
 
 use crate::script_fault::LineFault;
-use gx_answers::{StepFault, asked, count_of};
-use gx_core::Gate;
+use gx_answers::{AccessGate, StepFault, asked, count_of};
 use gx_history::record::{Asked, Request};
 use gx_script::{
     ScriptLine, ScriptStep, Wanted, Wrong, append, append_idle, append_outcome, append_refused,
@@ -27,9 +26,9 @@ const BLANK_SESSION: SessionName = SessionName {
     bytes: *b"          ",
 };
 
-fn request_of(gate: &Gate, user: UserName, step: &ScriptStep) -> Request
+fn request_of<G: AccessGate>(gate: &G, user: UserName, step: &ScriptStep) -> Request
     requires { IsAskable step.now }
-    ensures request { result ≡ request_of_step gate.now user step.now }
+    ensures request { result ≡ request_of_step (G.seen gate.now) user step.now }
     ensures first { IsTrue (has_its_first result) }
 {
     match step {
@@ -47,12 +46,13 @@ fn request_of(gate: &Gate, user: UserName, step: &ScriptStep) -> Request
 
 /// Makes a step, and puts its line into the text.
 #[tactic(auto, unfolding(crate::specs::Scripting::step_of))]
-fn step(gate: &mut Gate, a: Asked, text: &mut Vec<u8>) -> Result<(), OutOfMemory>
+fn step<G: AccessGate>(gate: &mut G, a: Asked, text: &mut Vec<u8>) -> Result<(), OutOfMemory>
     requires askable { IsTrue (is_askable a) }
     requires empty { text.old.items ≡ [] }
-    ensures ok { OnOk result (step_of gate.old a
-        ≡ record { gate = gate.new; text = text.new.items }) }
-    ensures err { OnErr result (IsHalf gate.old (Some (step_of gate.old a)) gate.new) }
+    ensures ok { OnOk result (step_of (G.seen gate.old) a
+        ≡ record { gate = G.seen gate.new; text = text.new.items }) }
+    ensures err { OnErr result
+        (IsHalf (G.seen gate.old) (Some (step_of (G.seen gate.old) a)) (G.seen gate.new)) }
 {
     match gate.step(a) {
         Ok(outcome) => append_outcome(text, outcome.number, &outcome.verdict),
@@ -65,15 +65,19 @@ fn step(gate: &mut Gate, a: Asked, text: &mut Vec<u8>) -> Result<(), OutOfMemory
 ///
 /// Without memory the step may be made or not.
 #[tactic(auto, unfolding(crate::specs::Scripting::match_of))]
-fn add_match(gate: &mut Gate, moment: u64, text: &mut Vec<u8>) -> Result<bool, OutOfMemory>
-    ensures over { IfOk result (λ over. over ≡ makes_none gate.old moment) }
-    ensures gate { OnOk result (gate.new ≡ (match_of gate.old moment).gate) }
+fn add_match<G: AccessGate>(
+    gate: &mut G,
+    moment: u64,
+    text: &mut Vec<u8>,
+) -> Result<bool, OutOfMemory>
+    ensures over { IfOk result (λ over. over ≡ makes_none (G.seen gate.old) moment) }
+    ensures gate { OnOk result (G.seen gate.new ≡ (match_of (G.seen gate.old) moment).gate) }
     ensures text { OnOk result (text.new.items
-        ≡ text.old.items ++ (match_of gate.old moment).text) }
+        ≡ text.old.items ++ (match_of (G.seen gate.old) moment).text) }
     ensures fewer { IfOk result (λ over.
-        IsFalse over → matches_left gate.new < matches_left gate.old) }
-    ensures err { OnErr result ((gate.new ≡ gate.old)
-        ⊎ (gate.new ≡ (match_of gate.old moment).gate)) }
+        IsFalse over → matches_left (G.seen gate.new) < matches_left (G.seen gate.old)) }
+    ensures err { OnErr result ((G.seen gate.new ≡ G.seen gate.old)
+        ⊎ (G.seen gate.new ≡ (match_of (G.seen gate.old) moment).gate)) }
 {
     match gate.match_one(moment) {
         Ok(Some(outcome)) => {
@@ -93,22 +97,32 @@ fn add_match(gate: &mut Gate, moment: u64, text: &mut Vec<u8>) -> Result<bool, O
 }
 
 /// Makes a matching step, and puts its line into the text.
-fn match_line(gate: &mut Gate, moment: u64, text: &mut Vec<u8>) -> Result<(), OutOfMemory>
+fn match_line<G: AccessGate>(
+    gate: &mut G,
+    moment: u64,
+    text: &mut Vec<u8>,
+) -> Result<(), OutOfMemory>
     requires empty { text.old.items ≡ [] }
-    ensures ok { OnOk result (match_of gate.old moment
-        ≡ record { gate = gate.new; text = text.new.items }) }
-    ensures err { OnErr result (IsHalf gate.old (Some (match_of gate.old moment)) gate.new) }
+    ensures ok { OnOk result (match_of (G.seen gate.old) moment
+        ≡ record { gate = G.seen gate.new; text = text.new.items }) }
+    ensures err { OnErr result
+        (IsHalf (G.seen gate.old) (Some (match_of (G.seen gate.old) moment)) (G.seen gate.new)) }
 {
     add_match(gate, moment, text)?;
     Ok(())
 }
 
 /// Makes matching steps until no order waits, and puts their lines into the text.
-fn settle_lines(gate: &mut Gate, moment: u64, text: &mut Vec<u8>) -> Result<(), OutOfMemory>
+fn settle_lines<G: AccessGate>(
+    gate: &mut G,
+    moment: u64,
+    text: &mut Vec<u8>,
+) -> Result<(), OutOfMemory>
     requires empty { text.old.items ≡ [] }
-    ensures ok { OnOk result (settle_of gate.old moment
-        ≡ record { gate = gate.new; text = text.new.items }) }
-    ensures err { OnErr result (IsHalf gate.old (Some (settle_of gate.old moment)) gate.new) }
+    ensures ok { OnOk result (settle_of (G.seen gate.old) moment
+        ≡ record { gate = G.seen gate.new; text = text.new.items }) }
+    ensures err { OnErr result
+        (IsHalf (G.seen gate.old) (Some (settle_of (G.seen gate.old) moment)) (G.seen gate.new)) }
 {
     loop {
         // What this ensures: the records are those of a legal day, on which what settles rests.
@@ -120,9 +134,13 @@ fn settle_lines(gate: &mut Gate, moment: u64, text: &mut Vec<u8>) -> Result<(), 
 }
 
 /// The lines of the user's stream.
-fn stream_lines(alloc: Global, gate: &Gate, user: UserName) -> Result<Vec<u8>, OutOfMemory>
+fn stream_lines<G: AccessGate>(
+    alloc: Global,
+    gate: &G,
+    user: UserName,
+) -> Result<Vec<u8>, OutOfMemory>
     ensures { IfOk result (λ text. text.items
-        ≡ report_lines user 1 (stream gate.now.policy gate.now.records user)) }
+        ≡ report_lines user 1 (stream (G.seen gate.now).policy (G.seen gate.now).records user)) }
 {
     let pulled = gate.reports(user, 1, u64::MAX)?;
     let reports = pulled.reports.as_slice();
@@ -132,11 +150,12 @@ fn stream_lines(alloc: Global, gate: &Gate, user: UserName) -> Result<Vec<u8>, O
 
 /// Puts the lines of the user's stream into the text. The user has to be one of the policy.
 #[tactic(auto, unfolding(crate::specs::Scripting::effect_of))]
-fn add_stream(gate: &Gate, user: UserName, text: &mut Vec<u8>) -> Result<(), LineFault>
+fn add_stream<G: AccessGate>(gate: &G, user: UserName, text: &mut Vec<u8>) -> Result<(), LineFault>
     requires empty { text.old.items ≡ [] }
-    ensures ok { OnOk result (effect_of gate.now (Stream user)
-        ≡ Some (record { gate = gate.now; text = text.new.items })) }
-    ensures err { IfErr result (Leaves gate.now (effect_of gate.now (Stream user)) gate.now) }
+    ensures ok { OnOk result (effect_of (G.seen gate.now) (Stream user)
+        ≡ Some (record { gate = G.seen gate.now; text = text.new.items })) }
+    ensures err { IfErr result
+        (Leaves (G.seen gate.now) (effect_of (G.seen gate.now) (Stream user)) (G.seen gate.now)) }
 {
     if !gate.knows(user) {
         return Err(LineFault::Bad(Wrong::new(2, Wanted::KnownUser)));
@@ -148,12 +167,17 @@ fn add_stream(gate: &Gate, user: UserName, text: &mut Vec<u8>) -> Result<(), Lin
 
 /// Does what a line asks for, and puts what it prints into the text.
 #[tactic(auto, unfolding(crate::specs::Scripting::effect_of))]
-fn run_line(gate: &mut Gate, line: &ScriptLine, text: &mut Vec<u8>) -> Result<(), LineFault>
+fn run_line<G: AccessGate>(
+    gate: &mut G,
+    line: &ScriptLine,
+    text: &mut Vec<u8>,
+) -> Result<(), LineFault>
     requires askable { IsAskableLine line.now }
     requires empty { text.old.items ≡ [] }
-    ensures ok { OnOk result (effect_of gate.old line.now
-        ≡ Some (record { gate = gate.new; text = text.new.items })) }
-    ensures err { IfErr result (Leaves gate.old (effect_of gate.old line.now) gate.new) }
+    ensures ok { OnOk result (effect_of (G.seen gate.old) line.now
+        ≡ Some (record { gate = G.seen gate.new; text = text.new.items })) }
+    ensures err { IfErr result
+        (Leaves (G.seen gate.old) (effect_of (G.seen gate.old) line.now) (G.seen gate.new)) }
 {
     match line {
         ScriptLine::Skipped => Ok(()),
@@ -169,11 +193,16 @@ fn run_line(gate: &mut Gate, line: &ScriptLine, text: &mut Vec<u8>) -> Result<()
 
 /// Does what the bytes of a line ask for, and puts what they print into the text.
 #[tactic(auto, unfolding(crate::specs::Scripting::line_effect))]
-pub(crate) fn take_line(gate: &mut Gate, line: &[u8], text: &mut Vec<u8>) -> Result<(), LineFault>
+pub(crate) fn take_line<G: AccessGate>(
+    gate: &mut G,
+    line: &[u8],
+    text: &mut Vec<u8>,
+) -> Result<(), LineFault>
     requires empty { text.old.items ≡ [] }
-    ensures ok { OnOk result (line_effect gate.old line.now
-        ≡ Some (record { gate = gate.new; text = text.new.items })) }
-    ensures err { IfErr result (Leaves gate.old (line_effect gate.old line.now) gate.new) }
+    ensures ok { OnOk result (line_effect (G.seen gate.old) line.now
+        ≡ Some (record { gate = G.seen gate.new; text = text.new.items })) }
+    ensures err { IfErr result
+        (Leaves (G.seen gate.old) (line_effect (G.seen gate.old) line.now) (G.seen gate.new)) }
 {
     let line = ScriptLine::read(line)?;
     run_line(gate, &line, text)

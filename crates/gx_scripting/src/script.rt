@@ -11,7 +11,7 @@ ghost use Rattle.gx_scripting.specs.ScriptTexts.{ended, has_no_end, is_end};
 
 use crate::running::take_line;
 use crate::script_fault::{Explained, LineFault, ScriptFault};
-use gx_core::Gate;
+use gx_answers::AccessGate;
 use gx_devices::{Counted, write_whole};
 use gx_script::{Wanted, Wrong};
 use gx_units::OutOfMemory;
@@ -34,19 +34,20 @@ struct Held {
 }
 
 /// Does the line that is held back, and writes what it prints.
-fn end_line<W: Write>(
-    gate: &mut Gate,
+fn end_line<G: AccessGate, W: Write>(
+    gate: &mut G,
     held: &mut Held,
     writer: &mut Counted<W>,
 ) -> Result<(), ScriptFault>
     requires writer { writer.old.failed < 2 ^ 64 - 1 }
     requires room { held.old.lines < 2 ^ 64 - 1 }
-    ensures ok { OnOk result (EndsLine gate.old held.old.rest.items gate.new
+    ensures ok { OnOk result (EndsLine (G.seen gate.old) held.old.rest.items (G.seen gate.new)
         (W.contents writer.old.device) (W.contents writer.new.device)) }
     ensures cleared { OnOk result (held.new.rest.items ≡ []) }
     ensures counted { OnOk result (held.new.lines ≡ held.old.lines + 1) }
     ensures kept { OnOk result (writer.new.failed ≡ writer.old.failed) }
-    ensures err { IfErr result (StopsAtLine gate.old held.old.rest.items held.old.lines gate.new
+    ensures err { IfErr result
+        (StopsAtLine (G.seen gate.old) held.old.rest.items held.old.lines (G.seen gate.new)
         (W.contents writer.old.device) (W.contents writer.new.device)) }
     ensures told { IfErr result (IsBlamedRightly 0 0 writer.old.failed writer.new.failed) }
 {
@@ -102,8 +103,8 @@ fn take_front(held: &mut Held, front: &[u8]) -> Result<(), ScriptFault>
 }
 
 /// Takes the rest of a line, and its end: does the line, and writes what it prints.
-fn take_ended<W: Write>(
-    gate: &mut Gate,
+fn take_ended<G: AccessGate, W: Write>(
+    gate: &mut G,
     held: &mut Held,
     writer: &mut Counted<W>,
     front: &[u8],
@@ -112,14 +113,15 @@ fn take_ended<W: Write>(
     requires writer { writer.old.failed < 2 ^ 64 - 1 }
     requires room { held.old.lines < 2 ^ 64 - 1 }
     ensures ok { OnOk result ((before : GateData) (bytes : List ℕ)
-        → IsSoFar before bytes gate.old held.old.rest.items held.old.lines
-        → TakesPiece before bytes (ended front.now) gate.new held.new.rest.items held.new.lines
+        → IsSoFar before bytes (G.seen gate.old) held.old.rest.items held.old.lines
+        → TakesPiece before bytes (ended front.now)
+        (G.seen gate.new) held.new.rest.items held.new.lines
         (W.contents writer.old.device) (W.contents writer.new.device)) }
     ensures counted { OnOk result (held.new.lines ≡ held.old.lines + 1) }
     ensures kept { OnOk result (writer.new.failed ≡ writer.old.failed) }
     ensures err { IfErr result (λ e. (before : GateData) (bytes tail : List ℕ)
-        → IsSoFar before bytes gate.old held.old.rest.items held.old.lines
-        → StopsInPiece before bytes (ended front.now ++ tail) gate.new
+        → IsSoFar before bytes (G.seen gate.old) held.old.rest.items held.old.lines
+        → StopsInPiece before bytes (ended front.now ++ tail) (G.seen gate.new)
         (W.contents writer.old.device) (W.contents writer.new.device) e) }
     ensures told { IfErr result (IsBlamedRightly 0 0 writer.old.failed writer.new.failed) }
 {
@@ -146,8 +148,8 @@ fn first_line(text: &[u8]) -> Option<(&[u8], &[u8])>
 }
 
 /// Takes a piece of the script: does the lines that end in it, and writes what they print.
-fn take_piece<W: Write>(
-    gate: &mut Gate,
+fn take_piece<G: AccessGate, W: Write>(
+    gate: &mut G,
     held: &mut Held,
     writer: &mut Counted<W>,
     piece: &[u8],
@@ -155,14 +157,14 @@ fn take_piece<W: Write>(
     requires writer { writer.old.failed < 2 ^ 64 - 1 }
     requires room { held.old.lines + length piece.now < 2 ^ 64 - 1 }
     ensures ok { OnOk result ((before : GateData) (bytes : List ℕ)
-        → IsSoFar before bytes gate.old held.old.rest.items held.old.lines
-        → TakesPiece before bytes piece.now gate.new held.new.rest.items held.new.lines
+        → IsSoFar before bytes (G.seen gate.old) held.old.rest.items held.old.lines
+        → TakesPiece before bytes piece.now (G.seen gate.new) held.new.rest.items held.new.lines
         (W.contents writer.old.device) (W.contents writer.new.device)) }
     ensures counted { OnOk result (held.new.lines ≤ held.old.lines + length piece.now) }
     ensures kept { OnOk result (writer.new.failed ≡ writer.old.failed) }
     ensures err { IfErr result (λ e. (before : GateData) (bytes : List ℕ)
-        → IsSoFar before bytes gate.old held.old.rest.items held.old.lines
-        → StopsInPiece before bytes piece.now gate.new
+        → IsSoFar before bytes (G.seen gate.old) held.old.rest.items held.old.lines
+        → StopsInPiece before bytes piece.now (G.seen gate.new)
         (W.contents writer.old.device) (W.contents writer.new.device) e) }
     ensures told { IfErr result (IsBlamedRightly 0 0 writer.old.failed writer.new.failed) }
     ensures bounded { length held.new.rest.items ≤ 1026 }
@@ -176,8 +178,8 @@ fn take_piece<W: Write>(
 }
 
 /// Reads a script to its end, or to a fault.
-fn follow<R: Read, W: Write>(
-    gate: &mut Gate,
+fn follow<G: AccessGate, R: Read, W: Write>(
+    gate: &mut G,
     held: &mut Held,
     reader: &mut Counted<R>,
     writer: &mut Counted<W>,
@@ -188,13 +190,16 @@ fn follow<R: Read, W: Write>(
     requires writer { writer.old.failed < 2 ^ 64 - 1 }
     ensures script { OnOk result (IsScript
         (R.remaining reader.old.device) (R.remaining reader.new.device)
-        (W.contents writer.old.device) (W.contents writer.new.device) gate.old gate.new None) }
+        (W.contents writer.old.device) (W.contents writer.new.device)
+        (G.seen gate.old) (G.seen gate.new) None) }
     ensures bad { IfErr result (λ e. IfBadLine e (λ n. IsScript
         (R.remaining reader.old.device) (R.remaining reader.new.device)
-        (W.contents writer.old.device) (W.contents writer.new.device) gate.old gate.new (Some n))) }
+        (W.contents writer.old.device) (W.contents writer.new.device)
+        (G.seen gate.old) (G.seen gate.new) (Some n))) }
     ensures fault { IfErr result (λ e. UnlessBadLine e (IsCutShort
         (R.remaining reader.old.device) (R.remaining reader.new.device)
-        (W.contents writer.old.device) (W.contents writer.new.device) gate.old gate.new e)) }
+        (W.contents writer.old.device) (W.contents writer.new.device)
+        (G.seen gate.old) (G.seen gate.new) e)) }
     ensures endless { IfErr result (λ e. e ≡ ScriptFault.Endless
         → counted_on reader.old.calls 1000000000 ≤ reader.new.calls) }
     ensures unfailing { OnOk result (IsUnfailing
@@ -239,9 +244,9 @@ impl Held {
 /// `WriteFailed`: so it is with the first lines; the next one was done, and a front of what it prints was written.
 /// `OutOfMemory`: so it is with the first lines; of the records that the next one leaves the first were made, and nothing
 /// of what it prints was written.
-pub fn run_script<R: Read, W: Write>(
+pub fn run_script<G: AccessGate, R: Read, W: Write>(
     alloc: Global,
-    gate: &mut Gate,
+    gate: &mut G,
     reader: &mut Counted<R>,
     writer: &mut Counted<W>,
 ) -> Result<(), Explained>
@@ -249,20 +254,25 @@ pub fn run_script<R: Read, W: Write>(
     requires writer { writer.old.failed < 2 ^ 64 - 1 }
     ensures script { OnOk result (IsScript
         (R.remaining reader.old.device) (R.remaining reader.new.device)
-        (W.contents writer.old.device) (W.contents writer.new.device) gate.old gate.new None) }
+        (W.contents writer.old.device) (W.contents writer.new.device)
+        (G.seen gate.old) (G.seen gate.new) None) }
     // Where the reader tells its bytes, the gate and the bytes written are those of the script of all of them.
     ensures all { OnOk result (IsAll
         (R.remaining reader.old.device)
-        (W.contents writer.old.device) (W.contents writer.new.device) gate.old gate.new None) }
+        (W.contents writer.old.device) (W.contents writer.new.device)
+        (G.seen gate.old) (G.seen gate.new) None) }
     ensures bad { IfErr result (λ e. IfBadLine e.fault (λ n. IsScript
         (R.remaining reader.old.device) (R.remaining reader.new.device)
-        (W.contents writer.old.device) (W.contents writer.new.device) gate.old gate.new (Some n))) }
+        (W.contents writer.old.device) (W.contents writer.new.device)
+        (G.seen gate.old) (G.seen gate.new) (Some n))) }
     ensures first_bad { IfErr result (λ e. IfBadLine e.fault (λ n. IsAll
         (R.remaining reader.old.device)
-        (W.contents writer.old.device) (W.contents writer.new.device) gate.old gate.new (Some n))) }
+        (W.contents writer.old.device) (W.contents writer.new.device)
+        (G.seen gate.old) (G.seen gate.new) (Some n))) }
     ensures fault { IfErr result (λ e. UnlessBadLine e.fault (IsCutShort
         (R.remaining reader.old.device) (R.remaining reader.new.device)
-        (W.contents writer.old.device) (W.contents writer.new.device) gate.old gate.new e.fault)) }
+        (W.contents writer.old.device) (W.contents writer.new.device)
+        (G.seen gate.old) (G.seen gate.new) e.fault)) }
     ensures endless { IfErr result (λ e. e.fault ≡ ScriptFault.Endless
         → counted_on reader.old.calls 1000000000 ≤ reader.new.calls) }
     ensures unfailing { OnOk result (IsUnfailing

@@ -7,7 +7,7 @@ ghost use Rattle.gx_server.specs.Telling.{out_of_memory};
 
 use crate::policies::{policy_line, sample_policy};
 use crate::program_fault::ProgramFault;
-use gx_core::Gate;
+use gx_answers::AccessGate;
 use gx_policy::Policy;
 use gx_policyfile::{migrate, read_policy, read_version};
 use std::alloc::Global;
@@ -33,16 +33,16 @@ pub fn policy_for(alloc: Global, file: Option<&[u8]>) -> Result<Policy, ProgramF
 
 /// A gate at the beginning of a day: under the policy that the bytes of a file mean, or, where no file is given, under
 /// the sample policy.
-pub fn open_gate(alloc: Global, file: Option<&[u8]>) -> Result<Gate, ProgramFault>
+pub fn open_gate<G: AccessGate>(alloc: Global, file: Option<&[u8]>) -> Result<G, ProgramFault>
     ensures policy { IfOk result (λ gate.
-        policy_for (option_copied file.entry) ≡ Ok gate.policy) }
-    ensures records { IfOk result (λ gate. gate.records ≡ []) }
+        policy_for (option_copied file.entry) ≡ Ok (G.seen gate).policy) }
+    ensures records { IfOk result (λ gate. (G.seen gate).records ≡ []) }
     ensures fault { IfErr result (IsFaultOf (policy_for (option_copied file.entry))) }
     ensures sample { option_copied file.entry ≡ None
         → IfErr result (λ fault. fault ≡ out_of_memory) }
 {
     let policy = policy_for(alloc, file)?;
-    Ok(Gate::open(alloc, &policy)?)
+    Ok(G::open(alloc, &policy)?)
 }
 
 /// The version of a file that means a policy.

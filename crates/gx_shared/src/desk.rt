@@ -18,8 +18,7 @@ ghost use Rattle.gx_shared.specs.Lines.{highest_line};
 
 use crate::resuming::resume;
 use crate::steps::{asked_on, leave, match_one, pull, step};
-use gx_answers::{LoginAnswer, Outcome, Pulled, StepFault};
-use gx_core::Gate;
+use gx_answers::{AccessGate, LoginAnswer, Outcome, Pulled, StepFault};
 use gx_door::PullFault;
 use gx_history::record::{Record, Request};
 use gx_pass::{Blank, GateName, Keeper, Pass, PassFault};
@@ -29,45 +28,45 @@ use std::alloc::Global;
 use std::marker::Model;
 
 /// The gate, and the keeper of its history. Contracts see the gate's records. It is closed, and never dropped: the drop
-/// of all that a gate keeps is proved in `Gate::close`.
-pub struct Desk<N: GateName> {
-    gate: Gate,
+/// of all that a gate keeps is proved where the gate is.
+pub struct Desk<G: AccessGate, N: GateName> {
+    gate: G,
     keeper: Keeper<N>,
 }
 
-impl<N: GateName> Model for Desk<N> {
+impl<G: AccessGate, N: GateName> Model for Desk<G, N> {
     ghost use Rattle.std.specs.Prelude.{◌≡◌, List};
     ghost use Rattle.gx_history.specs.declared.record.RecordData.{RecordData};
 
     ghost Value = { List RecordData };
 
-    ghost view = { λ d. d.gate.records };
+    ghost view = { λ d. (G.seen d.gate).records };
 
-    ghost invariant = { λ d. (d.gate.policy ≡ N.policy) × (d.keeper.list ≡ d.gate.records) };
+    ghost invariant = { λ d. ((G.seen d.gate).policy ≡ N.policy) × (d.keeper.list ≡ (G.seen d.gate).records) };
 }
 
-impl<N: GateName> Desk<N> {
+impl<G: AccessGate, N: GateName> Desk<G, N> {
     /// A desk at the beginning of a day.
-    pub fn new(alloc: Global, policy: &Policy, blank: Blank) -> Result<Desk<N>, OutOfMemory>
+    pub fn new(alloc: Global, policy: &Policy, blank: Blank) -> Result<Desk<G, N>, OutOfMemory>
         requires policy { policy.now ≡ N.policy }
         requires blank { blank ≡ N.table }
         ensures { IfOk result (λ desk. desk ≡ []) }
     {
-        let gate = Gate::open(alloc, policy)?;
+        let gate = G::open(alloc, policy)?;
         let keeper = Keeper::open(blank);
         Ok(Desk { gate, keeper })
     }
 
     /// A desk over a gate that has records, and a pass of a new line, which has met them. No line of theirs is issued any
     /// more.
-    pub fn over(gate: Gate, blank: Blank) -> Result<(Desk<N>, Pass<N>), PassFault>
-        requires policy { gate.policy ≡ N.policy }
+    pub fn over(gate: G, blank: Blank) -> Result<(Desk<G, N>, Pass<N>), PassFault>
+        requires policy { (G.seen gate).policy ≡ N.policy }
         requires blank { blank ≡ N.table }
-        ensures desk { IfOk result (λ made. made.0 ≡ gate.records) }
-        ensures front { IfOk result (λ made. made.1.front ≡ gate.records) }
+        ensures desk { IfOk result (λ made. made.0 ≡ (G.seen gate).records) }
+        ensures front { IfOk result (λ made. made.1.front ≡ (G.seen gate).records) }
         ensures own { IfOk result (λ made. mine made.1 ≡ []) }
         ensures no_lines { IfErr result (λ e.
-            e ≡ pass_faults.NoLines → highest_line gate.records ≡ 65535) }
+            e ≡ pass_faults.NoLines → highest_line (G.seen gate).records ≡ 65535) }
     {
         match resume(&gate, blank) {
             Ok((keeper, pass)) => Ok((Desk { gate, keeper }, pass)),
@@ -230,12 +229,12 @@ impl<N: GateName> Desk<N> {
     }
 
     /// The gate. It has all that the pass has met, and of the pass's line its own records.
-    pub fn close(self, pass: Pass<N>) -> Gate
-        ensures policy { result.policy ≡ N.policy }
-        ensures records { result.records ≡ self }
-        ensures legal { IsLegal N.policy result.records }
-        ensures front { IsPrefix pass.front result.records }
-        ensures mine { of_line pass.line result.records ≡ mine pass }
+    pub fn close(self, pass: Pass<N>) -> G
+        ensures policy { (G.seen result).policy ≡ N.policy }
+        ensures records { (G.seen result).records ≡ self }
+        ensures legal { IsLegal N.policy (G.seen result).records }
+        ensures front { IsPrefix pass.front (G.seen result).records }
+        ensures mine { of_line pass.line (G.seen result).records ≡ mine pass }
     {
         let Desk { gate, mut keeper } = self;
         gate.is_legal();

@@ -10,7 +10,7 @@ ghost use Rattle.gx_shared.specs.GoingOn.{GoesOn};
 use crate::leaving::log_out_all;
 use crate::rest::put_rest;
 use crate::shared::SharedGate;
-use gx_core::Gate;
+use gx_answers::AccessGate;
 use gx_journal::{Journal, JournalFault, JournalName, Journaled};
 use gx_lobby::Lobby;
 use gx_pass::{Blank, GateName, Pass, PassFault};
@@ -28,9 +28,9 @@ use std::time::Clock;
 const NO_MOMENT: Moment = 0;
 
 /// What a server leaves whose day is kept. Its gate is closed, and never dropped.
-pub struct Kept<W> {
+pub struct Kept<G, W> {
     /// The gate of all that was done.
-    pub gate: Gate,
+    pub gate: G,
     /// Why the server gave up, if it did.
     pub ended: Result<(), ServeFault>,
     /// Why no more records were kept, if so. The server was asked to end then.
@@ -40,16 +40,16 @@ pub struct Kept<W> {
 }
 
 /// Closes a gate that no thread shares any more, and keeps what its journal lacks, unless that has failed.
-pub fn close_kept<N: GateName, J: JournalName, W: Write + Drop>(
-    shared: SharedGate<N>,
-    journal: Journal<SharedGate<N>, W, J>,
+pub fn close_kept<G: AccessGate, N: GateName, J: JournalName, W: Write + Drop>(
+    shared: SharedGate<G, N>,
+    journal: Journal<SharedGate<G, N>, W, J>,
     ended: Result<(), ServeFault>,
-) -> Kept<W>
-    ensures policy { result.gate.policy ≡ N.policy }
-    ensures legal { IsLegal N.policy result.gate.records }
-    ensures front { IsPrefix J.earlier result.gate.records }
-    ensures kept { result.fault ≡ None → IsGrown
-        J.begun (W.contents result.device) (journal_bytes (drop J.count result.gate.records)) }
+) -> Kept<G, W>
+    ensures policy { (G.seen result.gate).policy ≡ N.policy }
+    ensures legal { IsLegal N.policy (G.seen result.gate).records }
+    ensures front { IsPrefix J.earlier (G.seen result.gate).records }
+    ensures kept { result.fault ≡ None → IsGrown J.begun
+        (W.contents result.device) (journal_bytes (drop J.count (G.seen result.gate).records)) }
 {
     let (pass, mut tape) = journal.into_parts();
     let gate = shared.close(pass);
@@ -65,6 +65,7 @@ pub fn close_kept<N: GateName, J: JournalName, W: Write + Drop>(
 
 /// Serves at a gate whose records are kept on this device, on which there are so many of those that the pass has met.
 fn serve_kept<
+    G: AccessGate + Send,
     N: GateName + Send + Sync,
     J: JournalName + Send + Sync,
     W: Write + Drop + Send,
@@ -72,25 +73,25 @@ fn serve_kept<
 >(
     rt: &R,
     alloc: Global,
-    shared: SharedGate<N>,
+    shared: SharedGate<G, N>,
     pass: Pass<N>,
     count: u64,
     device: W,
     lobby: &Lobby,
     listener: TcpListener,
     connections: u64,
-) -> Kept<W>
+) -> Kept<G, W>
     requires begun { W.contents device ≡ J.begun }
     requires count { count ≡ J.count }
     requires met { pass.front ≡ J.earlier }
     requires within { count ≤ length J.earlier }
-    ensures policy { result.gate.policy ≡ N.policy }
-    ensures legal { IsLegal N.policy result.gate.records }
-    ensures front { IsPrefix J.earlier result.gate.records }
-    ensures kept { result.fault ≡ None → IsGrown
-        J.begun (W.contents result.device) (journal_bytes (drop J.count result.gate.records)) }
+    ensures policy { (G.seen result.gate).policy ≡ N.policy }
+    ensures legal { IsLegal N.policy (G.seen result.gate).records }
+    ensures front { IsPrefix J.earlier (G.seen result.gate).records }
+    ensures kept { result.fault ≡ None → IsGrown J.begun
+        (W.contents result.device) (journal_bytes (drop J.count (G.seen result.gate).records)) }
 {
-    let door: Journaled<'_, SharedGate<N>, W, J> = Journaled::new(
+    let door: Journaled<'_, SharedGate<G, N>, W, J> = Journaled::new(
         alloc, &shared, pass, count, device,
     );
     let ended = match serve_door(rt, alloc, &door, lobby, listener, connections) {
@@ -102,6 +103,7 @@ fn serve_kept<
 }
 
 fn serve_named<
+    G: AccessGate + Send,
     N: GateName + Send + Sync,
     J: JournalName + Send + Sync,
     W: Write + Drop + Send,
@@ -109,28 +111,28 @@ fn serve_named<
 >(
     rt: &R,
     alloc: Global,
-    gate: Gate,
+    gate: G,
     blank: Blank,
     count: u64,
     device: W,
     lobby: &Lobby,
     listener: TcpListener,
     connections: u64,
-) -> Result<Kept<W>, PassFault>
-    requires policy { gate.policy ≡ N.policy }
+) -> Result<Kept<G, W>, PassFault>
+    requires policy { (G.seen gate).policy ≡ N.policy }
     requires blank { blank ≡ N.table }
     requires begun { W.contents device ≡ J.begun }
     requires count { count ≡ J.count }
-    requires earlier { gate.records ≡ J.earlier }
+    requires earlier { (G.seen gate).records ≡ J.earlier }
     requires within { count ≤ length J.earlier }
-    ensures policy { IfOk result (λ kept. kept.gate.policy ≡ N.policy) }
-    ensures legal { IfOk result (λ kept. IsLegal N.policy kept.gate.records) }
-    ensures front { IfOk result (λ kept. IsPrefix J.earlier kept.gate.records) }
+    ensures policy { IfOk result (λ kept. (G.seen kept.gate).policy ≡ N.policy) }
+    ensures legal { IfOk result (λ kept. IsLegal N.policy (G.seen kept.gate).records) }
+    ensures front { IfOk result (λ kept. IsPrefix J.earlier (G.seen kept.gate).records) }
     ensures kept { IfOk result (λ kept. kept.fault ≡ None → IsGrown J.begun
-        (W.contents kept.device) (journal_bytes (drop J.count kept.gate.records))) }
+        (W.contents kept.device) (journal_bytes (drop J.count (G.seen kept.gate).records))) }
 {
-    match SharedGate::<N>::over(gate, blank) {
-        Ok((shared, pass)) => Ok(serve_kept::<N, J, W, R>(
+    match SharedGate::<G, N>::over(gate, blank) {
+        Ok((shared, pass)) => Ok(serve_kept::<G, N, J, W, R>(
             rt,
             alloc,
             shared,
@@ -147,11 +149,11 @@ fn serve_named<
 
 /// Logs out whoever is logged in by the gate's records: no connection is left that made them.
 #[tactic(auto, using(crate::proofs::Resting::longer))]
-fn log_out(gate: &mut Gate)
-    ensures policy { gate.new.policy ≡ gate.old.policy }
-    ensures added { AddsLogouts gate.old.records gate.new.records }
-    ensures longer { length gate.old.records ≤ length gate.new.records }
-    ensures nobody_on { NobodyIsOn gate.new }
+fn log_out<G: AccessGate>(gate: &mut G)
+    ensures policy { (G.seen gate.new).policy ≡ (G.seen gate.old).policy }
+    ensures added { AddsLogouts (G.seen gate.old).records (G.seen gate.new).records }
+    ensures longer { length (G.seen gate.old).records ≤ length (G.seen gate.new).records }
+    ensures nobody_on { NobodyIsOn (G.seen gate.new) }
 {
     log_out_all(gate, NO_MOMENT);
 }
@@ -165,23 +167,28 @@ fn log_out(gate: &mut Gate)
 /// # Errors
 ///
 /// `NoLines` where the records have the last line that there is. The gate is closed then, as it is where memory is refused.
-pub fn serve_journaled<W: Write + Drop + Send, R: Threads + Wait + Clock + Eprint + Sync>(
+pub fn serve_journaled<
+    G: AccessGate + Send,
+    W: Write + Drop + Send,
+    R: Threads + Wait + Clock + Eprint + Sync,
+>(
     rt: &R,
     alloc: Global,
-    gate: Gate,
+    gate: G,
     count: u64,
     device: W,
     lobby: &Lobby,
     listener: TcpListener,
     connections: u64,
-) -> Result<Kept<W>, PassFault>
-    requires { count ≤ length gate.records }
-    ensures policy { IfOk result (λ kept. kept.gate.policy ≡ gate.policy) }
-    ensures legal { IfOk result (λ kept. IsLegal gate.policy kept.gate.records) }
+) -> Result<Kept<G, W>, PassFault>
+    requires { count ≤ length (G.seen gate).records }
+    ensures policy { IfOk result (λ kept. (G.seen kept.gate).policy ≡ (G.seen gate).policy) }
+    ensures legal { IfOk result
+        (λ kept. IsLegal (G.seen gate).policy (G.seen kept.gate).records) }
     ensures goes_on { IfOk result (λ kept.
-        GoesOn gate.policy gate.records kept.gate.records) }
+        GoesOn (G.seen gate).policy (G.seen gate).records (G.seen kept.gate).records) }
     ensures kept { IfOk result (λ kept. kept.fault ≡ None → IsGrown (W.contents device)
-        (W.contents kept.device) (journal_bytes (drop count kept.gate.records))) }
+        (W.contents kept.device) (journal_bytes (drop count (G.seen kept.gate).records))) }
 {
     let mut gate = gate;
     let Ok(blank) = Blank::new(alloc) else {
@@ -189,7 +196,7 @@ pub fn serve_journaled<W: Write + Drop + Send, R: Threads + Wait + Clock + Eprin
         return Err(PassFault::OutOfMemory);
     };
     log_out(&mut gate);
-    serve_named::<Brand, Brand, W, R>(
+    serve_named::<G, Brand, Brand, W, R>(
         rt,
         alloc,
         gate,

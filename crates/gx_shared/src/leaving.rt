@@ -9,17 +9,18 @@ ghost use Rattle.gx_history.specs.Verdicts.{IsLegal};
 ghost use Rattle.gx_shared.specs.Logouts.{AddsLogouts, IsOff, NobodyIsOn};
 
 use crate::steps::asked_on;
-use gx_core::Gate;
+use gx_answers::AccessGate;
 use gx_history::record::Request;
 use gx_units::{Moment, UserName};
 
 /// Logs the user out, who is logged in on this line.
-fn leave_line(gate: &mut Gate, line: u16, user: UserName, moment: Moment)
+fn leave_line<G: AccessGate>(gate: &mut G, line: u16, user: UserName, moment: Moment)
     requires line { 0 < line }
-    requires on { line_of gate.old.records (folded_user user) ≡ Some line }
-    ensures policy { gate.new.policy ≡ gate.old.policy }
-    ensures added { AddsLogouts gate.old.records gate.new.records }
-    ensures left { ChangesLine gate.old.policy gate.old.records gate.new.records
+    requires on { line_of (G.seen gate.old).records (folded_user user) ≡ Some line }
+    ensures policy { (G.seen gate.new).policy ≡ (G.seen gate.old).policy }
+    ensures added { AddsLogouts (G.seen gate.old).records (G.seen gate.new).records }
+    ensures left { ChangesLine (G.seen gate.old).policy
+        (G.seen gate.old).records (G.seen gate.new).records
         (folded_user user) None }
 {
     let asked = asked_on(line, user, Request::Logout, moment);
@@ -28,12 +29,12 @@ fn leave_line(gate: &mut Gate, line: u16, user: UserName, moment: Moment)
 }
 
 /// Logs the user out, where he is logged in.
-fn log_out(gate: &mut Gate, user: UserName, moment: Moment)
-    ensures policy { gate.new.policy ≡ gate.old.policy }
-    ensures added { AddsLogouts gate.old.records gate.new.records }
-    ensures off { IsOff gate.new.records (folded_user user) }
-    ensures others { (other : UserName) → IsOff gate.old.records other
-        → IsOff gate.new.records other }
+fn log_out<G: AccessGate>(gate: &mut G, user: UserName, moment: Moment)
+    ensures policy { (G.seen gate.new).policy ≡ (G.seen gate.old).policy }
+    ensures added { AddsLogouts (G.seen gate.old).records (G.seen gate.new).records }
+    ensures off { IsOff (G.seen gate.new).records (folded_user user) }
+    ensures others { (other : UserName) → IsOff (G.seen gate.old).records other
+        → IsOff (G.seen gate.new).records other }
 {
     let Some(line) = gate.on(user.folded()) else {
         return;
@@ -47,11 +48,11 @@ fn log_out(gate: &mut Gate, user: UserName, moment: Moment)
 
 /// Logs out each user who is logged in, as is right where no connection is left of those that made the gate's records.
 /// Nothing else changes. Takes no memory, and goes in a full day too.
-pub fn log_out_all(gate: &mut Gate, moment: Moment)
-    ensures policy { gate.new.policy ≡ gate.old.policy }
-    ensures added { AddsLogouts gate.old.records gate.new.records }
-    ensures legal { IsLegal gate.new.policy gate.new.records }
-    ensures nobody_on { NobodyIsOn gate.new }
+pub fn log_out_all<G: AccessGate>(gate: &mut G, moment: Moment)
+    ensures policy { (G.seen gate.new).policy ≡ (G.seen gate.old).policy }
+    ensures added { AddsLogouts (G.seen gate.old).records (G.seen gate.new).records }
+    ensures legal { IsLegal (G.seen gate.new).policy (G.seen gate.new).records }
+    ensures nobody_on { NobodyIsOn (G.seen gate.new) }
 {
     for place in 0..gate.policy().users().len() {
         let user = gate.policy().users()[place].name;

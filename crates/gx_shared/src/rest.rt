@@ -4,7 +4,7 @@ ghost use Rattle.std.specs.Prelude.{◌≡◌, ◌+◌, ◌<◌, ◌≤◌, ◌^
 ghost use Rattle.std.specs.Io.KnownBytes.{Appends};
 ghost use Rattle.gx_journal.specs.Journals.{is_broken, journal_bytes};
 
-use gx_core::Gate;
+use gx_answers::AccessGate;
 use gx_journal::{JournalFault, Tape};
 use std::io::Write;
 
@@ -12,10 +12,10 @@ use std::io::Write;
 const PIECE: u64 = 256;
 
 /// Puts the next records of the gate, so many at most, on the device. Answers whether it did.
-fn put_piece<W: Write>(gate: &Gate, tape: &mut Tape<W>, most: u64) -> bool
-    requires left { tape.old.done + most ≤ length gate.now.records }
+fn put_piece<G: AccessGate, W: Write>(gate: &G, tape: &mut Tape<W>, most: u64) -> bool
+    requires left { tape.old.done + most ≤ length (G.seen gate.now).records }
     ensures whole { IsTrue result → Appends tape.old.contents tape.new.contents
-        (journal_bytes (take most (drop tape.old.done gate.now.records))) }
+        (journal_bytes (take most (drop tape.old.done (G.seen gate.now).records))) }
     ensures done { IsTrue result → tape.new.done ≡ tape.old.done + most }
     ensures sound { IsTrue result → tape.new.fault ≡ None }
     ensures broken { IsFalse result → IsTrue (is_broken tape.new) }
@@ -31,10 +31,10 @@ fn put_piece<W: Write>(gate: &Gate, tape: &mut Tape<W>, most: u64) -> bool
 }
 
 /// Puts all records of the gate on the device that are not there, unless it is broken.
-pub(crate) fn put_rest<W: Write>(gate: &Gate, tape: &mut Tape<W>)
-    requires within { tape.old.done ≤ length gate.now.records }
+pub(crate) fn put_rest<G: AccessGate, W: Write>(gate: &G, tape: &mut Tape<W>)
+    requires within { tape.old.done ≤ length (G.seen gate.now).records }
     ensures whole { tape.new.fault ≡ None → Appends tape.old.contents tape.new.contents
-        (journal_bytes (drop tape.old.done gate.now.records)) }
+        (journal_bytes (drop tape.old.done (G.seen gate.now).records)) }
     ensures sound { tape.new.fault ≡ None → tape.old.fault ≡ None }
 {
     if tape.is_broken() {

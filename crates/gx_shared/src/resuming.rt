@@ -5,7 +5,7 @@ ghost use Rattle.gx_pass.specs.declared.pass.PassFault.TheVariants as faults;
 ghost use Rattle.gx_pass.specs.Views.{line_in, mine};
 ghost use Rattle.gx_shared.specs.Lines.{highest_line, lines_to, IsResuming};
 
-use gx_core::Gate;
+use gx_answers::AccessGate;
 use gx_history::record::{Record, RecordData, Step};
 use gx_pass::{Blank, GateName, Keeper, Pass, PassFault};
 use gx_units::OutOfMemory;
@@ -82,10 +82,10 @@ fn note_portion<N: GateName>(keeper: &mut Keeper<N>, records: &[Record]) -> Resu
 }
 
 /// Notes all records of the gate, in their order.
-fn note_all<N: GateName>(keeper: &mut Keeper<N>, gate: &Gate) -> Result<(), OutOfMemory>
+fn note_all<G: AccessGate, N: GateName>(keeper: &mut Keeper<N>, gate: &G) -> Result<(), OutOfMemory>
     requires new { keeper.old.list ≡ [] }
     requires stands { IsResuming keeper.old }
-    ensures list { OnOk result (keeper.new.list ≡ gate.now.records) }
+    ensures list { OnOk result (keeper.new.list ≡ (G.seen gate.now).records) }
     ensures stands { OnOk result (IsResuming keeper.new) }
 {
     let length = gate.length();
@@ -101,13 +101,16 @@ fn note_all<N: GateName>(keeper: &mut Keeper<N>, gate: &Gate) -> Result<(), OutO
 /// The keeper of the gate's records, and a pass of a new line, which has met them. The lines of the records stay in the
 /// keeper's hand for good.
 #[tactic(auto, using(crate::proofs::Noted::begins))]
-pub fn resume<N: GateName>(gate: &Gate, blank: Blank) -> Result<(Keeper<N>, Pass<N>), PassFault>
+pub fn resume<G: AccessGate, N: GateName>(
+    gate: &G,
+    blank: Blank,
+) -> Result<(Keeper<N>, Pass<N>), PassFault>
     requires { blank ≡ N.table }
-    ensures keeper { IfOk result (λ made. made.0.list ≡ gate.now.records) }
-    ensures front { IfOk result (λ made. made.1.front ≡ gate.now.records) }
+    ensures keeper { IfOk result (λ made. made.0.list ≡ (G.seen gate.now).records) }
+    ensures front { IfOk result (λ made. made.1.front ≡ (G.seen gate.now).records) }
     ensures own { IfOk result (λ made. mine made.1 ≡ []) }
     ensures no_lines { IfErr result (λ e.
-        e ≡ faults.NoLines → highest_line gate.now.records ≡ 65535) }
+        e ≡ faults.NoLines → highest_line (G.seen gate.now).records ≡ 65535) }
 {
     let mut keeper = Keeper::open(blank);
     let Ok(()) = note_all(&mut keeper, gate) else {

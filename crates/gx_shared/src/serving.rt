@@ -4,7 +4,7 @@ ghost use Rattle.std.specs.Prelude.{◌≡◌, IfOk};
 ghost use Rattle.gx_history.specs.Verdicts.{IsLegal};
 
 use crate::shared::SharedGate;
-use gx_core::Gate;
+use gx_answers::AccessGate;
 use gx_lobby::Lobby;
 use gx_pass::{Blank, GateName};
 use gx_policy::Policy;
@@ -17,14 +17,18 @@ use std::thread::Threads;
 use std::time::Clock;
 
 /// What a server leaves. Its gate is closed, and never dropped.
-pub struct Served {
+pub struct Served<G> {
     /// The gate of all that was done.
-    pub gate: Gate,
+    pub gate: G,
     /// Why the server gave up, if it did.
     pub ended: Result<(), ServeFault>,
 }
 
-fn serve_named<N: GateName + Send + Sync, R: Threads + Wait + Clock + Eprint + Sync>(
+fn serve_named<
+    G: AccessGate + Send,
+    N: GateName + Send + Sync,
+    R: Threads + Wait + Clock + Eprint + Sync,
+>(
     rt: &R,
     alloc: Global,
     policy: &Policy,
@@ -32,13 +36,13 @@ fn serve_named<N: GateName + Send + Sync, R: Threads + Wait + Clock + Eprint + S
     lobby: &Lobby,
     listener: TcpListener,
     connections: u64,
-) -> Result<Served, ServeFault>
+) -> Result<Served<G>, ServeFault>
     requires policy { policy.now ≡ N.policy }
     requires blank { blank ≡ N.table }
-    ensures policy { IfOk result (λ served. served.gate.policy ≡ N.policy) }
-    ensures legal { IfOk result (λ served. IsLegal N.policy served.gate.records) }
+    ensures policy { IfOk result (λ served. (G.seen served.gate).policy ≡ N.policy) }
+    ensures legal { IfOk result (λ served. IsLegal N.policy (G.seen served.gate).records) }
 {
-    let door: SharedGate<N> = SharedGate::new(alloc, policy, blank)?;
+    let door: SharedGate<G, N> = SharedGate::new(alloc, policy, blank)?;
     match serve_door(rt, alloc, &door, lobby, listener, connections) {
         Ok((pass, ended)) => Ok(Served {
             gate: door.close(pass),
@@ -53,17 +57,17 @@ fn serve_named<N: GateName + Send + Sync, R: Threads + Wait + Clock + Eprint + S
 
 /// Takes connections under the policy, and serves each until it ends: so many of them, or
 /// fewer where the lobby is asked to end. Gives the gate of all that was done, also where it gave up.
-pub fn serve<R: Threads + Wait + Clock + Eprint + Sync>(
+pub fn serve<G: AccessGate + Send, R: Threads + Wait + Clock + Eprint + Sync>(
     rt: &R,
     alloc: Global,
     policy: &Policy,
     lobby: &Lobby,
     listener: TcpListener,
     connections: u64,
-) -> Result<Served, ServeFault>
-    ensures policy { IfOk result (λ served. served.gate.policy ≡ policy.now) }
-    ensures legal { IfOk result (λ served. IsLegal policy.now served.gate.records) }
+) -> Result<Served<G>, ServeFault>
+    ensures policy { IfOk result (λ served. (G.seen served.gate).policy ≡ policy.now) }
+    ensures legal { IfOk result (λ served. IsLegal policy.now (G.seen served.gate).records) }
 {
     let blank = Blank::new(alloc)?;
-    serve_named::<Brand, R>(rt, alloc, policy, blank, lobby, listener, connections)
+    serve_named::<G, Brand, R>(rt, alloc, policy, blank, lobby, listener, connections)
 }

@@ -18,8 +18,7 @@ ghost use Rattle.gx_door.specs.Acts.{AddsOwn, EndsWith, IsLater, IsPulled, IsTol
 ghost use Rattle.gx_shared.specs.Lines.{highest_line};
 
 use crate::desk::Desk;
-use gx_answers::{LoginAnswer, Outcome, Pulled, StepFault};
-use gx_core::Gate;
+use gx_answers::{AccessGate, LoginAnswer, Outcome, Pulled, StepFault};
 use gx_door::{Door, PullFault};
 use gx_history::record::{Record, Request};
 use gx_pass::{Blank, GateName, Pass, PassFault};
@@ -31,13 +30,17 @@ use std::sync::{Mutex, Wait};
 /// The gate under one lock. Each call takes the lock once, but for `length`, which takes none.
 ///
 /// It ends by `close` or by `let_go`, and is never dropped.
-pub struct SharedGate<N: GateName> {
-    desk: Mutex<Desk<N>>,
+pub struct SharedGate<G: AccessGate, N: GateName> {
+    desk: Mutex<Desk<G, N>>,
 }
 
-impl<N: GateName> SharedGate<N> {
+impl<G: AccessGate, N: GateName> SharedGate<G, N> {
     /// A gate at the beginning of a day with a copy of the policy, which no thread shares yet.
-    pub fn new(alloc: Global, policy: &Policy, blank: Blank) -> Result<SharedGate<N>, OutOfMemory>
+    pub fn new(
+        alloc: Global,
+        policy: &Policy,
+        blank: Blank,
+    ) -> Result<SharedGate<G, N>, OutOfMemory>
         requires policy { policy.now ≡ N.policy }
         requires blank { blank ≡ N.table }
     {
@@ -54,13 +57,13 @@ impl<N: GateName> SharedGate<N> {
     ///
     /// `NoLines` only where a record has the last line that there is. The gate is closed then, as it is where memory is
     /// refused.
-    pub fn over(gate: Gate, blank: Blank) -> Result<(SharedGate<N>, Pass<N>), PassFault>
-        requires policy { gate.policy ≡ N.policy }
+    pub fn over(gate: G, blank: Blank) -> Result<(SharedGate<G, N>, Pass<N>), PassFault>
+        requires policy { (G.seen gate).policy ≡ N.policy }
         requires blank { blank ≡ N.table }
-        ensures front { IfOk result (λ made. made.1.front ≡ gate.records) }
+        ensures front { IfOk result (λ made. made.1.front ≡ (G.seen gate).records) }
         ensures own { IfOk result (λ made. mine made.1 ≡ []) }
         ensures no_lines { IfErr result (λ e.
-            e ≡ pass_faults.NoLines → highest_line gate.records ≡ 65535) }
+            e ≡ pass_faults.NoLines → highest_line (G.seen gate).records ≡ 65535) }
     {
         match Desk::over(gate, blank) {
             Ok((desk, pass)) => Ok((
@@ -74,11 +77,11 @@ impl<N: GateName> SharedGate<N> {
     }
 
     /// The gate. It has all that the pass has met, and of the pass's line its own records.
-    pub fn close(self, pass: Pass<N>) -> Gate
-        ensures policy { result.policy ≡ N.policy }
-        ensures legal { IsLegal N.policy result.records }
-        ensures front { IsPrefix pass.front result.records }
-        ensures mine { of_line pass.line result.records ≡ mine pass }
+    pub fn close(self, pass: Pass<N>) -> G
+        ensures policy { (G.seen result).policy ≡ N.policy }
+        ensures legal { IsLegal N.policy (G.seen result).records }
+        ensures front { IsPrefix pass.front (G.seen result).records }
+        ensures mine { of_line pass.line (G.seen result).records ≡ mine pass }
     {
         let SharedGate { desk } = self;
         desk.into_inner().close(pass)
@@ -91,7 +94,7 @@ impl<N: GateName> SharedGate<N> {
     }
 }
 
-impl<N: GateName> Door for SharedGate<N> {
+impl<G: AccessGate, N: GateName> Door for SharedGate<G, N> {
     type Ticket = Pass<N>;
 
     ghost policy = { N.policy };

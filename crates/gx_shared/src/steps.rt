@@ -12,8 +12,7 @@ ghost use Rattle.gx_pass.specs.Views.{holds, keeps, without};
 ghost use Rattle.gx_door.specs.declared.fault.PullFault.TheVariants as pull_faults;
 ghost use Rattle.gx_door.specs.Acts.{asked_on, IsPulled, IsToldFull, MayBeRefused};
 
-use gx_answers::{Outcome, Pulled, StepFault, record_of, record_of_match};
-use gx_core::Gate;
+use gx_answers::{AccessGate, Outcome, Pulled, StepFault, record_of, record_of_match};
 use gx_door::PullFault;
 use gx_history::record::{Asked, Request};
 use gx_pass::{Entered, GateName, Keeper, Pass};
@@ -41,20 +40,22 @@ pub fn asked_on(line: u16, user: UserName, request: Request, handed: Moment) -> 
 ///
 /// A granted Kill or Logout is never refused.
 #[tactic(auto, using(crate::proofs::Refusals::is_no_granted_end, crate::proofs::Refusals::is_told_full))]
-pub fn step<N: GateName>(
-    gate: &mut Gate,
+pub fn step<G: AccessGate, N: GateName>(
+    gate: &mut G,
     keeper: &mut Keeper<N>,
     asked: Asked,
 ) -> Result<Outcome, StepFault>
     requires askable { IsTrue (is_askable asked) }
     requires line { Has keeper.old.hand asked.line }
-    requires history { keeper.old.list ≡ gate.old.records }
-    ensures policy { gate.new.policy ≡ gate.old.policy }
-    ensures done { IfOk result (λ o. gate.new.records ≡ with_record gate.old asked o) }
-    ensures refused { OnErr result (gate.new ≡ gate.old) }
-    ensures never_refused { OnErr result (MayBeRefused gate.new asked) }
-    ensures full { IfErr result (IsToldFull gate.new) }
-    ensures keeper { keeper.new ≡ keeps gate.new.records keeper.old.hand keeper.old.issued }
+    requires history { keeper.old.list ≡ (G.seen gate.old).records }
+    ensures policy { (G.seen gate.new).policy ≡ (G.seen gate.old).policy }
+    ensures done { IfOk result
+        (λ o. (G.seen gate.new).records ≡ with_record (G.seen gate.old) asked o) }
+    ensures refused { OnErr result (G.seen gate.new ≡ G.seen gate.old) }
+    ensures never_refused { OnErr result (MayBeRefused (G.seen gate.new) asked) }
+    ensures full { IfErr result (IsToldFull (G.seen gate.new)) }
+    ensures keeper { keeper.new
+        ≡ keeps (G.seen gate.new).records keeper.old.hand keeper.old.issued }
 {
     // that there is room for one more record
     gate.length();
@@ -65,19 +66,21 @@ pub fn step<N: GateName>(
 
 /// Makes a matching step, if an order waits. The keeper notes the record, if there is one.
 #[tactic(auto, using(crate::proofs::Idling::none_is_next))]
-pub fn match_one<N: GateName>(
-    gate: &mut Gate,
+pub fn match_one<G: AccessGate, N: GateName>(
+    gate: &mut G,
     keeper: &mut Keeper<N>,
     handed: Moment,
 ) -> Result<Option<Outcome>, StepFault>
-    requires history { keeper.old.list ≡ gate.old.records }
-    ensures policy { gate.new.policy ≡ gate.old.policy }
-    ensures found { IfOk result (λ found. gate.new ≡ with_match gate.old handed found) }
-    ensures idle { IfOk result (λ found. IfNone found (matching_of gate.new ≡ None)) }
-    ensures waits { OnErr result (IsTrue (is_some (matching_of gate.new))) }
-    ensures refused { OnErr result (gate.new ≡ gate.old) }
-    ensures full { IfErr result (IsToldFull gate.new) }
-    ensures keeper { keeper.new ≡ keeps gate.new.records keeper.old.hand keeper.old.issued }
+    requires history { keeper.old.list ≡ (G.seen gate.old).records }
+    ensures policy { (G.seen gate.new).policy ≡ (G.seen gate.old).policy }
+    ensures found { IfOk result
+        (λ found. G.seen gate.new ≡ with_match (G.seen gate.old) handed found) }
+    ensures idle { IfOk result (λ found. IfNone found (matching_of (G.seen gate.new) ≡ None)) }
+    ensures waits { OnErr result (IsTrue (is_some (matching_of (G.seen gate.new)))) }
+    ensures refused { OnErr result (G.seen gate.new ≡ G.seen gate.old) }
+    ensures full { IfErr result (IsToldFull (G.seen gate.new)) }
+    ensures keeper { keeper.new
+        ≡ keeps (G.seen gate.new).records keeper.old.hand keeper.old.issued }
 {
     // that there is room for one more record
     gate.length();
@@ -89,17 +92,17 @@ pub fn match_one<N: GateName>(
 }
 
 /// The reports of a user who is logged in on the line, from this number on, at most so many.
-pub fn pull(
-    gate: &Gate,
+pub fn pull<G: AccessGate>(
+    gate: &G,
     line: u16,
     user: UserName,
     from: u64,
     most: u64,
 ) -> Result<Pulled, PullFault>
-    ensures on { OnOk result (line_of gate.now.records user ≡ Some line) }
+    ensures on { OnOk result (line_of (G.seen gate.now).records user ≡ Some line) }
     ensures not_on { IfErr result (λ e.
-        e ≡ pull_faults.NotOn ↔ line_of gate.now.records user ≢ Some line) }
-    ensures pulled { IfOk result (IsPulled gate.now user from most) }
+        e ≡ pull_faults.NotOn ↔ line_of (G.seen gate.now).records user ≢ Some line) }
+    ensures pulled { IfOk result (IsPulled (G.seen gate.now) user from most) }
 {
     if gate.on(user) != Some(line) {
         return Err(PullFault::NotOn);
@@ -108,13 +111,18 @@ pub fn pull(
 }
 
 /// Lets go a pass that was taken in. It has met all records of the gate, which are legal.
-pub fn leave<N: GateName>(gate: &Gate, keeper: &mut Keeper<N>, entered: Entered<N>) -> Pass<N>
+pub fn leave<G: AccessGate, N: GateName>(
+    gate: &G,
+    keeper: &mut Keeper<N>,
+    entered: Entered<N>,
+) -> Pass<N>
     requires hand { Has keeper.old.hand entered }
-    requires history { keeper.old.list ≡ gate.now.records }
-    ensures pass { result ≡ holds entered gate.now.records (length gate.now.records) }
-    ensures legal { IsLegal gate.now.policy gate.now.records }
+    requires history { keeper.old.list ≡ (G.seen gate.now).records }
+    ensures pass { result
+        ≡ holds entered (G.seen gate.now).records (length (G.seen gate.now).records) }
+    ensures legal { IsLegal (G.seen gate.now).policy (G.seen gate.now).records }
     ensures keeper { keeper.new
-        ≡ keeps gate.now.records (without entered keeper.old.hand) keeper.old.issued }
+        ≡ keeps (G.seen gate.now).records (without entered keeper.old.hand) keeper.old.issued }
 {
     gate.is_legal();
     keeper.leave(entered)

@@ -3,32 +3,32 @@ use Rattle.gx_audit.proofs.Walking.{begins, none_shown, bytes_further, shown_fur
 use Rattle.gx_audit.proofs.checking.follow_records.Goals as goal
 
 pub loop-at-init : goal.loop-at-init
-loop-at-init c = record {
+loop-at-init g c = record {
   within = c.requires.within;
   policy = refl;
-  shown = none_shown c.args.version c.args.gate.now.records c.requires.new;
-  bytes = begins c.args.version c.args.gate.now.policy c.args.gate.now.records c.args.bytes.now c.args.start c.requires.new c.requires.front;
+  shown = none_shown c.args.version (g.G.AccessGate.seen c.args.gate.now).records c.requires.new;
+  bytes = begins c.args.version (g.G.AccessGate.seen c.args.gate.now).policy (g.G.AccessGate.seen c.args.gate.now).records c.args.bytes.now c.args.start c.requires.new c.requires.front;
 }
 
 pub loop-at-preserved : goal.loop-at-preserved
-loop-at-preserved c = record {
+loop-at-preserved g c = record {
   within = omega arith;
   policy = c.in-Ok.ensures.policy ∙ c.loop-at.invariant.policy;
   shown =
-      shown_further c.args.version c.loop-at.gate.records c.check_record.new.gate.records c.record_at.result c.loop-at.invariant.shown c.in-Ok.ensures.ok;
+      shown_further c.args.version (g.G.AccessGate.seen c.loop-at.gate).records (g.G.AccessGate.seen c.check_record.new.gate).records c.record_at.result c.loop-at.invariant.shown c.in-Ok.ensures.ok;
   bytes =
-      bytes_further c.args.version c.args.gate.now.policy c.loop-at.gate.records c.check_record.new.gate.records c.record_at.result c.args.bytes.now c.loop-at.at
+      bytes_further c.args.version (g.G.AccessGate.seen c.args.gate.now).policy (g.G.AccessGate.seen c.loop-at.gate).records (g.G.AccessGate.seen c.check_record.new.gate).records c.record_at.result c.args.bytes.now c.loop-at.at
       c.loop-at.invariant.bytes c.in-Ok.ensures.ok c.record_at.ensures;
 }
 
 pub returns-in-Err-clause-fault : goal.returns-in-Err-clause-fault
-returns-in-Err-clause-fault c =
-    fault_told c.args.version c.args.gate.now.policy c.loop-at.gate.policy c.loop-at.gate.records c.record_at.result c.args.bytes.now c.loop-at.at c.in-Err.fault
+returns-in-Err-clause-fault g c =
+    fault_told c.args.version (g.G.AccessGate.seen c.args.gate.now).policy (g.G.AccessGate.seen c.loop-at.gate).policy (g.G.AccessGate.seen c.loop-at.gate).records c.record_at.result c.args.bytes.now c.loop-at.at c.in-Err.fault
     c.loop-at.invariant.policy c.requires.version c.check_record.ensures.legal c.loop-at.invariant.shown c.loop-at.invariant.bytes (omega arith)
     c.record_at.ensures c.in-Err.ensures.fault
 
 pub returns-clause-whole : goal.returns-clause-whole
-returns-clause-whole c = record {
+returns-clause-whole g c = record {
   within = c.loop-at.invariant.within;
   short = omega arith;
   shown = c.loop-at.invariant.shown;

@@ -3,12 +3,12 @@ use Rattle.gx_audit_bytes.specs.Audits.{whole_audit, AreShown}
 use Rattle.gx_audit.proofs.checking.follow_records.Given as goal
 
 abbrev pub invariant-loop-at : goal.invariant-loop-at
-invariant-loop-at l = record {
+invariant-loop-at g l = record {
   within : l.at ≤ length l.bytes;
-  policy : l.gate.policy ≡ l.fn.gate.policy;
-  shown : AreShown l.version l.gate.records;
-  bytes : whole_audit l.version l.fn.gate.policy l.gate.records ++ drop l.at l.bytes ≡ l.bytes;
+  policy : (g.G.AccessGate.seen l.gate).policy ≡ (g.G.AccessGate.seen l.fn.gate).policy;
+  shown : AreShown l.version (g.G.AccessGate.seen l.gate).records;
+  bytes : whole_audit l.version (g.G.AccessGate.seen l.fn.gate).policy (g.G.AccessGate.seen l.gate).records ++ drop l.at l.bytes ≡ l.bytes;
 }
 
 abbrev pub decreases-loop-at : goal.decreases-loop-at
-decreases-loop-at l = length l.bytes - l.at
+decreases-loop-at g l = length l.bytes - l.at

@@ -13,14 +13,14 @@ loop-done-init g c = record {
 pub loop-done-preserved : goal.loop-done-preserved
 loop-done-preserved g c = record {
   within = omega arith;
-  text = piece_written _ _ _ c.args.gate.now.records c.loop-done.done _ c.loop-done.invariant.text c.in_ok-write_piece.ensures.written;
+  text = piece_written _ _ _ (g.G.AccessGate.seen c.args.gate.now).records c.loop-done.done _ c.loop-done.invariant.text c.in_ok-write_piece.ensures.written;
   kept = c.in_ok-write_piece.ensures.kept ∙ c.loop-done.invariant.kept;
 }
 
 pub returns-clause-written : goal.returns-clause-written
-returns-clause-written g c = whole_written _ _ c.args.gate.now.records c.loop-done.done (omega arith) c.loop-done.invariant.text
+returns-clause-written g c = whole_written _ _ (g.G.AccessGate.seen c.args.gate.now).records c.loop-done.done (omega arith) c.loop-done.invariant.text
 
 pub returns-in_err-write_piece-clause-front : goal.returns-in_err-write_piece-clause-front
 returns-in_err-write_piece-clause-front g c =
     on_err c.from_residual.result _
-    (piece_cut _ _ _ c.args.gate.now.records c.loop-done.done _ c.loop-done.invariant.text c.in_err-write_piece.ensures.front)
+    (piece_cut _ _ _ (g.G.AccessGate.seen c.args.gate.now).records c.loop-done.done _ c.loop-done.invariant.text c.in_err-write_piece.ensures.front)

@@ -4,7 +4,7 @@ use Rattle.gx_pipe.proofs.Stepping.{told_is}
 use Rattle.gx_pipe.proofs.asking.login_step.Goals as goal
 
 pub returns-clause-told : goal.returns-clause-told
-returns-clause-told c =
-    told_is c.args.gate.now c.args.moment c.args.login.now c.step.new.self c.asked.result c.in_ok-outcome.outcome c.folded.result c.login_answer.result
+returns-clause-told g c =
+    told_is (g.G.AccessGate.seen c.args.gate.now) c.args.moment c.args.login.now (g.G.AccessGate.seen c.step.new.self) c.asked.result c.in_ok-outcome.outcome c.folded.result c.login_answer.result
     (c.asked.ensures.asked ∙ ap (λ q. asked_by c.args.login.now.user q c.args.moment) c.login_request-request.ensures.asked)
     c.in_ok-outcome.ensures.policy c.in_ok-outcome.ensures.next c.in_ok-outcome.ensures.records c.folded.ensures.folded c.login_answer.ensures

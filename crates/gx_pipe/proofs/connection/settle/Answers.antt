@@ -4,9 +4,9 @@ use Rattle.gx_pipe.proofs.Stepping.{refused_left, settled_here}
 use Rattle.gx_pipe.proofs.connection.settle.Goals as goal
 
 pub returns-then-is_none-clause-ok : goal.returns-then-is_none-clause-ok
-returns-then-is_none-clause-ok c =
-    settled_here c.args.gate.now c.loop.gate c.match_one.new.self c.args.moment c.in_ok-match_one.field-0 (c.is_none.ensures ∙ ap not c.if-is_none.true) c.loop.invariant c.in_ok-match_one.ensures.next c.in_ok-match_one.ensures.records
+returns-then-is_none-clause-ok g c =
+    settled_here (g.G.AccessGate.seen c.args.gate.now) (g.G.AccessGate.seen c.loop.gate) (g.G.AccessGate.seen c.match_one.new.self) c.args.moment c.in_ok-match_one.field-0 (c.is_none.ensures ∙ ap not c.if-is_none.true) c.loop.invariant c.in_ok-match_one.ensures.next c.in_ok-match_one.ensures.records
 
 pub returns-in_err-match_one-clause-left : goal.returns-in_err-match_one-clause-left
-returns-in_err-match_one-clause-left c =
-    on_err _ _ (refused_left c.args.gate.now c.loop.gate c.match_one.new.self c.args.moment _ c.match_one.result _ c.loop.invariant c.is_legal.ensures.legal c.in_err-match_one.ensures.unchanged c.match_one.ensures.idle c.in_err-match_one.was)
+returns-in_err-match_one-clause-left g c =
+    on_err _ _ (refused_left (g.G.AccessGate.seen c.args.gate.now) (g.G.AccessGate.seen c.loop.gate) (g.G.AccessGate.seen c.match_one.new.self) c.args.moment _ c.match_one.result _ c.loop.invariant c.is_legal.ensures.legal c.in_err-match_one.ensures.unchanged c.match_one.ensures.idle c.in_err-match_one.was)

@@ -60,20 +60,20 @@ returns-in-Err-clause-cut g c = fault_stands _ _ _ _ _ _ _ _ _ _ c.loop.invarian
 pub returns-in_err-leave-clause-cut : goal.returns-in_err-leave-clause-cut
 returns-in_err-leave-clause-cut g c =
     let now = stands_still _ _ _ _ _ _ _ _ _ _ _ _ c.loop.invariant.stands c.in-Ok.ensures.bytes.0 c.if-n-eq0.true in
-    on_any _ _ (λ fault. never_cut _ _ _ _ _ _ fault _ _ c.loop.gate c.loop.connection (stands_on_line _ _ None _ _ _ _ _ _ _ now) c.in_err-leave.ensures.asks c.in_err-leave.ensures.sure)
+    on_any _ _ (λ fault. never_cut _ _ _ _ _ _ fault _ _ (g.G.AccessGate.seen c.loop.gate) c.loop.connection (stands_on_line _ _ None _ _ _ _ _ _ _ now) c.in_err-leave.ensures.asks c.in_err-leave.ensures.sure)
 
 pub returns-in_err-over-clause-cut : goal.returns-in_err-over-clause-cut
 returns-in_err-over-clause-cut g c =
     let before = c.loop.invariant.stands in
     let p = err_from_is_err_and c.from_residual-in_err-over.result c.from_residual-in_err-over.ensures.1 in
-    on_fault _ _ _ _ p.1 p.2 (fault_broken _ _ _ _ _ _ _ _ _ _ before _ _ _ c.exchange.new.gate c.exchange.new.connection c.in-Ok.ensures.bytes.0 (omega (arith, c.in-Ok.ensures.bound)) (c.in_err-over.ensures.err c.args.gate.now c.args.first before.bytes before.follows))
+    on_fault _ _ _ _ p.1 p.2 (fault_broken _ _ _ _ _ _ _ _ _ _ before _ _ _ (g.G.AccessGate.seen c.exchange.new.gate) c.exchange.new.connection c.in-Ok.ensures.bytes.0 (omega (arith, c.in-Ok.ensures.bound)) (c.in_err-over.ensures.err (g.G.AccessGate.seen c.args.gate.now) c.args.first before.bytes before.follows))
 
 pub returns-in_err-leave-2-clause-cut : goal.returns-in_err-leave-2-clause-cut
 returns-in_err-leave-2-clause-cut g c =
     let before = c.loop.invariant.stands in
     let e = c.in_ok-over.ensures.ok _ _ before.bytes before.follows in
     let now = stands_next _ _ _ _ _ _ _ _ _ _ _ _ _ _ _ _ before c.in-Ok.ensures.bytes.0 e in
-    on_any _ _ (λ fault. never_cut _ _ _ _ _ _ fault _ _ c.exchange.new.gate c.exchange.new.connection (stands_on_line _ _ None _ _ _ _ _ _ _ now) c.in_err-leave-2.ensures.asks c.in_err-leave-2.ensures.sure)
+    on_any _ _ (λ fault. never_cut _ _ _ _ _ _ fault _ _ (g.G.AccessGate.seen c.exchange.new.gate) c.exchange.new.connection (stands_on_line _ _ None _ _ _ _ _ _ _ now) c.in_err-leave-2.ensures.asks c.in_err-leave-2.ensures.sure)
 
 pub returns-clause-cut : goal.returns-clause-cut
 returns-clause-cut g c = fault_stands _ _ _ _ _ _ _ _ _ _ c.loop.invariant.stands Endless _ _ tt (Keeps-refl _) refl refl

@@ -5,7 +5,7 @@ use Rattle.gx_pipe.proofs.pipe.serve.Given as goal
 
 abbrev pub invariant-loop : goal.invariant-loop
 invariant-loop g l = record {
-  stands : Stands (g.R.Read.remaining l.fn.reader.device) (g.R.Read.remaining l.reader.device) (g.W.Write.contents l.fn.writer.device) (g.W.Write.contents l.writer.device) l.fn.gate l.first l.gate l.connection l.feeder;
+  stands : Stands (g.R.Read.remaining l.fn.reader.device) (g.R.Read.remaining l.reader.device) (g.W.Write.contents l.fn.writer.device) (g.W.Write.contents l.writer.device) (g.G.AccessGate.seen l.fn.gate) l.first (g.G.AccessGate.seen l.gate) l.connection l.feeder;
   calls : counted_on l.fn.reader.calls l.counter ≤ l.reader.calls;
   reads : l.reader.failed ≡ l.fn.reader.failed;
   writes : l.writer.failed ≡ l.fn.writer.failed;

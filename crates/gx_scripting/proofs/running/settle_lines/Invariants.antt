@@ -3,7 +3,7 @@ use Rattle.gx_scripting.proofs.Settling.{Settles}
 use Rattle.gx_scripting.proofs.running.settle_lines.Given as goal
 
 abbrev pub invariant-loop : goal.invariant-loop
-invariant-loop l = Settles l.fn.gate l.moment l.text.items l.gate
+invariant-loop g l = Settles (g.G.AccessGate.seen l.fn.gate) l.moment l.text.items (g.G.AccessGate.seen l.gate)
 
 abbrev pub decreases-loop : goal.decreases-loop
-decreases-loop l = matches_left l.gate
+decreases-loop g l = matches_left (g.G.AccessGate.seen l.gate)

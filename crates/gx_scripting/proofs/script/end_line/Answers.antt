@@ -14,4 +14,4 @@ returns-in_err-write_whole-in-Ok-clause-err g c =
 
 pub returns-in-Err-OutOfMemory-clause-err : goal.returns-in-Err-OutOfMemory-clause-err
 returns-in-Err-OutOfMemory-clause-err g c =
-    half_done _ _ _ _ (subst (Leaves c.args.gate.now (line_effect c.args.gate.now c.args.held.now.rest.items) c.take_line.new.gate) c.in-Err-OutOfMemory.field-0-is (rw c.as_slice.ensures.value at c.in-Err-OutOfMemory.ensures.err))
+    half_done _ _ _ _ (subst (Leaves (g.G.AccessGate.seen c.args.gate.now) (line_effect (g.G.AccessGate.seen c.args.gate.now) c.args.held.now.rest.items) (g.G.AccessGate.seen c.take_line.new.gate)) c.in-Err-OutOfMemory.field-0-is (rw c.as_slice.ensures.value at c.in-Err-OutOfMemory.ensures.err))

@@ -46,7 +46,7 @@ returns-clause-ok g c =
     on_ok c.take_front.result _ _
     (λ ok before bytes s.
     let t = i.takes before bytes s in
-    takes_more before bytes i.done _ _ _ _ _ t c.loop-line.left.now c.args.piece.now _ _ _ _ i.split (ok before c.loop-line.gate (bytes ++ i.done) (g.W.Write.contents c.loop-line.writer.device) t.follows))
+    takes_more before bytes i.done _ _ _ _ _ t c.loop-line.left.now c.args.piece.now _ _ _ _ i.split (ok before (g.G.AccessGate.seen c.loop-line.gate) (bytes ++ i.done) (g.W.Write.contents c.loop-line.writer.device) t.follows))
     c.take_front.ensures.ok
 
 pub returns-clause-err : goal.returns-clause-err
@@ -55,5 +55,5 @@ returns-clause-err g c =
     if_err c.take_front.result _ _
     (λ fault err before bytes s.
     let t = i.takes before bytes s in
-    stops_more before bytes i.done _ _ _ _ _ t (c.loop-line.left.now ++ []) c.args.piece.now (i.split ∙ ap (λ l. i.done ++ l) (sym (append-nil _))) _ _ fault (err before c.loop-line.gate (bytes ++ i.done) [] (g.W.Write.contents c.loop-line.writer.device) t.follows))
+    stops_more before bytes i.done _ _ _ _ _ t (c.loop-line.left.now ++ []) c.args.piece.now (i.split ∙ ap (λ l. i.done ++ l) (sym (append-nil _))) _ _ fault (err before (g.G.AccessGate.seen c.loop-line.gate) (bytes ++ i.done) [] (g.W.Write.contents c.loop-line.writer.device) t.follows))
     c.take_front.ensures.err

@@ -2,8 +2,8 @@ use Rattle.gx_shared.proofs.keeping.serve_journaled.Given as goal
 
 -- the table that was just made, and the gate's policy
 abbrev pub ghosts-serve_named-N-GateName : goal.ghosts-serve_named-N-GateName
-ghosts-serve_named-N-GateName g a = record { table = a.blank; policy = a.gate.policy }
+ghosts-serve_named-N-GateName g a = record { table = a.blank; policy = (g.G.AccessGate.seen a.gate).policy }
 
 -- what the device holds, and how many of the gate's records are there
 abbrev pub ghosts-serve_named-J-JournalName : goal.ghosts-serve_named-J-JournalName
-ghosts-serve_named-J-JournalName g a = record { begun = g.W.Write.contents a.device; count = a.count; earlier = a.gate.records }
+ghosts-serve_named-J-JournalName g a = record { begun = g.W.Write.contents a.device; count = a.count; earlier = (g.G.AccessGate.seen a.gate).records }

@@ -6,8 +6,8 @@ use Rattle.gx_shared.specs.Logouts.{AddsLogouts, IsOff}
 use Rattle.gx_shared.proofs.leaving.log_out_all.Given as goal
 
 abbrev pub invariant-loop-place : goal.invariant-loop-place
-invariant-loop-place l = record {
-  policy : l.gate.policy ≡ l.fn.gate.policy;
-  added : AddsLogouts l.fn.gate.records l.gate.records;
-  off : AllByRecursion (λ (u : User). IsOff l.gate.records (folded_user u.name)) (take l.place l.fn.gate.policy.users);
+invariant-loop-place g l = record {
+  policy : (g.G.AccessGate.seen l.gate).policy ≡ (g.G.AccessGate.seen l.fn.gate).policy;
+  added : AddsLogouts (g.G.AccessGate.seen l.fn.gate).records (g.G.AccessGate.seen l.gate).records;
+  off : AllByRecursion (λ (u : User). IsOff (g.G.AccessGate.seen l.gate).records (folded_user u.name)) (take l.place (g.G.AccessGate.seen l.fn.gate).policy.users);
 }

@@ -11,7 +11,7 @@ loop-tape-init g c =
       within = c.requires.within;
       sound = sound;
       begun = sound;
-      bytes = none_appended c.args.tape.now.contents c.args.tape.now.done c.args.gate.now.records;
+      bytes = none_appended c.args.tape.now.contents c.args.tape.now.done (g.G.AccessGate.seen c.args.gate.now).records;
     }
 
 pub loop-tape-preserved : goal.loop-tape-preserved
@@ -24,7 +24,7 @@ loop-tape-preserved g c =
       sound = c.if-not-put_piece.ensures.sound refl;
       begun = c.loop-tape.invariant.begun;
       bytes =
-          rest_put c.args.gate.now.records c.args.tape.now now c.put_piece.new.tape c.min-most.result c.loop-tape.invariant.first
+          rest_put (g.G.AccessGate.seen c.args.gate.now).records c.args.tape.now now c.put_piece.new.tape c.min-most.result c.loop-tape.invariant.first
           (omega (arith, c.min-most.ensures, c.length-count.ensures.count, c.done-in-loop-tape.ensures, c.loop-tape.invariant.within)) c.loop-tape.invariant.bytes
           (c.if-not-put_piece.ensures.whole refl) done;
     }

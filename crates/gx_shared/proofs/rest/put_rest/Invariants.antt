@@ -6,10 +6,10 @@ use Rattle.gx_shared.proofs.rest.put_rest.Given as goal
 abbrev pub invariant-loop-tape : goal.invariant-loop-tape
 invariant-loop-tape g l = record {
   first : l.fn.tape.done ≤ l.tape.done;
-  within : l.tape.done ≤ length l.gate.records;
+  within : l.tape.done ≤ length (g.G.AccessGate.seen l.gate).records;
   sound : l.tape.fault ≡ None;
   begun : l.fn.tape.fault ≡ None;
-  bytes : Appends l.fn.tape.contents l.tape.contents (journal_bytes (added l.fn.tape.done l.tape.done l.gate.records));
+  bytes : Appends l.fn.tape.contents l.tape.contents (journal_bytes (added l.fn.tape.done l.tape.done (g.G.AccessGate.seen l.gate).records));
 }
 
 abbrev pub decreases-loop-tape : goal.decreases-loop-tape

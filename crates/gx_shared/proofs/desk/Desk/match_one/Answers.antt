@@ -9,8 +9,8 @@ use Rattle.gx_shared.proofs.desk.Desk.match_one.Goals as goal
 
 pub returns-clause-later : goal.returns-clause-later
 returns-clause-later g c =
-    let was = c.self.inside.gate in
-    let now = c.match_one-result.new.gate in
+    let was = (g.G.AccessGate.seen c.self.inside.gate) in
+    let now = (g.G.AccessGate.seen c.match_one-result.new.gate) in
     let all = c.leave.ensures.pass ∙ ap (λ (l : ℕ). holds l now.records (length now.records)) c.enter-entered.ensures.line in
     let met : IsMet was.records c.args.pass = subst (λ (xs : List RecordData). IsMet xs c.args.pass) c.self.invariant.1 c.enter-entered.ensures.met in
     let begins = match_begins c.args.moment c.match_one-result.result was now c.match_one-result.ensures.found c.match_one-result.ensures.refused in
@@ -19,8 +19,8 @@ returns-clause-later g c =
 
 pub returns-clause-own : goal.returns-clause-own
 returns-clause-own g c =
-    let was = c.self.inside.gate in
-    let now = c.match_one-result.new.gate in
+    let was = (g.G.AccessGate.seen c.self.inside.gate) in
+    let now = (g.G.AccessGate.seen c.match_one-result.new.gate) in
     let all = c.leave.ensures.pass ∙ ap (λ (l : ℕ). holds l now.records (length now.records)) c.enter-entered.ensures.line in
     let met : IsMet was.records c.args.pass = subst (λ (xs : List RecordData). IsMet xs c.args.pass) c.self.invariant.1 c.enter-entered.ensures.met in
     match_is_nobodys c.args.moment c.match_one-result.result was now c.args.pass c.leave.result all met c.enter-entered.ensures.some c.match_one-result.ensures.found c.match_one-result.ensures.refused

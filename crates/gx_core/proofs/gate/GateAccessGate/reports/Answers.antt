@@ -1,5 +1,5 @@
 use Rattle.gx_core.proofs.Judged.{copies_are_given}
-use Rattle.gx_core.proofs.gate.Gate.reports.Goals as goal
+use Rattle.gx_core.proofs.gate.GateAccessGate.reports.Goals as goal
 
 pub returns-clause-copies : goal.returns-clause-copies
 returns-clause-copies c =

@@ -13,7 +13,7 @@ use Rattle.gx_answers.specs.Matches.{HasMatched, MatchEffect, matches_left, matc
 use Rattle.gx_core.specs.Known.{first_of}
 use Rattle.gx_core.proofs.Keeping.{AreCarried, as_before, keep_still, keep_within, takes_match, told_then}
 use Rattle.gx_core.proofs.Matched.{first_is_known, match_effect_of, never_crossed_now, nothing_is_met, nothing_is_next, settles_on}
-use Rattle.gx_core.proofs.gate.Gate.match_one.Goals as goal
+use Rattle.gx_core.proofs.gate.GateAccessGate.match_one.Goals as goal
 
 pub returns-in_default-clause-next : goal.returns-in_default-clause-next
 returns-in_default-clause-next c =

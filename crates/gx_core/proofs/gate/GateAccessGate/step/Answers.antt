@@ -11,10 +11,10 @@ use Rattle.gx_places.specs.Places.{has_kept_places}
 use Rattle.gx_answers.specs.Gates.{GateData, left_by}
 use Rattle.gx_core.specs.Kept.{IsWhole}
 use Rattle.gx_answers.specs.Steps.{IsJudged, next_of}
-use Rattle.gx_core.specs.Effects.{HasEffect, VerdictEffect}
+use Rattle.gx_answers.specs.Effects.{HasEffect, VerdictEffect}
 use Rattle.gx_core.proofs.Effecting.{effect_of}
 use Rattle.gx_core.proofs.Keeping.{AreCarried, as_before, asked_fits, asked_has_place, keep_asked, keep_still, takes_asked, told_then}
-use Rattle.gx_core.proofs.gate.Gate.step.Goals as goal
+use Rattle.gx_core.proofs.gate.GateAccessGate.step.Goals as goal
 
 pub returns-clause-judged : goal.returns-clause-judged
 returns-clause-judged c =

@@ -1,5 +1,5 @@
 use Rattle.gx_core.proofs.Keeping.{keep_none}
-use Rattle.gx_core.proofs.gate.Gate.open.Goals as goal
+use Rattle.gx_core.proofs.gate.GateAccessGate.open.Goals as goal
 
 pub invariant_of-result : goal.invariant_of-result
 invariant_of-result c =

@@ -1,6 +1,6 @@
 use Rattle.gx_exposure.proofs.Gross.{gross_shares_are_kept, gross_values_are_kept, net_shares_are_kept, none_asked_none_held, none_asked_none_on_side}
 use Rattle.gx_core.proofs.Matched.{never_crossed_now}
-use Rattle.gx_core.proofs.gate.Gate.is_legal.Goals as goal
+use Rattle.gx_core.proofs.gate.GateAccessGate.is_legal.Goals as goal
 
 pub returns : goal.returns
 returns c =
