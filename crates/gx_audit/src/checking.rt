@@ -20,7 +20,8 @@ use gx_policy::Policy;
 use std::alloc::Global;
 
 /// Whether the bytes are the audit of a legal day under the policy: how many records there are, or the first fault. Bytes
-/// that begin with `GXH2` are taken as version 2, all others as version 1.
+/// that begin with `GXH2` are taken as version 2, all others as version 1. The steps are made again on a gate of its own,
+/// a `G`.
 #[tactic(auto, using(crate::proofs::Only::is_only))]
 pub fn check_audit<G: AccessGate>(
     alloc: Global,

@@ -12,7 +12,7 @@ use gx_units::OutOfMemory;
 use std::alloc::Global;
 
 /// What more there is to tell of an answer: the wrong field of a bad record, or what an illegal one says and what the
-/// rules say; nothing of others.
+/// rules say, as a `G` judges by them; nothing of others.
 pub fn more_of_audit<G: AccessGate>(
     alloc: Global,
     policy: &Policy,

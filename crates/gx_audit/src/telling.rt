@@ -33,7 +33,7 @@ impl AuditAnswer {
     }
 }
 
-/// Checks that the bytes are the audit of a legal day under the policy.
+/// Checks that the bytes are the audit of a legal day under the policy, as [`check_audit`] does.
 pub fn told_of_audit<G: AccessGate>(
     alloc: Global,
     policy: &Policy,

@@ -330,7 +330,8 @@ impl Connection {
         requires { IsLeaving (happening event) }
         ensures ok { OnOk result
             (G.seen gate.new ≡ (finished (silent (G.seen gate.old) self.old)).gate) }
-        ensures err { OnErr result ((G.seen gate.new ≡ G.seen gate.old) × (self.new ≡ self.old)) }
+        ensures err { OnErr result
+            ((G.seen gate.new ≡ G.seen gate.old) × (self.new ≡ self.old)) }
         ensures asks { OnErr result (IsTrue (is_on self.old.session.phase)) }
         ensures sure { OnErr result
             (IsFalse (is_never_refused (G.seen gate.old) (logout_of self.old))) }

@@ -42,7 +42,8 @@ impl<G: AccessGate, N: GateName> Model for Desk<G, N> {
 
     ghost view = { λ d. (G.seen d.gate).records };
 
-    ghost invariant = { λ d. ((G.seen d.gate).policy ≡ N.policy) × (d.keeper.list ≡ (G.seen d.gate).records) };
+    ghost invariant = { λ d. ((G.seen d.gate).policy ≡ N.policy)
+        × (d.keeper.list ≡ (G.seen d.gate).records) };
 }
 
 impl<G: AccessGate, N: GateName> Desk<G, N> {
