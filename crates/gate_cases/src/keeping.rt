@@ -7,6 +7,7 @@ use gx_answers::AccessGate;
 use gx_audit::{Resumed, audit_of, check_audit, resume};
 use gx_audit_bytes::AuditVersion;
 use gx_core::Gate;
+use gx_door::Dial;
 use gx_journal::Journaled;
 use gx_pass::{Blank, GateName, Pass};
 use gx_policy::Policy;
@@ -128,7 +129,7 @@ fn put_kept(
 }
 
 /// Plays at a new gate whose records are kept on this device, and tells of it.
-fn play_at<N: GateName + Send + Sync, R: Threads + Wait + Clock + Sync>(
+fn play_at<N: GateName + Send + Sync, R: Threads + Wait + Clock + Dial + Sync>(
     rt: &R,
     alloc: Global,
     policy: &Policy,
@@ -177,7 +178,7 @@ fn play_at<N: GateName + Send + Sync, R: Threads + Wait + Clock + Sync>(
 }
 
 /// Runs a play on a gate of its own whose records are kept on this device, and tells of it.
-pub(crate) fn run_kept<N: GateName + Send + Sync, R: Threads + Wait + Clock + Sync>(
+pub(crate) fn run_kept<N: GateName + Send + Sync, R: Threads + Wait + Clock + Dial + Sync>(
     rt: &R,
     alloc: Global,
     policy: &Policy,

@@ -1,5 +1,5 @@
-//! Runs the cases on standard input, and prints what each does; then runs threads over shared gates, and prints what came
-//! of it.
+//! Runs the cases on standard input, and prints what each does; then runs threads over shared gates, makes calls at
+//! others, and prints what came of it.
 //!
 //! A case is a line `== TITLE`, which says what it shows, and parts up to the next case. A part is a line `-- KIND` and
 //! the lines behind it:
@@ -34,6 +34,27 @@
 //! - `-- session MOMENT`: the events of a session that begins at this moment, a line each: its moment and what happens
 //!   (`login`, `data HEX`, `heartbeat`, `debug`, `logout`, `accepted`, `rejected`, `pulled COUNT`, `pulled-last COUNT`,
 //!   `refused`, `tick`, `fault`, `end`). It is told what the session sends and what follows.
+//! - `-- play`, alone: cues, a line each, which are performed one after the other. Peers speak over lines in memory to the
+//!   server's own workers at a gate of their own; the clock shows what the cues say. It is told what was waited for in
+//!   vain, if anything was (the play ends there); the packets that each peer was sent, in hex, a line each, twelve of
+//!   them at most, and why his bytes are none; the records of the day, as they are shown to a person; and how many there
+//!   are in its audit, if that is a legal day's. The play's own pass is of line 1, and the first peer's of line 3.
+//!   `-- play-races`: so too, but for the records, which may come in more than one order.
+//!
+//! The cues of a play, of which NAME is a peer:
+//!
+//! - `clock MOMENT`: the clock shows this moment from now on, until each connection has done what it does then;
+//! - `open NAME`: a peer connects, until the server reads;
+//! - `NAME gives HEX`: he sends these bytes, until the server has read all and waits for more; `NAME repeats COUNT HEX`:
+//!   so often; `both NAME NAME HEX`: two peers do at once, after which all packets are told without names, sorted;
+//! - `NAME ends HEX`: he sends these bytes and no more; `NAME ends`: no more;
+//! - `NAME takes nothing`: what the server writes to him has to wait from now on; `NAME takes all`: no longer;
+//! - `NAME hears COUNT`: waits until he was sent so many packets in all, and the server has done what comes of it;
+//! - `NAME is finished`: waits until the server has said that it writes no more to him; `NAME is cut`: until he is hung up;
+//! - `records COUNT`: waits until there are so many records;
+//! - `stop`: the server is asked to end.
+//!
+//! Behind the last cue each peer sends no more, one after the other, until all threads of his connection have ended.
 //!
 //! The parts of a case run on one gate, one after the other; in the end it is told who is logged in and which accounts
 //! are killed. Each case is run twice: with devices that give and take large pieces, and with devices that give and
@@ -45,12 +66,15 @@
 
 mod alone;
 mod audits;
+mod calls;
 mod endless;
 mod keeping;
+mod plays;
 mod policies;
 mod runs;
 mod threads;
 
+use calls::run_calls;
 use gx_answers::AccessGate;
 use gx_core::Gate;
 use gx_policy::Policy;
@@ -61,11 +85,15 @@ use gx_trials::{
     put_title,
 };
 use gx_units::OutOfMemory;
+use plays::tell_play;
 use policies::{put_fault, put_migrated};
 use runs::tell_parts;
 use std::alloc::Global;
 use std::io;
 use std::io::Read as _;
+use std::sync::Wait;
+use std::thread::Threads;
+use std::time::Clock;
 use threads::run_threads;
 
 /// Runs the parts on a new gate: under the policy of the file, if there is one. `policy` is what the gate opens on.
@@ -172,8 +200,9 @@ fn tell_changed_sample(
     tell_file(alloc, out, file.as_bytes(), parts)
 }
 
-/// Runs a case: its first part may be a policy.
-fn answer(
+/// Runs a case: its first part may be a policy, and may be a play.
+fn answer<R: Threads + Wait + Clock + Sync>(
+    rt: &R,
     alloc: Global,
     out: &mut String,
     sample: &Policy,
@@ -186,12 +215,15 @@ fn answer(
         "policy-in-hex" => tell_hex_file(alloc, out, text, rest),
         "migrate" => put_migrated(alloc, out, text.as_bytes()),
         "sample" => tell_changed_sample(alloc, out, text, rest),
+        "play" => tell_play(rt, alloc, out, sample, text, true),
+        "play-races" => tell_play(rt, alloc, out, sample, text, false),
         _ => run(alloc, out, None, sample, parts),
     }
 }
 
 /// Runs a case, behind its title.
-fn answer_case(
+fn answer_case<R: Threads + Wait + Clock + Sync>(
+    rt: &R,
     alloc: Global,
     out: &mut String,
     sample: &Policy,
@@ -199,26 +231,32 @@ fn answer_case(
 ) -> Result<(), OutOfMemory> {
     let (title, parts) = halves(case, "\n-- ");
     put_title(out, title)?;
-    answer(alloc, out, sample, parts)
+    answer(rt, alloc, out, sample, parts)
 }
 
 /// Runs the cases of a text.
-fn answer_all(
+fn answer_all<R: Threads + Wait + Clock + Sync>(
+    rt: &R,
     alloc: Global,
     out: &mut String,
     sample: &Policy,
     text: &str,
 ) -> Result<(), OutOfMemory> {
     for case in text.split("\n== ") {
-        answer_case(alloc, out, sample, case)?;
+        answer_case(rt, alloc, out, sample, case)?;
     }
     Ok(())
 }
 
 /// Runs the cases of a text, most of them under the sample policy.
-fn answer_text(alloc: Global, out: &mut String, text: &str) -> Result<(), OutOfMemory> {
+fn answer_text<R: Threads + Wait + Clock + Sync>(
+    rt: &R,
+    alloc: Global,
+    out: &mut String,
+    text: &str,
+) -> Result<(), OutOfMemory> {
     let sample = sample_policy(alloc)?;
-    answer_all(alloc, out, &sample, text)
+    answer_all(rt, alloc, out, &sample, text)
 }
 
 fn main(rt: HostRuntime) -> io::Result<()> {
@@ -226,10 +264,13 @@ fn main(rt: HostRuntime) -> io::Result<()> {
     let mut text = String::new(alloc);
     rt.reader().read_to_string(&mut text)?;
     let mut out = String::new(alloc);
-    if answer_text(alloc, &mut out, text.as_str()).is_err() {
+    if answer_text(&rt, alloc, &mut out, text.as_str()).is_err() {
         return Err(io::Error::from(io::ErrorKind::OutOfMemory));
     }
     if let Err(ended) = run_threads(&rt, alloc, &mut out) {
+        print!(rt; "{ended}\n")?;
+    }
+    if let Err(ended) = run_calls(&rt, alloc, &mut out) {
         print!(rt; "{ended}\n")?;
     }
     print!(rt; "{out}")

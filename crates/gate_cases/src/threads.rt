@@ -2,6 +2,7 @@
 
 use crate::keeping::{Device, run_kept};
 use gx_audit_bytes::RECORD_SIZE;
+use gx_door::Dial;
 use gx_pass::Blank;
 use gx_policy::Policy;
 use gx_server::sample_policy;
@@ -72,7 +73,7 @@ const PLAYS: [Setting; 6] = [
 ];
 
 /// A play on this stage.
-fn play_on_stage<R: Threads + Wait + Clock + Sync>(
+fn play_on_stage<R: Threads + Wait + Clock + Dial + Sync>(
     rt: &R,
     alloc: Global,
     policy: &Policy,
@@ -84,7 +85,7 @@ fn play_on_stage<R: Threads + Wait + Clock + Sync>(
 }
 
 /// A play on a stage of its own, behind its title.
-fn play_once<R: Threads + Wait + Clock + Sync>(
+fn play_once<R: Threads + Wait + Clock + Dial + Sync>(
     rt: &R,
     alloc: Global,
     policy: &Policy,
@@ -98,7 +99,7 @@ fn play_once<R: Threads + Wait + Clock + Sync>(
 }
 
 /// The plays.
-fn run_plays<R: Threads + Wait + Clock + Sync>(
+fn run_plays<R: Threads + Wait + Clock + Dial + Sync>(
     rt: &R,
     alloc: Global,
     policy: &Policy,

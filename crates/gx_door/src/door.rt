@@ -14,6 +14,7 @@ ghost use Rattle.gx_door.specs.declared.fault.PullFault.TheVariants as pull_faul
 ghost use Rattle.gx_door.specs.Acts.{asked_on, gate_met, login_on};
 ghost use Rattle.gx_door.specs.Acts.{AddsOwn, EndsWith, IsLater, IsPulled, IsToldFull, LogsIn, MayBeRefused};
 
+use crate::dial::Dial;
 use crate::fault::PullFault;
 use gx_answers::{LoginAnswer, Outcome, Pulled, StepFault};
 use gx_history::record::{Record, Request};
@@ -44,7 +45,7 @@ pub trait Door {
         ensures own { IfOk result (λ p. mine (held p) ≡ []) };
 
     /// A login on the pass's line, and what it is told.
-    fn login<R: Wait>(
+    fn login<R: Wait + Dial>(
         &self,
         rt: &R,
         pass: Self::Ticket,
@@ -54,6 +55,7 @@ pub trait Door {
         wanted: u64,
         moment: Moment,
     ) -> (Self::Ticket, Result<LoginAnswer, StepFault>)
+        requires clock { R.shown moment }
         ensures later { IsLater policy (held pass) (held result.0) }
         ensures done { IfOk result.1 (LogsIn policy (held pass) (held result.0)
             (login_on policy (held pass).line user password session wanted moment) wanted) }
@@ -61,7 +63,7 @@ pub trait Door {
         ensures full { IfErr result.1 (IsToldFull (gate_met policy (held result.0))) };
 
     /// A request on the pass's line.
-    fn act<R: Wait>(
+    fn act<R: Wait + Dial>(
         &self,
         rt: &R,
         pass: Self::Ticket,
@@ -69,6 +71,7 @@ pub trait Door {
         request: Request,
         moment: Moment,
     ) -> (Self::Ticket, Result<Outcome, StepFault>)
+        requires clock { R.shown moment }
         requires first { IsTrue (has_its_first request) }
         ensures later { IsLater policy (held pass) (held result.0) }
         ensures done { IfOk result.1 (λ o. AddsOwn (held pass) (held result.0)
@@ -79,12 +82,13 @@ pub trait Door {
         ensures full { IfErr result.1 (IsToldFull (gate_met policy (held result.0))) };
 
     /// A matching step, whose record is nobody's own. `None` where no order waits.
-    fn match_one<R: Wait>(
+    fn match_one<R: Wait + Dial>(
         &self,
         rt: &R,
         pass: Self::Ticket,
         moment: Moment,
     ) -> (Self::Ticket, Result<Option<Outcome>, StepFault>)
+        requires clock { R.shown moment }
         ensures later { IsLater policy (held pass) (held result.0) }
         ensures own { mine (held result.0) ≡ mine (held pass) }
         ensures found { IfOk result.1 (λ found. IfSome found (λ o.
@@ -115,13 +119,14 @@ pub trait Door {
             (IsPulled (gate_met policy (held result.0)) (folded_user user) from most) };
 
     /// A logout on the pass's line.
-    fn logout<R: Wait>(
+    fn logout<R: Wait + Dial>(
         &self,
         rt: &R,
         pass: Self::Ticket,
         user: UserName,
         moment: Moment,
     ) -> (Self::Ticket, Result<Outcome, StepFault>)
+        requires clock { R.shown moment }
         ensures later { IsLater policy (held pass) (held result.0) }
         ensures done { IfOk result.1 (λ o. AddsOwn (held pass) (held result.0)
             (left_by (asked_on (held pass).line user requests.Logout moment) o)) }

@@ -1,9 +1,11 @@
-//! What threads ask of a gate that they share, whoever keeps it: the [`Door`]. Whoever asks at a door can be proved without
+//! What threads ask of a gate that they share, whoever keeps it: the [`Door`], and by which clock, the [`Dial`]. Whoever asks at a door can be proved without
 //! the gate behind it.
 #![tactic(auto)]
 
+mod dial;
 mod door;
 mod fault;
 
+pub use dial::Dial;
 pub use door::Door;
 pub use fault::PullFault;

@@ -5,7 +5,7 @@ ghost use Rattle.std.specs.Prelude.{◌≡◌, ◌≤◌, length};
 use crate::journal::Journal;
 use crate::name::JournalName;
 use gx_answers::{LoginAnswer, Outcome, Pulled, StepFault};
-use gx_door::{Door, PullFault};
+use gx_door::{Dial, Door, PullFault};
 use gx_history::record::{Record, Request};
 use gx_pass::PassFault;
 use gx_units::{Moment, OutOfMemory, Password, SessionName, UserName};
@@ -60,7 +60,7 @@ impl<D: Door, W: Write, J: JournalName> Door for Journaled<'_, D, W, J> {
         self.door.issue(rt)
     }
 
-    fn login<R: Wait>(
+    fn login<R: Wait + Dial>(
         &self,
         rt: &R,
         pass: D::Ticket,
@@ -74,7 +74,7 @@ impl<D: Door, W: Write, J: JournalName> Door for Journaled<'_, D, W, J> {
             .login(rt, pass, user, password, session, wanted, moment)
     }
 
-    fn act<R: Wait>(
+    fn act<R: Wait + Dial>(
         &self,
         rt: &R,
         pass: D::Ticket,
@@ -85,7 +85,7 @@ impl<D: Door, W: Write, J: JournalName> Door for Journaled<'_, D, W, J> {
         self.door.act(rt, pass, user, request, moment)
     }
 
-    fn match_one<R: Wait>(
+    fn match_one<R: Wait + Dial>(
         &self,
         rt: &R,
         pass: D::Ticket,
@@ -105,7 +105,7 @@ impl<D: Door, W: Write, J: JournalName> Door for Journaled<'_, D, W, J> {
         self.door.pull(rt, pass, user, from, most)
     }
 
-    fn logout<R: Wait>(
+    fn logout<R: Wait + Dial>(
         &self,
         rt: &R,
         pass: D::Ticket,

@@ -13,6 +13,12 @@ struct Ring {
     closed: bool,
 }
 
+/// That a bell was rung. It is made by ringing alone.
+#[derive(Drop)]
+pub struct Rung {
+    _rung: (),
+}
+
 /// Rung by those who made a step, after which an order may wait; closed once there are no more.
 #[derive(Drop)]
 pub struct Bell {
@@ -33,12 +39,13 @@ impl Bell {
     }
 
     /// Rings it.
-    pub fn ring<R: Wait>(&self, rt: &R) {
+    pub fn ring<R: Wait>(&self, rt: &R) -> Rung {
         let mut ring = self.ring.lock(rt);
         if !ring.rung {
             ring.rung = true;
             self.news.notify_one();
         }
+        Rung { _rung: () }
     }
 
     /// Opens it: it was not closed.

@@ -10,10 +10,10 @@ mod places;
 mod stop;
 mod watch;
 
-pub use bell::Bell;
+pub use bell::{Bell, Rung};
 pub use clock::now;
 pub use lobby::Lobby;
 pub use peer::Peer;
-pub use places::Places;
-pub use stop::Stop;
+pub use places::{Place, Places};
+pub use stop::{Asked, Stop};
 pub use watch::Watch;

@@ -1,6 +1,6 @@
 //! How many connections are served at once.
 
-ghost use Rattle.std.specs.Prelude.{◌≤◌};
+ghost use Rattle.std.specs.Prelude.{◌≡◌, ◌≤◌, ◌+◌, ◌-◌, IsFalse, IsTrue};
 
 use std::sync::{Condvar, Mutex, Wait};
 
@@ -14,7 +14,12 @@ struct Taken {
 
 impl Taken {
     /// Takes a place, if one is free. Answers whether it did.
-    fn take(&mut self) -> bool {
+    fn take(&mut self) -> bool
+        ensures taken { IsTrue result → self.new.count ≡ self.old.count + 1 }
+        ensures full { IsFalse result → self.old.count ≡ self.old.most }
+        ensures kept { IsFalse result → self.new.count ≡ self.old.count }
+        ensures most { self.new.most ≡ self.old.most }
+    {
         if self.count < self.most {
             self.count += 1;
             return true;
@@ -23,7 +28,10 @@ impl Taken {
     }
 
     /// Gives a place back.
-    fn give(&mut self) {
+    fn give(&mut self)
+        ensures given { self.new.count ≡ self.old.count - 1 }
+        ensures most { self.new.most ≡ self.old.most }
+    {
         self.count = self.count.saturating_sub(1);
     }
 }
@@ -45,20 +53,32 @@ impl Places {
     }
 
     /// Waits until a place is free, and takes it.
-    pub fn take<R: Wait>(&self, rt: &R) {
+    pub fn take<'x, R: Wait>(&'x self, rt: &'x R) -> Place<'x, R> {
         let mut taken = self.taken.lock(rt);
         for _ in rt.forever() {
             if taken.take() {
-                return;
+                return Place { rt, places: self };
             }
             taken = self.news.wait(rt, taken);
         }
         unreachable!()
     }
 
-    /// Gives a place back.
-    pub fn give<R: Wait>(&self, rt: &R) {
+    fn give<R: Wait>(&self, rt: &R) {
         self.taken.lock(rt).give();
         self.news.notify_one();
+    }
+}
+
+/// A place that was taken. It is given back where it is let go.
+pub struct Place<'x, R: Wait> {
+    rt: &'x R,
+    places: &'x Places,
+}
+
+impl<R: Wait> Drop for Place<'_, R> {
+    fn drop(self) {
+        let Place { rt, places } = self;
+        places.give(rt);
     }
 }

@@ -1,6 +1,32 @@
 //! The end of a server, as it is asked for.
 
+ghost use Rattle.std.specs.Prelude.{◌≡◌};
+
+use std::marker::Model;
 use std::sync::atomic::{AtomicBool, Ordering};
+
+/// Whether the end was asked for, as it was looked up. A [`Stop`] alone gives one, at each look.
+#[derive(Drop)]
+pub struct Asked {
+    yes: bool,
+}
+
+impl Model for Asked {
+    ghost use Rattle.std.specs.Prelude.{Bool};
+
+    ghost Value = { Bool };
+
+    ghost view = { λ a. a.yes };
+}
+
+impl Asked {
+    /// Whether it was.
+    pub fn is_yes(&self) -> bool
+        ensures { result ≡ self.now }
+    {
+        self.yes
+    }
+}
 
 /// Whether a server is to end: no connection is taken any more, and those that are served end.
 #[derive(Drop)]
@@ -22,7 +48,9 @@ impl Stop {
     }
 
     /// Whether the end was asked for.
-    pub fn is_asked(&self) -> bool {
-        self.asked.load(Ordering::SeqCst)
+    pub fn is_asked(&self) -> Asked {
+        Asked {
+            yes: self.asked.load(Ordering::SeqCst),
+        }
     }
 }

@@ -1,1 +1,3 @@
+pub mod Hearing
+pub mod Sitting
 pub mod Speaking

@@ -14,10 +14,12 @@ use Rattle.gx_devices.specs.Devices.{IsFront}
 use Rattle.gx_session.specs.declared.event.Control.TheVariants as controls
 use Rattle.gx_session.specs.Sending.{control_bytes, reports_text}
 use Rattle.gx_devices.proofs.Known.{front_behind, front_longer}
-use Rattle.gx_serve.specs.declared.seat.Due.{Due}
-use Rattle.gx_serve.specs.declared.seat.Due.TheVariants as dues
+use Rattle.gx_serve.specs.declared.seat.outgoing.Due.{Due}
+use Rattle.gx_serve.specs.declared.seat.outgoing.Due.TheVariants as dues
 use Rattle.gx_serve.specs.declared.seat.Sign.TheVariants as signs
-use Rattle.gx_serve.specs.declared.writing.Greeted.TheVariants as greeteds
+use Rattle.gx_serve.specs.declared.seat.outgoing.Greeted.{Greeted}
+use Rattle.gx_serve.specs.declared.seat.outgoing.Greeted.TheVariants as greeteds
+use Rattle.gx_serve.specs.declared.seat.outgoing.Finished.{Finished}
 use Rattle.gx_serve.specs.Speech
 
 -- parts that go on where others ended
@@ -41,17 +43,17 @@ nothing_spoken policy user from = record { parts = []; go_on = refl; whole = ref
 due_spoken : (policy : PolicyData) (user : UserName) (from : ℕ) (due : Due) → Speech.IsDue policy user from due → Speech.is_last due ≡ false → Speech.IsSpoken policy user from (Speech.due_text due) (Speech.next_after due from)
 due_spoken policy user from (dues.Sign signs.Heartbeat) d e = record { parts = Speech.Beat ∷ []; go_on = refl; whole = sym (append-nil (control_bytes controls.Heartbeat)) }
 due_spoken policy user from (dues.Sign signs.EndOfSession) d e = cc
-due_spoken policy user from (dues.Reports pulled) d e = record { parts = Speech.Shown pulled ∷ []; go_on = (d, refl); whole = sym (append-nil (reports_text pulled.reports)) }
+due_spoken policy user from (dues.Reports fetched) d e = record { parts = Speech.Shown fetched.pulled ∷ []; go_on = (d, refl); whole = sym (append-nil (reports_text fetched.pulled.reports)) }
 due_spoken policy user from dues.Nothing d e = record { parts = []; go_on = refl; whole = refl }
-due_spoken policy user from dues.Over d e = cc
+due_spoken policy user from (dues.Over finished) d e = cc
 
 -- what is due and the last is an ending
 due_ends : (due : Due) → Speech.is_last due ≡ true → Speech.IsEnding (Speech.due_text due)
 due_ends (dues.Sign signs.Heartbeat) e = cc
 due_ends (dues.Sign signs.EndOfSession) e = inr refl
-due_ends (dues.Reports pulled) e = cc
+due_ends (dues.Reports fetched) e = cc
 due_ends dues.Nothing e = cc
-due_ends dues.Over e = inl refl
+due_ends (dues.Over finished) e = inl refl
 
 -- of what the writer has come to
 pub record Says (policy : PolicyData) (user : UserName) (from to : ℕ) (before after : Option (List ℕ)) : Type 0 where
@@ -80,6 +82,10 @@ says_last policy user from to before mid after due e s w = record {
 }
 
 -- the same, of what the functions answered
+
+-- the user is the one from the beginning
+pub due_still : (policy : PolicyData) (user user' : UserName) (from : ℕ) (due : Due) → user' ≡ user → Speech.IsDue policy user' from due → Speech.IsDue policy user from due
+due_still policy user user' from due same d = subst (λ u. Speech.IsDue policy u from due) same d
 
 pub goes_further : (policy : PolicyData) (user : UserName) (from to next : ℕ) (before mid after : Option (List ℕ)) (due : Due) (last : Bool) → Speech.IsDue policy user to due → last ≡ Speech.is_last due → last ≡ false → next ≡ Speech.next_after due to → Says policy user from to before mid → Appends mid after (Speech.due_text due) → Says policy user from next before after
 goes_further policy user from to next before mid after due last d l e n s w = subst (λ k. Says policy user from k before after) (sym n) (says_more policy user from to before mid after due d (sym l ∙ e) s w)
@@ -112,13 +118,17 @@ is_cut_off policy user from to before mid after due d s f = elim (Speech.is_last
 pub nothing_said : (policy : PolicyData) (output : Option (List ℕ)) → Speech.WasSaid policy output output
 nothing_said policy output = record { text = []; said = inl refl; written = Appends-nil output }
 
-pub is_said : (policy : PolicyData) (before after : Option (List ℕ)) → Speech.IsGreeted before after greeteds.Over → Speech.WasSaid policy before after
-is_said policy before after (inl w) = record { text = []; said = inl refl; written = w }
-is_said policy before after (inr (reason, w)) = record { text = control_bytes (controls.Rejected reason); said = inr (inl (reason, refl)); written = w }
+pub is_said : (policy : PolicyData) (finished : Finished) (before after : Option (List ℕ)) → Speech.IsGreeted before after (greeteds.Over finished) → Speech.WasSaid policy before after
+is_said policy finished before after (inl w) = record { text = []; said = inl refl; written = w }
+is_said policy finished before after (inr (reason, w)) = record { text = control_bytes (controls.Rejected reason); said = inr (inl (reason, refl)); written = w }
 
-pub is_greeted : (user : UserName) (answer : LoginAnswer) (before after : Option (List ℕ)) → Appends before after (control_bytes (Speech.answer_control answer)) → Speech.IsGreeted before after (Speech.greeted_by user answer)
-is_greeted user (answers.Accepted session next) before after w = (session, w)
-is_greeted user (answers.Rejected reason) before after w = inr (reason, w)
+pub is_greeted : (user : UserName) (answer : LoginAnswer) (greeted : Greeted) (before after : Option (List ℕ)) → Appends before after (control_bytes (Speech.answer_control answer)) → Speech.Begins user answer greeted → Speech.IsGreeted before after greeted
+is_greeted user (answers.Accepted session next) (greeteds.On m) before after w b = (session, subst (λ n. Appends before after (control_bytes (controls.Accepted session n))) (sym (ap (λ k. k.next) b)) w)
+is_greeted user (answers.Accepted session next) (greeteds.Over finished) before after w b = absurd b
+is_greeted user (answers.Accepted session next) greeteds.Cut before after w b = absurd b
+is_greeted user (answers.Rejected reason) (greeteds.On m) before after w b = absurd b
+is_greeted user (answers.Rejected reason) (greeteds.Over finished) before after w b = inr (reason, w)
+is_greeted user (answers.Rejected reason) greeteds.Cut before after w b = absurd b
 
 blank_user : UserName
 blank_user = record { bytes = codes "      " }

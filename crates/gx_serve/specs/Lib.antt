@@ -1,2 +1,7 @@
+pub mod Breaks
+pub mod Marks
 pub mod Seats
+pub mod Seeking
 pub mod Speech
+pub mod Tellings
+pub mod Readings

@@ -1,14 +1,29 @@
--- What becomes of a session that two threads share, and of what it asks to send.
-use Rattle.std.specs.Prelude.{◌≡◌, ℕ, ◌⊎◌, Option, Some, None, IsTrue}
+-- What becomes of a session that two threads share, of its pass, and of what it asks to send.
+use Rattle.std.specs.Prelude.{◌≡◌, ℕ, ◌⊎◌, Bool, true, false, Option, Some, None, []}
+use Rattle.gx_units.specs.declared.names.UserName.{UserName}
+use Rattle.gx_policy.specs.declared.policy.PolicyData.{PolicyData}
+use Rattle.gx_history.specs.declared.record.Asked.{Asked}
+use Rattle.gx_history.specs.declared.record.Request.{Request}
+use Rattle.gx_history.specs.declared.record.Request.TheVariants as requests
 use Rattle.gx_answers.specs.declared.outcome.LoginAnswer.{LoginAnswer}
-use Rattle.gx_answers.specs.declared.outcome.StepFault.{StepFault}
-use Rattle.gx_soup.specs.declared.packet.ClientPacket.{ClientPacket}
 use Rattle.gx_answers.specs.declared.outcome.LoginAnswer.TheVariants as answers
+use Rattle.gx_answers.specs.declared.outcome.Outcome.{Outcome}
+use Rattle.gx_answers.specs.declared.outcome.StepFault.{StepFault}
+use Rattle.gx_answers.specs.Gates.{left_by}
+use Rattle.gx_soup.specs.declared.packet.ClientPacket.{ClientPacket}
+use Rattle.gx_soup.specs.declared.packet.ClientPacket.TheVariants as client
+use Rattle.gx_soup.specs.declared.packet.LoginRequest.{LoginRequest}
+use Rattle.gx_pass.specs.declared.view.Holds.{Holds}
+use Rattle.gx_pass.specs.Views.{holds, mine}
+use Rattle.gx_door.specs.Acts.{asked_on, gate_met, login_on, AddsOwn, IsLater, IsToldFull, LogsIn, MayBeRefused}
 use Rattle.gx_session.specs.declared.event.Control.{Control}
 use Rattle.gx_session.specs.declared.event.Control.TheVariants as controls
+use Rattle.gx_session.specs.declared.event.Next.{Next}
+use Rattle.gx_session.specs.declared.event.Next.TheVariants.{Idle, Login, Act, Logout, Close}
 use Rattle.gx_serve.specs.declared.seat.Sign.{Sign}
 use Rattle.gx_serve.specs.declared.seat.Sign.TheVariants as signs
-use Rattle.gx_session.specs.Events.{asks_step, is_login}
+use Rattle.gx_session.specs.declared.session.Phase.{Phase}
+use Rattle.gx_session.specs.declared.session.Phase.TheVariants.{Fresh, Waiting, On, Abandoned, Done}
 use Rattle.gx_session.specs.Happenings.{Happening}
 use Rattle.gx_session.specs.Happenings as happens
 use Rattle.gx_session.specs.Table.{SessionData, turn}
@@ -29,24 +44,138 @@ sign_after left (Some (controls.Rejected reason)) = left
 sign_after left (Some controls.Heartbeat) = Some signs.Heartbeat
 sign_after left (Some controls.EndOfSession) = Some signs.EndOfSession
 
--- the session was told of an event at this moment, and, where the step that it asked for was
--- refused, of that
-abbrev pub WasTold : SessionData → Happening → ℕ → SessionData → Type 0
-WasTold was event moment is =
-    (is ≡ (turn was event moment).session)
-    ⊎ (IsTrue (asks_step (turn was event moment).reply.next)
-    × ((fault : StepFault)
-    × (is ≡ (turn (turn was event moment).session (happens.Refused fault) moment).session)))
+-- a user is logged in
+abbrev pub is_on : Phase → Bool
+is_on Fresh = false
+is_on Waiting = false
+is_on On = true
+is_on Abandoned = false
+is_on Done = false
 
--- the session was told of the answer to its login at this moment, or of its refusal
-abbrev pub WasAnswered : SessionData → ℕ → SessionData → Type 0
-WasAnswered was moment is =
-    ((answer : LoginAnswer) × WasTold was (happens.Answered answer) moment is)
-    ⊎ ((fault : StepFault) × (is ≡ (turn was (happens.Refused fault) moment).session))
+-- what the pass in the seat has met
+abbrev pub met : {T : Type 0} → (T → Holds) → Option T → Holds
+met held None = holds 0 [] 0
+met held (Some pass) = held pass
 
--- the session was told of a packet at this moment, and, where that was a login, of what came of it
-abbrev pub WasTaken : SessionData → ClientPacket → ℕ → SessionData → Type 0
-WasTaken was packet moment is =
-    WasTold was (happens.Packet packet) moment is
-    ⊎ (IsTrue (is_login (turn was (happens.Packet packet) moment).reply.next)
-    × WasAnswered (turn was (happens.Packet packet) moment).session moment is)
+-- the step was made: its record is one more of the pass's own, behind all that had been met
+pub record WasMade (policy : PolicyData) (a : Asked) (was is : Holds) : Type 0 where
+  pub later : IsLater policy was is
+  pub outcome : Outcome
+  pub adds : AddsOwn was is (left_by a outcome)
+
+-- the step was refused so
+pub record WasRefused (policy : PolicyData) (a : Asked) (fault : StepFault) (was is : Holds) : Type 0 where
+  pub later : IsLater policy was is
+  pub own : mine is ≡ mine was
+  pub full : IsToldFull (gate_met policy is) fault
+  pub may : MayBeRefused (gate_met policy is) a
+
+-- a logout was made, or one that is not granted was refused
+abbrev pub WasLoggedOut : PolicyData → UserName → ℕ → Holds → Holds → Type 0
+WasLoggedOut policy user moment was is =
+    WasMade policy (asked_on was.line user requests.Logout moment) was is
+    ⊎ ((fault : StepFault) × WasRefused policy (asked_on was.line user requests.Logout moment) fault was is)
+
+-- the logout that a session asks for
+abbrev pub Outs : Next → PolicyData → UserName → ℕ → Holds → Holds → Type 0
+Outs Idle policy user moment was is = is ≡ was
+Outs Login policy user moment was is = is ≡ was
+Outs (Act request) policy user moment was is = is ≡ was
+Outs Logout policy user moment was is = WasLoggedOut policy user moment was is
+Outs Close policy user moment was is = is ≡ was
+
+-- the session was told of this refusal at this moment, and the logout that it then asks for was made
+pub record WasToldRefusal (policy : PolicyData) (user : UserName) (fault : StepFault) (moment : ℕ) (session : SessionData) (was : Holds) (session' : SessionData) (is : Holds) : Type 0 where
+  pub told : session' ≡ (turn session (happens.Refused fault) moment).session
+  pub outs : Outs (turn session (happens.Refused fault) moment).reply.next policy user moment was is
+
+-- a step that a session asked for was refused, and the session was told of that
+pub record WasGivenUp (policy : PolicyData) (user : UserName) (request : Request) (moment : ℕ) (session : SessionData) (was : Holds) (session' : SessionData) (is : Holds) : Type 0 where
+  pub fault : StepFault
+  pub between : Holds
+  pub refused : WasRefused policy (asked_on was.line user request moment) fault was between
+  pub told : WasToldRefusal policy user fault moment session between session' is
+
+-- the step that a session asks for was made, or it was told of its refusal
+abbrev pub Follows : Next → PolicyData → UserName → ℕ → SessionData → Holds → SessionData → Holds → Type 0
+Follows Idle policy user moment session was session' is = (session' ≡ session) × (is ≡ was)
+Follows Login policy user moment session was session' is = (session' ≡ session) × (is ≡ was)
+Follows (Act request) policy user moment session was session' is =
+    ((session' ≡ session) × WasMade policy (asked_on was.line user request moment) was is)
+    ⊎ WasGivenUp policy user request moment session was session' is
+Follows Logout policy user moment session was session' is = (session' ≡ session) × WasLoggedOut policy user moment was is
+Follows Close policy user moment session was session' is = (session' ≡ session) × (is ≡ was)
+
+-- the session was told of an event at this moment, and what it then asks for was done
+abbrev pub WasTold : PolicyData → UserName → Happening → ℕ → SessionData → Holds → SessionData → Holds → Type 0
+WasTold policy user event moment session was session' is =
+    Follows (turn session event moment).reply.next policy user moment (turn session event moment).session was session' is
+
+-- the session was told of the server's end at this moment, where it was asked for
+abbrev pub Heeds : Bool → PolicyData → UserName → ℕ → SessionData → Holds → SessionData → Holds → Type 0
+Heeds true policy user moment session was session' is = WasTold policy user happens.End moment session was session' is
+Heeds false policy user moment session was session' is = (session' ≡ session) × (is ≡ was)
+
+-- the login was made, and the session was told of what the gate answered
+pub record WasLoggedIn (policy : PolicyData) (login : LoginRequest) (moment : ℕ) (session : SessionData) (was : Holds) (left : Option LoginAnswer) (session' : SessionData) (is : Holds) (left' : Option LoginAnswer) : Type 0 where
+  pub answer : LoginAnswer
+  pub between : Holds
+  pub later : IsLater policy was between
+  pub logs : LogsIn policy was between (login_on policy was.line login.user login.password login.session login.wanted moment) login.wanted answer
+  pub told : WasTold policy login.user (happens.Answered answer) moment session between session' is
+  pub sends : left' ≡ answer_after left (turn session (happens.Answered answer) moment).reply.send
+
+-- the login was refused, and the session was told of that
+pub record WasTurnedAway (policy : PolicyData) (login : LoginRequest) (moment : ℕ) (session : SessionData) (was : Holds) (left : Option LoginAnswer) (session' : SessionData) (is : Holds) (left' : Option LoginAnswer) : Type 0 where
+  pub fault : StepFault
+  pub between : Holds
+  pub later : IsLater policy was between
+  pub own : mine between ≡ mine was
+  pub full : IsToldFull (gate_met policy between) fault
+  pub told : WasToldRefusal policy login.user fault moment session between session' is
+  pub sends : left' ≡ left
+
+-- what came of a login
+abbrev pub WasAnswered : PolicyData → LoginRequest → ℕ → SessionData → Holds → Option LoginAnswer → SessionData → Holds → Option LoginAnswer → Type 0
+WasAnswered policy login moment session was left session' is left' =
+    WasLoggedIn policy login moment session was left session' is left'
+    ⊎ WasTurnedAway policy login moment session was left session' is left'
+
+-- what came of a packet with which a session asks for a login
+abbrev pub Admits : ClientPacket → PolicyData → ℕ → SessionData → Holds → Option LoginAnswer → SessionData → Holds → Option LoginAnswer → Type 0
+Admits (client.Login login) policy moment session was left session' is left' = WasAnswered policy login moment session was left session' is left'
+Admits (client.Data payload) policy moment session was left session' is left' = (session' ≡ session) × (is ≡ was)
+Admits client.Logout policy moment session was left session' is left' = (session' ≡ session) × (is ≡ was)
+Admits client.Heartbeat policy moment session was left session' is left' = (session' ≡ session) × (is ≡ was)
+Admits client.Debug policy moment session was left session' is left' = (session' ≡ session) × (is ≡ was)
+
+-- what a session asked for on a packet was done
+abbrev pub Serves : Next → ClientPacket → PolicyData → UserName → ℕ → SessionData → Holds → Option LoginAnswer → SessionData → Holds → Option LoginAnswer → Type 0
+Serves Idle packet policy user moment session was left session' is left' = Follows Idle policy user moment session was session' is
+Serves Login packet policy user moment session was left session' is left' = Admits packet policy moment session was left session' is left'
+Serves (Act request) packet policy user moment session was left session' is left' = Follows (Act request) policy user moment session was session' is
+Serves Logout packet policy user moment session was left session' is left' = Follows Logout policy user moment session was session' is
+Serves Close packet policy user moment session was left session' is left' = Follows Close policy user moment session was session' is
+
+-- the session was told of a packet at this moment, and what it then asks for was done
+abbrev pub WasTaken : PolicyData → UserName → ClientPacket → ℕ → SessionData → Holds → Option LoginAnswer → SessionData → Holds → Option LoginAnswer → Type 0
+WasTaken policy user packet moment session was left session' is left' =
+    Serves (turn session (happens.Packet packet) moment).reply.next packet policy user moment (turn session (happens.Packet packet) moment).session was
+    (answer_after left (turn session (happens.Packet packet) moment).reply.send) session' is left'
+
+-- who is asked for from then on
+abbrev pub user_after : Next → ClientPacket → UserName → UserName
+user_after Login (client.Login login) user = login.user
+user_after Login (client.Data payload) user = user
+user_after Login client.Logout user = user
+user_after Login client.Heartbeat user = user
+user_after Login client.Debug user = user
+user_after Idle packet user = user
+user_after (Act request) packet user = user
+user_after Logout packet user = user
+user_after Close packet user = user
+
+-- the pass has met more, and none of its own
+pub record HasLooked (was is : Holds) : Type 0 where
+  pub line : is.line ≡ was.line
+  pub own : mine is ≡ mine was

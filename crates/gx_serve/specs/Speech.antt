@@ -18,12 +18,13 @@ use Rattle.gx_session.specs.declared.event.Control.{Control}
 use Rattle.gx_session.specs.declared.event.Control.TheVariants as controls
 use Rattle.gx_session.specs.Sending.{control_bytes, reports_text}
 use Rattle.gx_door.specs.Acts.{gate_at, most_pulled, IsPulled}
-use Rattle.gx_serve.specs.declared.seat.Due.{Due}
-use Rattle.gx_serve.specs.declared.seat.Due.TheVariants as dues
+use Rattle.gx_serve.specs.declared.seat.outgoing.Due.{Due}
+use Rattle.gx_serve.specs.declared.seat.outgoing.Due.TheVariants as dues
 use Rattle.gx_serve.specs.declared.seat.Sign.{Sign}
 use Rattle.gx_serve.specs.declared.seat.Sign.TheVariants as signs
-use Rattle.gx_serve.specs.declared.writing.Greeted.{Greeted}
-use Rattle.gx_serve.specs.declared.writing.Greeted.TheVariants as greeteds
+use Rattle.gx_serve.specs.Marks.{mark}
+use Rattle.gx_serve.specs.declared.seat.outgoing.Greeted.{Greeted}
+use Rattle.gx_serve.specs.declared.seat.outgoing.Greeted.TheVariants as greeteds
 
 -- the packet of a login's answer
 abbrev pub answer_control : LoginAnswer → Control
@@ -38,9 +39,9 @@ sign_control signs.EndOfSession = controls.EndOfSession
 -- what is written of what is due: a packet of the session's own, or one for each report
 abbrev pub due_text : Due → List ℕ
 due_text (dues.Sign sign) = control_bytes (sign_control sign)
-due_text (dues.Reports pulled) = reports_text pulled.reports
+due_text (dues.Reports fetched) = reports_text fetched.pulled.reports
 due_text dues.Nothing = []
-due_text dues.Over = []
+due_text (dues.Over finished) = []
 
 -- the user's reports from this number on, as the records of a legal day owe them to him, in which he is logged in
 pub record IsShown (policy : PolicyData) (user : UserName) (from : ℕ) (pulled : Pulled) : Type 0 where
@@ -52,24 +53,24 @@ pub record IsShown (policy : PolicyData) (user : UserName) (from : ℕ) (pulled 
 -- where reports are due, they are the user's from this number on
 abbrev pub IsDue : PolicyData → UserName → ℕ → Due → Type 0
 IsDue policy user from (dues.Sign sign) = Unit {0}
-IsDue policy user from (dues.Reports pulled) = IsShown policy user from pulled
+IsDue policy user from (dues.Reports fetched) = IsShown policy user from fetched.pulled
 IsDue policy user from dues.Nothing = Unit {0}
-IsDue policy user from dues.Over = Unit {0}
+IsDue policy user from (dues.Over finished) = Unit {0}
 
 -- nothing is sent behind it
 abbrev pub is_last : Due → Bool
 is_last (dues.Sign signs.Heartbeat) = false
 is_last (dues.Sign signs.EndOfSession) = true
-is_last (dues.Reports pulled) = false
+is_last (dues.Reports fetched) = false
 is_last dues.Nothing = false
-is_last dues.Over = true
+is_last (dues.Over finished) = true
 
 -- the number of the next report behind it
 abbrev pub next_after : Due → ℕ → ℕ
 next_after (dues.Sign sign) next = next
-next_after (dues.Reports pulled) next = pulled.next
+next_after (dues.Reports fetched) next = fetched.pulled.next
 next_after dues.Nothing next = next
-next_after dues.Over next = next
+next_after (dues.Over finished) next = next
 
 -- a part of what a user who is on is sent: a heartbeat, or reports
 pub data Part : Type 0 where
@@ -146,18 +147,22 @@ pub record WasCutOff (policy : PolicyData) (user : UserName) (from : ℕ) (befor
 
 -- the answer to a login was written, or a front of it
 abbrev pub IsGreeted : Option (List ℕ) → Option (List ℕ) → Greeted → Type 0
-IsGreeted before after (greeteds.On user next) = (session : SessionName) × Appends before after (control_bytes (controls.Accepted session next))
-IsGreeted before after greeteds.Over =
+IsGreeted before after (greeteds.On m) = (session : SessionName) × Appends before after (control_bytes (controls.Accepted session m.next))
+IsGreeted before after (greeteds.Over finished) =
     Appends before after [] ⊎ ((reason : LoginRejection) × Appends before after (control_bytes (controls.Rejected reason)))
 IsGreeted before after greeteds.Cut = (answer : LoginAnswer) × IsFront before after (control_bytes (answer_control answer))
 
--- what comes of a login that this user was answered so
-abbrev pub greeted_by : UserName → LoginAnswer → Greeted
-greeted_by user (answers.Accepted session next) = greeteds.On user next
-greeted_by user (answers.Rejected reason) = greeteds.Over
+-- what comes of a login that a user was answered so
+abbrev pub Begins : UserName → LoginAnswer → Greeted → Type 0
+Begins user (answers.Accepted session next) (greeteds.On m) = m ≡ mark user next
+Begins user (answers.Accepted session next) (greeteds.Over finished) = ⊥
+Begins user (answers.Accepted session next) greeteds.Cut = ⊥
+Begins user (answers.Rejected reason) (greeteds.On m) = ⊥
+Begins user (answers.Rejected reason) (greeteds.Over finished) = Unit {0}
+Begins user (answers.Rejected reason) greeteds.Cut = ⊥
 
 -- the fact, where a user is on
 abbrev pub IfOn : Greeted → Type 0 → Type 0
-IfOn (greeteds.On user next) Fact = Fact
-IfOn greeteds.Over Fact = Unit {0}
+IfOn (greeteds.On m) Fact = Fact
+IfOn (greeteds.Over finished) Fact = Unit {0}
 IfOn greeteds.Cut Fact = Unit {0}

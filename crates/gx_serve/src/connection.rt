@@ -1,12 +1,12 @@
 //! A connection: its two threads.
 
 use crate::link::Link;
-use crate::reading::read_on;
+use crate::reading::{Heard, read_on};
+use crate::seat::{Break, BrokenOff};
 use crate::writing::write_on;
 use gx_devices::Counted;
-use gx_door::Door;
+use gx_door::{Dial, Door};
 use gx_lobby::{Bell, Stop};
-use gx_session::Event;
 use gx_soup::SoupFault;
 use std::alloc::Global;
 use std::io::{Read, Write};
@@ -35,37 +35,71 @@ impl HangUp for TcpStream {
     }
 }
 
+/// That this line was hung up. It is made by hanging up alone.
+#[derive(Drop)]
+pub struct HungUp<'x, H> {
+    _line: &'x H,
+}
+
+impl<'x, H: HangUp> HungUp<'x, H> {
+    /// Hangs up.
+    fn new(line: &'x H) -> HungUp<'x, H> {
+        line.hang_up();
+        HungUp { _line: line }
+    }
+}
+
 /// Writes until the session is over, and hangs up.
-fn speak<D: Door, O: Write + Drop, H: HangUp, R: Wait + Clock>(
+fn speak<'x, D: Door, O: Write + Drop, H: HangUp, R: Wait + Clock + Dial>(
     rt: &R,
     alloc: Global,
     door: &D,
     stop: &Stop,
     link: &Link<D::Ticket>,
     writer: O,
-    line: &H,
-) {
-    if write_on(rt, alloc, door, stop, link, &mut Counted::new(writer)) {
+    line: &'x H,
+) -> HungUp<'x, H> {
+    let finished = write_on(rt, alloc, door, stop, link, &mut Counted::new(writer));
+    if finished.is_some() {
         line.finish();
         link.linger(rt);
     }
-    line.hang_up();
+    HungUp::new(line)
 }
 
-/// Reads to the end. Answers why the session ended where its bytes are no packets.
-fn listen<D: Door, I: Read + Drop, R: Wait + Clock>(
+/// What a connection's reader has come to.
+#[derive(Drop)]
+pub enum Listening {
+    /// It has read to the end.
+    Heard(Heard),
+    /// There was no thread for it, and the session was told so.
+    Unheard(BrokenOff),
+}
+
+impl Listening {
+    /// Why the session ended, where its bytes are no packets.
+    pub fn fault(&self) -> Option<SoupFault> {
+        match self {
+            Listening::Heard(heard) => heard.fault(),
+            Listening::Unheard(_) => None,
+        }
+    }
+}
+
+/// Reads to the end.
+fn listen<D: Door, I: Read + Drop, R: Wait + Clock + Dial>(
     rt: &R,
     alloc: Global,
     door: &D,
     bell: &Bell,
     link: &Link<D::Ticket>,
     reader: I,
-) -> Option<SoupFault> {
+) -> Heard {
     read_on(rt, alloc, door, bell, link, &mut Counted::new(reader))
 }
 
-/// Runs a connection's reader and its writer, each in a thread of its own, until both have ended. Answers why the
-/// session ended where its bytes are no packets.
+/// Runs a connection's reader and its writer, each in a thread of its own, until both have ended and the line was hung
+/// up.
 pub fn converse<
     'x,
     T: Drop + Send,
@@ -73,7 +107,7 @@ pub fn converse<
     I: Read + Drop + Send,
     O: Write + Drop,
     H: HangUp + Sync,
-    R: Threads + Wait + Clock + Sync,
+    R: Threads + Wait + Clock + Dial + Sync,
 >(
     rt: &'x R,
     alloc: Global,
@@ -84,14 +118,14 @@ pub fn converse<
     reader: I,
     writer: O,
     line: &'x H,
-) -> Option<SoupFault> {
+) -> (HungUp<'x, H>, Listening) {
     thread::scope(thread::scope_env(), rt, |scope| {
         let Ok(listening) = (&*scope).spawn(move || listen(rt, alloc, door, bell, link, reader))
         else {
-            link.tell(rt, door, Event::Fault);
-            return None;
+            let told = link.break_off(rt, door, Break::Fault);
+            return (HungUp::new(line), Listening::Unheard(told));
         };
-        speak(rt, alloc, door, stop, link, writer, line);
-        listening.join(rt)
+        let hung_up = speak(rt, alloc, door, stop, link, writer, line);
+        (hung_up, Listening::Heard(listening.join(rt)))
     })
 }

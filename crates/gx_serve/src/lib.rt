@@ -7,6 +7,7 @@
 #![tactic(auto)]
 
 mod connection;
+mod dated;
 mod fault;
 mod link;
 mod matching;
@@ -15,7 +16,7 @@ mod seat;
 mod serving;
 mod writing;
 
-pub use connection::{HangUp, converse};
+pub use connection::{HangUp, Listening, converse};
 pub use fault::ServeFault;
 pub use link::Link;
 pub use matching::match_on;

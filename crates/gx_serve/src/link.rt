@@ -1,14 +1,16 @@
 //! A connection's lock.
 
+ghost use Rattle.std.specs.Prelude.{◌≡◌};
+ghost use Rattle.gx_serve.specs.Breaks.{break_of};
+ghost use Rattle.gx_session.specs.Happenings as happens;
+ghost use Rattle.gx_serve.specs.Marks.{mark_sent};
 ghost use Rattle.gx_serve.specs.Speech.{IsDue};
 
-use crate::seat::{Due, Greeting, Seat};
-use gx_answers::LoginAnswer;
-use gx_door::Door;
-use gx_lobby::{Stop, Watch, now};
-use gx_session::Event;
+use crate::seat::outgoing::{Answered, Bookmark, Due, Fetched, Finished, Greeting};
+use crate::seat::{Break, BrokenOff, Ended, Seat, Told};
+use gx_door::{Dial, Door};
+use gx_lobby::Stop;
 use gx_soup::ClientPacket;
-use gx_units::UserName;
 use std::sync::{Condvar, Mutex, Wait};
 use std::time::{Clock, Duration};
 
@@ -45,9 +47,9 @@ pub struct Link<T: Drop> {
 
 impl<T: Drop> Link<T> {
     /// A new session, with the pass that its steps are made with.
-    pub fn new(pass: T, moment: u64) -> Link<T> {
+    pub fn new<R: Dial>(rt: &R, pass: T) -> Link<T> {
         Link {
-            seat: Mutex::new(Seat::new(pass, moment)),
+            seat: Mutex::new(Seat::new(rt, pass, rt.moment())),
             news: Condvar::new(),
         }
     }
@@ -67,53 +69,76 @@ impl<T: Drop> Link<T> {
         }
     }
 
-    /// Takes a packet, a logout only once the user was told of his steps. Answers whether the session is over.
-    pub fn take<D: Door<Ticket = T>, R: Wait + Clock>(
+    /// Takes a packet, a logout only once the user was told of his steps.
+    pub fn take<'a, D: Door<Ticket = T>, R: Wait + Clock + Dial>(
         &self,
         rt: &R,
         door: &D,
-        packet: &ClientPacket,
-    ) -> bool {
+        packet: &'a ClientPacket,
+    ) -> Told<'a>
+        ensures { result.event ≡ happens.Packet packet.now }
+    {
         if is_farewell(packet) {
             self.await_look(rt);
         }
-        let mut seat = self.seat.lock(rt);
-        seat.take(rt, door, packet, now(rt));
+        let told = self.seat.lock(rt).take(rt, door, packet, rt.moment());
         self.news.notify_one();
-        seat.is_over()
+        told
     }
 
-    /// Tells the session of an event.
-    pub fn tell<D: Door<Ticket = T>, R: Wait + Clock>(&self, rt: &R, door: &D, event: Event<'_>) {
-        self.seat.lock(rt).tell(rt, door, event, now(rt));
+    /// Tells the session of what breaks it off.
+    pub fn break_off<D: Door<Ticket = T>, R: Wait + Clock + Dial>(
+        &self,
+        rt: &R,
+        door: &D,
+        cause: Break,
+    ) -> BrokenOff
+        ensures { result ≡ break_of cause }
+    {
+        let told = self.seat.lock(rt).break_off(rt, door, cause, rt.moment());
+        self.news.notify_one();
+        told
+    }
+
+    /// These reports were sent: tells the session so, and goes on behind them.
+    pub fn sent<D: Door<Ticket = T>, R: Wait + Clock + Dial>(
+        &self,
+        rt: &R,
+        door: &D,
+        fetched: Fetched,
+        bookmark: &mut Bookmark,
+    )
+        ensures { bookmark.new ≡ mark_sent bookmark.old fetched }
+    {
+        self.seat
+            .lock(rt)
+            .sent(rt, door, fetched, bookmark, rt.moment());
         self.news.notify_one();
     }
 
     /// The reader has ended: its input has no more. The user is told of his steps before.
-    pub fn end<D: Door<Ticket = T>, R: Wait + Clock>(&self, rt: &R, door: &D) {
+    pub fn end<D: Door<Ticket = T>, R: Wait + Clock + Dial>(&self, rt: &R, door: &D) -> Ended {
         self.await_look(rt);
-        let mut seat = self.seat.lock(rt);
-        seat.tell(rt, door, Event::End, now(rt));
-        seat.deafen();
+        let ended = self.seat.lock(rt).end(rt, door, rt.moment());
         self.news.notify_one();
+        ended
     }
 
-    /// Waits until the login is answered, for the user and the answer; `None` once the session is over,
-    /// which it is soon after the server's end was asked for.
-    pub fn await_answer<D: Door<Ticket = T>, R: Wait + Clock>(
+    /// Waits until the login is answered, for the answer; `Err` once the session is over, which it is soon after the
+    /// server's end was asked for.
+    pub fn await_answer<D: Door<Ticket = T>, R: Wait + Clock + Dial>(
         &self,
         rt: &R,
         door: &D,
         stop: &Stop,
-    ) -> Option<(UserName, LoginAnswer)> {
+    ) -> Result<Answered, Finished> {
         let mut seat = self.seat.lock(rt);
         for _ in rt.forever() {
-            if stop.is_asked() {
-                seat.tell(rt, door, Event::End, now(rt));
-            }
-            match seat.greet(rt, door, now(rt)) {
-                Greeting::Answer(user, answer) => return Some((user, answer)),
-                Greeting::Over => return None,
+            let moment = rt.moment();
+            let heeded = seat.heed(rt, door, stop.is_asked(), moment);
+            match seat.greet(rt, door, heeded, moment) {
+                Greeting::Answer(answered) => return Ok(answered),
+                Greeting::Over(finished) => return Err(finished),
                 Greeting::Nothing => {
                     seat = self
                         .news
@@ -125,25 +150,23 @@ impl<T: Drop> Link<T> {
         unreachable!()
     }
 
-    /// Waits until the writer has something to do for this user, whose next report has this number, or
-    /// the session is over, which it is soon after the server's end was asked for.
-    pub fn await_due<D: Door<Ticket = T>, R: Wait + Clock>(
+    /// Waits until the writer has something to do for the bookmark's user, or the session is over, which it is soon
+    /// after the server's end was asked for.
+    #[tactic(auto, using(crate::proofs::Sitting::sought_is_due))]
+    pub fn await_due<D: Door<Ticket = T>, R: Wait + Clock + Dial>(
         &self,
         rt: &R,
         door: &D,
         stop: &Stop,
-        user: UserName,
-        from: u64,
-        watch: &mut Watch,
+        bookmark: &Bookmark,
     ) -> Due
-        ensures { IsDue D.policy user from result }
+        ensures { IsDue D.policy bookmark.now.user bookmark.now.next result }
     {
         let mut seat = self.seat.lock(rt);
         for _ in rt.forever() {
-            if stop.is_asked() {
-                seat.tell(rt, door, Event::End, now(rt));
-            }
-            match seat.due(rt, door, user, from, watch, now(rt)) {
+            let moment = rt.moment();
+            let heeded = seat.heed(rt, door, stop.is_asked(), moment);
+            match seat.due(rt, door, heeded, bookmark, moment) {
                 Due::Nothing => {
                     seat = self
                         .news

@@ -1,27 +1,29 @@
 //! What the two threads of a connection share under its lock.
 
-ghost use Rattle.std.specs.Prelude.{◌≡◌, ◌⊎◌, IsTrue, is_some, None, IfNone, IfSome, if◌then◌else◌};
+ghost use Rattle.std.specs.Prelude.{◌≡◌, IsTrue, is_some, true, None, IfErr, OnOk};
+ghost use Rattle.gx_history.specs.declared.record.Request.TheVariants as requests;
 ghost use Rattle.gx_history.specs.Showing.{has_its_first};
-ghost use Rattle.gx_session.specs.Events.{is_over};
+ghost use Rattle.gx_lobby.specs.Watches.{watch_of};
+ghost use Rattle.gx_session.specs.Events.{is_over, CanAsk};
 ghost use Rattle.gx_session.specs.Happenings.{happening};
 ghost use Rattle.gx_session.specs.Happenings as happens;
 ghost use Rattle.gx_session.specs.Table.{turn, new_session};
-ghost use Rattle.gx_serve.specs.declared.seat.Due.TheVariants as dues;
-ghost use Rattle.gx_serve.specs.declared.seat.Greeting.TheVariants as greetings;
-ghost use Rattle.gx_serve.specs.Seats.{answer_after, sign_after, WasAnswered, WasTaken, WasTold};
-ghost use Rattle.gx_serve.specs.Speech.{IsDue};
+ghost use Rattle.gx_door.specs.Acts.{asked_on};
+ghost use Rattle.gx_serve.specs.Seats.{answer_after, is_on, met, sign_after, user_after};
+ghost use Rattle.gx_serve.specs.Breaks.{break_of};
+ghost use Rattle.gx_serve.specs.Seats.{Follows, Heeds, WasAnswered, WasLoggedOut, WasMade, WasRefused, WasTaken, WasTold, WasToldRefusal};
 
-use gx_answers::{LoginAnswer, Pulled, StepFault};
-use gx_door::{Door, PullFault};
+pub mod outgoing;
+
+use gx_answers::{LoginAnswer, StepFault};
+use gx_door::{Dial, Door};
 use gx_history::record::Request;
-use gx_lobby::Watch;
+use gx_lobby::{Asked, Rung, Watch};
 use gx_session::{Control, Event, Next, Phase, Session};
 use gx_soup::{ClientPacket, LoginRequest};
 use gx_units::{Moment, UserName};
+use std::marker::Model;
 use std::sync::Wait;
-
-/// The most reports of one pull.
-const BATCH: u64 = 256;
 
 /// What a session asks to send once its login was answered, besides reports.
 #[derive(Clone, Copy)]
@@ -32,28 +34,87 @@ pub enum Sign {
     EndOfSession,
 }
 
-/// What the writer does before a login is answered.
+/// What breaks a session off, other than a packet or the end of its input.
 #[derive(Clone, Copy)]
-pub enum Greeting {
-    /// Sends this user the answer to his login.
-    Answer(UserName, LoginAnswer),
-    /// Nothing for now.
-    Nothing,
-    /// Nothing any more: the session is over, and its login was not answered.
-    Over,
+pub enum Break {
+    /// A step, or room for what came, was refused.
+    Refused(StepFault),
+    /// Bytes that are no packets, or a device that failed.
+    Fault,
 }
 
-/// What the writer does for a user who was logged in.
+impl Break {
+    /// What the session is told.
+    fn event<'a>(self) -> Event<'a>
+        ensures { happening result ≡ break_of self }
+    {
+        match self {
+            Break::Refused(fault) => Event::Refused(fault),
+            Break::Fault => Event::Fault,
+        }
+    }
+}
+
+/// That a session was told of what breaks it off. A seat alone makes one.
 #[derive(Drop)]
-pub enum Due {
-    /// Sends a packet of the session's own.
-    Sign(Sign),
-    /// Sends reports.
-    Reports(Pulled),
-    /// Nothing for now.
-    Nothing,
-    /// Nothing any more: the session is over, and all that it asked to send was taken.
-    Over,
+pub struct BrokenOff {
+    cause: Break,
+}
+
+impl Model for BrokenOff {
+    ghost use Rattle.gx_session.specs.Happenings.{Happening};
+    ghost use Rattle.gx_serve.specs.Breaks.{break_of};
+
+    ghost Value = { Happening };
+
+    ghost view = { λ b. break_of b.cause };
+}
+
+/// That a session was told of a packet, and whether it was over then. A seat alone makes one.
+#[derive(Drop)]
+pub struct Told<'a> {
+    event: Event<'a>,
+    over: bool,
+}
+
+impl<'a> Model for Told<'a> {
+    ghost use Rattle.gx_session.specs.Happenings.{happening};
+    ghost use Rattle.gx_serve.specs.Tellings.{ToldData};
+
+    ghost Value = { ToldData };
+
+    ghost view = { λ t. record { event = happening t.event; over = t.over } };
+}
+
+/// That a session was over.
+#[derive(Drop)]
+pub struct Over {
+    _seen: (),
+}
+
+impl Told<'_> {
+    /// That the session was over, if it was, once the matcher's bell was rung.
+    pub fn over(&self, _rung: Rung) -> Option<Over>
+        ensures { is_some result ≡ self.now.over }
+    {
+        if self.over {
+            Some(Over { _seen: () })
+        } else {
+            None
+        }
+    }
+}
+
+/// That a session was told of the server's end, where it was asked for. A seat alone makes one, at each look.
+#[derive(Drop)]
+pub struct Heeded {
+    _told: (),
+}
+
+/// That a session was told of the end of its input, and that its reader has ended. A seat alone makes one.
+#[derive(Drop)]
+pub struct Ended {
+    _told: (),
 }
 
 /// A connection's session, its pass, and what the session asked to send.
@@ -72,15 +133,19 @@ pub struct Seat<T: Drop> {
     deaf: bool,
     /// The writer has looked for reports since the last step that was made with the pass, and left none.
     looked: bool,
+    /// What the writer has seen of the records.
+    watch: Watch,
     ghost has_pass: { IsTrue (is_some pass) },
 }
 
 impl<T: Drop> Seat<T> {
     /// A new session, with the pass that its steps are made with.
-    pub fn new(pass: T, moment: Moment) -> Seat<T>
+    pub fn new<R: Dial>(_rt: &R, pass: T, moment: Moment) -> Seat<T>
+        requires clock { R.shown moment }
         ensures session { result.session ≡ new_session moment }
         ensures answer { result.answer ≡ None }
         ensures sign { result.sign ≡ None }
+        ensures watch { result.watch ≡ watch_of 0 true }
     {
         Seat {
             session: Session::new(moment),
@@ -90,6 +155,7 @@ impl<T: Drop> Seat<T> {
             sign: None,
             deaf: false,
             looked: false,
+            watch: Watch::new(),
         }
     }
 
@@ -104,7 +170,9 @@ impl<T: Drop> Seat<T> {
     }
 
     /// Whether a user is logged in.
-    pub fn is_on(&self) -> bool {
+    pub fn is_on(&self) -> bool
+        ensures { result ≡ is_on self.now.session.phase }
+    {
         match self.session.phase() {
             Phase::On => true,
             Phase::Fresh | Phase::Waiting | Phase::Abandoned | Phase::Done => false,
@@ -112,7 +180,9 @@ impl<T: Drop> Seat<T> {
     }
 
     /// Whether the reader has ended.
-    pub fn is_deaf(&self) -> bool {
+    pub fn is_deaf(&self) -> bool
+        ensures { result ≡ self.now.deaf }
+    {
         self.deaf
     }
 
@@ -121,26 +191,26 @@ impl<T: Drop> Seat<T> {
         self.is_on() && !self.looked
     }
 
-    /// The reader has ended.
-    pub fn deafen(&mut self)
-        ensures session { self.new.session ≡ self.old.session }
-        ensures answer { self.new.answer ≡ self.old.answer }
-        ensures sign { self.new.sign ≡ self.old.sign }
-    {
-        self.deaf = true;
-    }
-
-    fn act<D: Door<Ticket = T>, R: Wait>(
+    fn act<D: Door<Ticket = T>, R: Wait + Dial>(
         &mut self,
         rt: &R,
         door: &D,
         request: Request,
         moment: Moment,
     ) -> Result<(), StepFault>
-        requires { IsTrue (has_its_first request) }
+        requires clock { R.shown moment }
+        requires first { IsTrue (has_its_first request) }
+        ensures made { OnOk result (WasMade D.policy
+            (asked_on (met D.held self.old.pass).line self.old.user request moment)
+            (met D.held self.old.pass) (met D.held self.new.pass)) }
+        ensures refused { IfErr result (λ fault. WasRefused D.policy
+            (asked_on (met D.held self.old.pass).line self.old.user request moment) fault
+            (met D.held self.old.pass) (met D.held self.new.pass)) }
+        ensures user { self.new.user ≡ self.old.user }
         ensures session { self.new.session ≡ self.old.session }
         ensures answer { self.new.answer ≡ self.old.answer }
         ensures sign { self.new.sign ≡ self.old.sign }
+        ensures watch { self.new.watch ≡ self.old.watch }
     {
         let Some(pass) = self.pass.take() else {
             unreachable!()
@@ -156,10 +226,15 @@ impl<T: Drop> Seat<T> {
 
     /// Makes a logout step. The session is over by now: where the step is refused, nothing more can
     /// be done. The gate refuses none that it grants.
-    fn log_out<D: Door<Ticket = T>, R: Wait>(&mut self, rt: &R, door: &D, moment: Moment)
+    fn log_out<D: Door<Ticket = T>, R: Wait + Dial>(&mut self, rt: &R, door: &D, moment: Moment)
+        requires clock { R.shown moment }
+        ensures out { WasLoggedOut D.policy self.old.user moment
+            (met D.held self.old.pass) (met D.held self.new.pass) }
+        ensures user { self.new.user ≡ self.old.user }
         ensures session { self.new.session ≡ self.old.session }
         ensures answer { self.new.answer ≡ self.old.answer }
         ensures sign { self.new.sign ≡ self.old.sign }
+        ensures watch { self.new.watch ≡ self.old.watch }
     {
         let Some(pass) = self.pass.take() else {
             unreachable!()
@@ -169,29 +244,36 @@ impl<T: Drop> Seat<T> {
     }
 
     /// Tells the session that a step was refused, which ends it.
-    fn refuse<D: Door<Ticket = T>, R: Wait>(
+    fn refuse<D: Door<Ticket = T>, R: Wait + Dial>(
         &mut self,
         rt: &R,
         door: &D,
         fault: StepFault,
         moment: Moment,
     )
-        ensures session { self.new.session
-            ≡ (turn self.old.session (happens.Refused fault) moment).session }
+        requires clock { R.shown moment }
+        ensures told { WasToldRefusal D.policy self.old.user fault moment
+            self.old.session (met D.held self.old.pass)
+            self.new.session (met D.held self.new.pass) }
+        ensures user { self.new.user ≡ self.old.user }
         ensures answer { self.new.answer ≡ self.old.answer }
         ensures sign { self.new.sign ≡ self.old.sign }
+        ensures watch { self.new.watch ≡ self.old.watch }
     {
-        let reply = self.session.on(Event::Refused(fault), moment);
-        if reply.next == Next::Logout {
-            self.log_out(rt, door, moment);
+        match self.session.on(Event::Refused(fault), moment).next {
+            Next::Logout => self.log_out(rt, door, moment),
+            Next::Idle | Next::Login | Next::Act(_) | Next::Close => {}
         }
     }
 
     /// Leaves a packet to be sent, if there is one.
     fn leave(&mut self, send: Option<Control>)
+        ensures user { self.new.user ≡ self.old.user }
+        ensures pass { self.new.pass ≡ self.old.pass }
         ensures session { self.new.session ≡ self.old.session }
         ensures answer { self.new.answer ≡ answer_after self.old.answer send }
         ensures sign { self.new.sign ≡ sign_after self.old.sign send }
+        ensures watch { self.new.watch ≡ self.old.watch }
     {
         match send {
             Some(Control::Accepted(session, next)) => {
@@ -204,45 +286,147 @@ impl<T: Drop> Seat<T> {
         }
     }
 
+    /// Makes the step that a session asks for. Where it is refused, the session is told so.
+    fn follow<D: Door<Ticket = T>, R: Wait + Dial>(
+        &mut self,
+        rt: &R,
+        door: &D,
+        next: Next,
+        moment: Moment,
+    )
+        requires clock { R.shown moment }
+        requires able { CanAsk next }
+        ensures follows { Follows next D.policy self.old.user moment
+            self.old.session (met D.held self.old.pass)
+            self.new.session (met D.held self.new.pass) }
+        ensures user { self.new.user ≡ self.old.user }
+        ensures answer { self.new.answer ≡ self.old.answer }
+        ensures sign { self.new.sign ≡ self.old.sign }
+        ensures watch { self.new.watch ≡ self.old.watch }
+    {
+        match next {
+            Next::Act(request) => match self.act(rt, door, request, moment) {
+                Ok(()) => {}
+                Err(fault) => self.refuse(rt, door, fault, moment),
+            },
+            Next::Logout => self.log_out(rt, door, moment),
+            Next::Idle | Next::Login | Next::Close => {}
+        }
+    }
+
     /// Tells the session of an event, makes the step that it asks for, and leaves what it asks to
     /// send. Answers what it asks for.
-    pub fn tell<D: Door<Ticket = T>, R: Wait>(
+    pub fn tell<D: Door<Ticket = T>, R: Wait + Dial>(
         &mut self,
         rt: &R,
         door: &D,
         event: Event<'_>,
         moment: Moment,
     ) -> Next
+        requires clock { R.shown moment }
         ensures next { result
             ≡ (turn self.old.session (happening event.entry) moment).reply.next }
-        ensures session { WasTold self.old.session (happening event.entry) moment self.new.session }
+        ensures told { WasTold D.policy self.old.user (happening event.entry) moment
+            self.old.session (met D.held self.old.pass)
+            self.new.session (met D.held self.new.pass) }
+        ensures user { self.new.user ≡ self.old.user }
         ensures answer { self.new.answer ≡ answer_after self.old.answer
             (turn self.old.session (happening event.entry) moment).reply.send }
         ensures sign { self.new.sign ≡ sign_after self.old.sign
             (turn self.old.session (happening event.entry) moment).reply.send }
+        ensures watch { self.new.watch ≡ self.old.watch }
     {
         let reply = self.session.on(event, moment);
         self.leave(reply.send);
-        match reply.next {
-            Next::Act(request) => {
-                if let Err(fault) = self.act(rt, door, request, moment) {
-                    self.refuse(rt, door, fault, moment);
-                }
-            }
-            Next::Logout => self.log_out(rt, door, moment),
-            Next::Idle | Next::Login | Next::Close => {}
-        }
+        self.follow(rt, door, reply.next, moment);
         reply.next
     }
 
-    fn log_in<D: Door<Ticket = T>, R: Wait>(
+    /// Tells the session of what breaks it off, and does what it asks for.
+    pub fn break_off<D: Door<Ticket = T>, R: Wait + Dial>(
+        &mut self,
+        rt: &R,
+        door: &D,
+        cause: Break,
+        moment: Moment,
+    ) -> BrokenOff
+        requires clock { R.shown moment }
+        ensures cause { result ≡ break_of cause }
+        ensures told { WasTold D.policy self.old.user (break_of cause) moment
+            self.old.session (met D.held self.old.pass)
+            self.new.session (met D.held self.new.pass) }
+        ensures user { self.new.user ≡ self.old.user }
+        ensures answer { self.new.answer ≡ answer_after self.old.answer
+            (turn self.old.session (break_of cause) moment).reply.send }
+        ensures sign { self.new.sign ≡ sign_after self.old.sign
+            (turn self.old.session (break_of cause) moment).reply.send }
+        ensures watch { self.new.watch ≡ self.old.watch }
+    {
+        self.tell(rt, door, cause.event(), moment);
+        BrokenOff { cause }
+    }
+
+    /// Tells the session of the server's end, where it was asked for.
+    #[tactic(auto, using(crate::proofs::Sitting::ends_answer_nothing, crate::proofs::Sitting::ends_leave_no_sign))]
+    pub fn heed<D: Door<Ticket = T>, R: Wait + Dial>(
+        &mut self,
+        rt: &R,
+        door: &D,
+        asked: Asked,
+        moment: Moment,
+    ) -> Heeded
+        requires clock { R.shown moment }
+        ensures told { Heeds asked D.policy self.old.user moment
+            self.old.session (met D.held self.old.pass)
+            self.new.session (met D.held self.new.pass) }
+        ensures user { self.new.user ≡ self.old.user }
+        ensures answer { self.new.answer ≡ self.old.answer }
+        ensures sign { self.new.sign ≡ self.old.sign }
+        ensures watch { self.new.watch ≡ self.old.watch }
+    {
+        if asked.is_yes() {
+            self.tell(rt, door, Event::End, moment);
+        }
+        Heeded { _told: () }
+    }
+
+    /// The reader has ended: its input has no more, and the session is told so.
+    #[tactic(auto, using(crate::proofs::Sitting::ends_answer_nothing, crate::proofs::Sitting::ends_leave_no_sign))]
+    pub fn end<D: Door<Ticket = T>, R: Wait + Dial>(
+        &mut self,
+        rt: &R,
+        door: &D,
+        moment: Moment,
+    ) -> Ended
+        requires clock { R.shown moment }
+        ensures deaf { self.new.deaf ≡ true }
+        ensures told { WasTold D.policy self.old.user happens.End moment
+            self.old.session (met D.held self.old.pass)
+            self.new.session (met D.held self.new.pass) }
+        ensures user { self.new.user ≡ self.old.user }
+        ensures answer { self.new.answer ≡ self.old.answer }
+        ensures sign { self.new.sign ≡ self.old.sign }
+        ensures watch { self.new.watch ≡ self.old.watch }
+    {
+        self.tell(rt, door, Event::End, moment);
+        self.deaf = true;
+        Ended { _told: () }
+    }
+
+    #[tactic(auto, using(crate::proofs::Sitting::answers_leave_no_sign))]
+    fn log_in<D: Door<Ticket = T>, R: Wait + Dial>(
         &mut self,
         rt: &R,
         door: &D,
         login: &LoginRequest,
         moment: Moment,
     )
-        ensures session { WasAnswered self.old.session moment self.new.session }
+        requires clock { R.shown moment }
+        ensures answered { WasAnswered D.policy login.now moment
+            self.old.session (met D.held self.old.pass) self.old.answer
+            self.new.session (met D.held self.new.pass) self.new.answer }
+        ensures user { self.new.user ≡ login.now.user }
+        ensures sign { self.new.sign ≡ self.old.sign }
     {
         let Some(pass) = self.pass.take() else {
             unreachable!()
@@ -266,15 +450,22 @@ impl<T: Drop> Seat<T> {
         }
     }
 
-    /// Takes a packet: tells the session of it, and does what it asks for.
-    pub fn take<D: Door<Ticket = T>, R: Wait>(
+    /// Tells the session of a packet, and does what it asks for.
+    #[tactic(auto, using(crate::proofs::Sitting::packets_leave_no_sign))]
+    fn serve<D: Door<Ticket = T>, R: Wait + Dial>(
         &mut self,
         rt: &R,
         door: &D,
         packet: &ClientPacket,
         moment: Moment,
     )
-        ensures session { WasTaken self.old.session packet.now moment self.new.session }
+        requires clock { R.shown moment }
+        ensures taken { WasTaken D.policy self.old.user packet.now moment
+            self.old.session (met D.held self.old.pass) self.old.answer
+            self.new.session (met D.held self.new.pass) self.new.answer }
+        ensures user { self.new.user ≡ user_after
+            (turn self.old.session (happens.Packet packet.now) moment).reply.next packet.now self.old.user }
+        ensures sign { self.new.sign ≡ self.old.sign }
     {
         match (self.tell(rt, door, Event::Packet(packet), moment), packet) {
             (Next::Login, ClientPacket::Login(login)) => self.log_in(rt, door, login, moment),
@@ -282,144 +473,28 @@ impl<T: Drop> Seat<T> {
         }
     }
 
-    /// The answer to the login, or that none comes.
-    fn answer(&mut self) -> Greeting
-        ensures answer { IfSome self.old.answer (λ answer.
-            result ≡ greetings.Answer self.old.user answer) }
-        ensures over { IfNone self.old.answer (result
-            ≡ (if is_over self.old.session.phase then greetings.Over else greetings.Nothing)) }
-        ensures taken { self.new.answer ≡ None }
-        ensures session { self.new.session ≡ self.old.session }
-    {
-        match self.answer.take() {
-            Some(answer) => Greeting::Answer(self.user, answer),
-            None => {
-                if self.is_over() {
-                    Greeting::Over
-                } else {
-                    Greeting::Nothing
-                }
-            }
-        }
-    }
-
-    /// What the writer does before the login is answered: it answers it, or looks at the time.
-    pub fn greet<D: Door<Ticket = T>, R: Wait>(
+    /// Takes a packet: tells the session of it, and does what it asks for.
+    pub fn take<'a, D: Door<Ticket = T>, R: Wait + Dial>(
         &mut self,
         rt: &R,
         door: &D,
+        packet: &'a ClientPacket,
         moment: Moment,
-    ) -> Greeting
-        ensures { IfSome self.old.answer (λ answer.
-            result ≡ greetings.Answer self.old.user answer) }
+    ) -> Told<'a>
+        requires clock { R.shown moment }
+        ensures event { result.event ≡ happens.Packet packet.now }
+        ensures over { result.over ≡ is_over self.new.session.phase }
+        ensures taken { WasTaken D.policy self.old.user packet.now moment
+            self.old.session (met D.held self.old.pass) self.old.answer
+            self.new.session (met D.held self.new.pass) self.new.answer }
+        ensures user { self.new.user ≡ user_after
+            (turn self.old.session (happens.Packet packet.now) moment).reply.next packet.now self.old.user }
+        ensures sign { self.new.sign ≡ self.old.sign }
     {
-        match self.answer() {
-            Greeting::Nothing => {}
-            greeting => return greeting,
+        self.serve(rt, door, packet, moment);
+        Told {
+            event: Event::Packet(packet),
+            over: self.is_over(),
         }
-        self.tell(rt, door, Event::Tick, moment);
-        self.answer()
-    }
-
-    /// What the session asked to send besides the answer, or that it is over.
-    fn sign(&mut self) -> Due
-        ensures sign { IfSome self.old.sign (λ sign. result ≡ dues.Sign sign) }
-        ensures over { IfNone self.old.sign (result
-            ≡ (if is_over self.old.session.phase then dues.Over else dues.Nothing)) }
-        ensures taken { self.new.sign ≡ None }
-        ensures session { self.new.session ≡ self.old.session }
-    {
-        match self.sign.take() {
-            Some(sign) => Due::Sign(sign),
-            None => {
-                if self.is_over() {
-                    Due::Over
-                } else {
-                    Due::Nothing
-                }
-            }
-        }
-    }
-
-    /// The user's reports from this number on, where the history has grown since the last pull.
-    fn pull<D: Door<Ticket = T>, R: Wait>(
-        &mut self,
-        rt: &R,
-        door: &D,
-        user: UserName,
-        from: u64,
-        watch: &mut Watch,
-        moment: Moment,
-    ) -> Due
-        ensures { IsDue D.policy user from result }
-    {
-        let Some(mut pass) = self.pass.take() else {
-            unreachable!()
-        };
-        let length = door.length(&mut pass);
-        if !watch.has_news(length) {
-            self.pass = Some(pass);
-            self.looked = true;
-            return Due::Nothing;
-        }
-        let (pass, answer) = door.pull(rt, pass, user, from, BATCH);
-        self.pass = Some(pass);
-        match answer {
-            Ok(pulled) => {
-                let more = pulled.reports.as_slice().len() as u64 >= BATCH;
-                watch.looked(length, more);
-                self.looked = !more;
-                due_of(pulled)
-            }
-            Err(PullFault::OutOfMemory) => {
-                self.refuse(rt, door, StepFault::OutOfMemory, moment);
-                Due::Nothing
-            }
-            Err(PullFault::NotOn) => {
-                self.tell(rt, door, Event::Fault, moment);
-                Due::Nothing
-            }
-        }
-    }
-
-    /// What the writer does for this user, whose next report has this number: first what the session
-    /// asked to send, then what it asks for as time passes, then new reports.
-    pub fn due<D: Door<Ticket = T>, R: Wait>(
-        &mut self,
-        rt: &R,
-        door: &D,
-        user: UserName,
-        from: u64,
-        watch: &mut Watch,
-        moment: Moment,
-    ) -> Due
-        ensures shown { IsDue D.policy user from result }
-        ensures sign { IfSome self.old.sign (λ sign. result ≡ dues.Sign sign) }
-    {
-        match self.sign() {
-            Due::Nothing => {}
-            due => return due,
-        }
-        self.tell(rt, door, Event::Tick, moment);
-        match self.sign() {
-            Due::Nothing => {}
-            due => return due,
-        }
-        if self.is_on() {
-            self.pull(rt, door, user, from, watch, moment)
-        } else {
-            Due::Nothing
-        }
-    }
-}
-
-/// Reports that were pulled; nothing where there are none, unless there will be none any more.
-fn due_of(pulled: Pulled) -> Due
-    ensures { (result ≡ dues.Nothing) ⊎ (result ≡ dues.Reports pulled) }
-{
-    if pulled.reports.as_slice().is_empty() && !pulled.ended {
-        Due::Nothing
-    } else {
-        Due::Reports(pulled)
     }
 }

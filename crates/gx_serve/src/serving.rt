@@ -1,11 +1,12 @@
 //! The server, at any door.
 
 use crate::connection::converse;
+use crate::dated::Dated;
 use crate::fault::ServeFault;
 use crate::link::Link;
 use crate::matching::match_on;
 use gx_door::Door;
-use gx_lobby::{Lobby, Peer, Stop, now};
+use gx_lobby::{Lobby, Peer, Place, Stop};
 use gx_soup::SoupFault;
 use std::alloc::Global;
 use std::io::ErrorKind;
@@ -37,7 +38,7 @@ fn accept<R: Wait + Clock>(
 ) -> Result<Option<Peer>, ServeFault> {
     let mut left = FAILURES;
     for _ in rt.forever() {
-        if stop.is_asked() {
+        if stop.is_asked().is_yes() {
             return Ok(None);
         }
         match listener.accept() {
@@ -81,58 +82,100 @@ fn serve_stream<T: Drop + Send, D: Door<Ticket = T> + Sync, R: Threads + Wait + 
     if set_up(stream).is_err() {
         return None;
     }
-    let link = Link::new(pass, now(rt));
+    let rt = &Dated::new(rt);
+    let link = Link::new(rt, pass);
     let bell = &lobby.bell;
     let stop = &lobby.stop;
-    converse(rt, alloc, door, bell, stop, &link, stream, stream, stream)
+    let (_hung_up, listening) = converse(
+        rt, alloc, door, bell, stop, &link, stream, stream, stream,
+    );
+    listening.fault()
 }
 
-/// Serves a peer to his end, with this pass, tells where his bytes are no packets, and gives his place back.
-fn serve_peer<
-    T: Drop + Send,
-    D: Door<Ticket = T> + Sync,
-    R: Threads + Wait + Clock + Eprint + Sync,
->(rt: &R, alloc: Global, door: &D, lobby: &Lobby, pass: T, peer: Peer) {
-    if let Some(fault) = serve_stream(rt, alloc, door, lobby, pass, &peer.stream) {
-        peer.tell(rt, alloc, fault);
-    }
-    drop(peer);
-    lobby.places.give(rt);
-}
-
-/// Takes connections, each in a thread of its own, and waits until all have ended. One for which there
-/// is no pass or no thread is closed.
-fn take_connections<
-    'x,
-    T: Drop + Send,
-    D: Door<Ticket = T> + Sync,
-    R: Threads + Wait + Clock + Eprint + Sync,
->(
+/// What the threads of connections share.
+#[derive(Drop)]
+struct Hall<'x, D, R> {
     rt: &'x R,
     alloc: Global,
     door: &'x D,
     lobby: &'x Lobby,
-    listener: TcpListener,
-    connections: u64,
-) -> Result<(), ServeFault> {
-    thread::scope(thread::scope_env(), rt, |scope| {
+}
+
+/// A peer, the pass that his steps are made with, and the place that he has.
+#[derive(Drop)]
+struct Guest<'x, T: Drop, R: Wait> {
+    pass: T,
+    peer: Peer,
+    place: Place<'x, R>,
+}
+
+/// Serves a peer to his end, and tells where his bytes are no packets. His place is given back.
+fn serve_peer<
+    T: Drop + Send,
+    D: Door<Ticket = T> + Sync,
+    R: Threads + Wait + Clock + Eprint + Sync,
+>(hall: &Hall<'_, D, R>, guest: Guest<'_, T, R>) {
+    let Guest { pass, peer, place } = guest;
+    let fault = serve_stream(
+        hall.rt,
+        hall.alloc,
+        hall.door,
+        hall.lobby,
+        pass,
+        &peer.stream,
+    );
+    if let Some(fault) = fault {
+        peer.tell(hall.rt, hall.alloc, fault);
+    }
+    drop(peer);
+    drop(place);
+}
+
+/// Takes connections, each in a thread of its own, and waits until all have ended. One for which there
+/// is no pass or no thread is closed.
+fn take_guests<
+    'x,
+    T: Drop + Send,
+    D: Door<Ticket = T> + Sync,
+    R: Threads + Wait + Clock + Eprint + Sync,
+>(hall: &'x Hall<'x, D, R>, listener: TcpListener, connections: u64) -> Result<(), ServeFault> {
+    thread::scope(thread::scope_env(), hall.rt, |scope| {
         for before in 0..connections {
-            lobby.places.take(rt);
-            let Some(peer) = accept(rt, &lobby.stop, &listener, before + 1)? else {
+            let place = hall.lobby.places.take(hall.rt);
+            let Some(peer) = accept(hall.rt, &hall.lobby.stop, &listener, before + 1)? else {
                 break;
             };
-            let Ok(pass) = door.issue(rt) else {
-                lobby.places.give(rt);
+            let Ok(pass) = hall.door.issue(hall.rt) else {
                 continue;
             };
-            let serving = (&*scope).spawn(move || serve_peer(rt, alloc, door, lobby, pass, peer));
-            if serving.is_err() {
-                lobby.places.give(rt);
-            }
+            let guest = Guest { pass, peer, place };
+            let _ = (&*scope).spawn(move || serve_peer(hall, guest));
         }
         drop(listener);
         Ok(())
     })
+}
+
+/// Takes connections at the door.
+fn take_connections<
+    T: Drop + Send,
+    D: Door<Ticket = T> + Sync,
+    R: Threads + Wait + Clock + Eprint + Sync,
+>(
+    rt: &R,
+    alloc: Global,
+    door: &D,
+    lobby: &Lobby,
+    listener: TcpListener,
+    connections: u64,
+) -> Result<(), ServeFault> {
+    let hall = Hall {
+        rt,
+        alloc,
+        door,
+        lobby,
+    };
+    take_guests(&hall, listener, connections)
 }
 
 /// Runs the matcher beside the connections. Gives the matcher's pass, and why no more connections were
@@ -147,7 +190,12 @@ fn run<'x, T: Drop + Send, D: Door<Ticket = T> + Sync, R: Threads + Wait + Clock
     connections: u64,
 ) -> Result<(T, Result<(), ServeFault>), ServeFault> {
     thread::scope(thread::scope_env(), rt, |scope| {
-        let Ok(matcher) = (&*scope).spawn(move || match_on(rt, door, &lobby.bell, pass)) else {
+        let Ok(matcher) = (&*scope).spawn(move || match_on(
+            &Dated::new(rt),
+            door,
+            &lobby.bell,
+            pass,
+        )) else {
             return Err(ServeFault::OutOfMemory);
         };
         let taken = take_connections(rt, alloc, door, lobby, listener, connections);

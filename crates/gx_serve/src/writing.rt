@@ -1,36 +1,27 @@
 //! The writer of a connection.
 
-ghost use Rattle.std.specs.Prelude.{◌≡◌, ◌-◌, ◌^◌, ◌<◌, IfErr, IsFalse, IsTrue, OnOk, OnErr};
+ghost use Rattle.std.specs.Prelude.{◌≡◌, ◌-◌, ◌^◌, ◌<◌, is_some, IfErr, IfNone, IfSome, IsFalse, IsTrue, OnOk, OnErr};
 ghost use Rattle.std.specs.Io.KnownBytes.{Appends};
 ghost use Rattle.gx_devices.specs.Devices.{IsFront};
 ghost use Rattle.gx_session.specs.Faults.{IsBlamed};
 ghost use Rattle.gx_session.specs.Sending.{control_bytes};
 ghost use Rattle.gx_serve.specs.Speech.{answer_control, due_text, is_last, next_after, sign_control};
-ghost use Rattle.gx_serve.specs.Speech.{greeted_by, IfOn, IsGreeted, WasCut, WasCutOff, WasSaid, WasSpoken};
+ghost use Rattle.gx_serve.specs.Tellings.{told_of};
+ghost use Rattle.gx_serve.specs.Breaks.{break_of};
+ghost use Rattle.gx_serve.specs.Speech.{IfOn, IsGreeted, WasCut, WasCutOff, WasSaid, WasSpoken};
 
 use crate::link::Link;
-use crate::seat::{Due, Sign};
+use crate::seat::outgoing::{Bookmark, Due, Finished, Greeted};
+use crate::seat::{Break, Sign};
 use gx_answers::{LoginAnswer, StepFault};
 use gx_devices::Counted;
-use gx_door::Door;
-use gx_lobby::{Stop, Watch};
-use gx_session::{Control, Event, SendFault, send_control, send_pulled};
-use gx_units::UserName;
+use gx_door::{Dial, Door};
+use gx_lobby::Stop;
+use gx_session::{Control, SendFault, send_control, send_pulled};
 use std::alloc::Global;
 use std::io::Write;
 use std::sync::Wait;
 use std::time::Clock;
-
-/// What became of a login.
-#[derive(Clone, Copy)]
-pub enum Greeted {
-    /// This user is logged in, and the next report that he is sent has this number.
-    On(UserName, u64),
-    /// Nobody is: the session is over.
-    Over,
-    /// The answer was not sent.
-    Cut,
-}
 
 /// Why nothing more is sent.
 #[derive(Clone, Copy)]
@@ -73,9 +64,9 @@ fn send<O: Write>(alloc: Global, due: &Due, writer: &mut Counted<O>) -> Result<(
     ensures told { IfErr result (IsBlamed writer.old.failed writer.new.failed) }
 {
     match due {
-        Due::Sign(sign) => send_control(alloc, sign_control(*sign), writer),
-        Due::Reports(pulled) => send_pulled(alloc, pulled, writer),
-        Due::Nothing | Due::Over => Ok(()),
+        Due::Sign(signed) => send_control(alloc, sign_control(signed.sign()), writer),
+        Due::Reports(fetched) => send_pulled(alloc, fetched.pulled(), writer),
+        Due::Nothing | Due::Over(_) => Ok(()),
     }
 }
 
@@ -92,7 +83,7 @@ fn is_kept<D: Door, R: Wait>(rt: &R, door: &D, stop: &Stop) -> bool {
 fn may_send<D: Door, R: Wait>(rt: &R, door: &D, stop: &Stop, due: &Due) -> bool {
     match due {
         Due::Reports(_) => is_kept(rt, door, stop),
-        Due::Sign(_) | Due::Nothing | Due::Over => true,
+        Due::Sign(_) | Due::Nothing | Due::Over(_) => true,
     }
 }
 
@@ -148,58 +139,42 @@ fn send_answer<D: Door, O: Write, R: Wait>(
     }
 }
 
-/// Whether nothing is sent behind it.
-fn is_last(due: &Due) -> bool
-    ensures { result ≡ is_last due.now }
-{
-    match due {
-        Due::Sign(Sign::EndOfSession) | Due::Over => true,
-        Due::Sign(Sign::Heartbeat) | Due::Reports(_) | Due::Nothing => false,
-    }
-}
-
-/// Tells the session of reports that were sent. Answers the number of the next.
-fn go_on<D: Door, R: Wait + Clock>(
+/// Goes on behind what was sent: the session is told of reports. Answers that nothing is sent any more, if so.
+fn go_on<D: Door, R: Wait + Clock + Dial>(
     rt: &R,
     door: &D,
     link: &Link<D::Ticket>,
-    due: &Due,
-    next: u64,
-) -> u64
-    ensures { result ≡ next_after due.now next }
+    due: Due,
+    bookmark: &mut Bookmark,
+) -> Option<Finished>
+    ensures last { is_some result ≡ is_last due }
+    ensures next { bookmark.new.next ≡ next_after due bookmark.old.next }
+    ensures user { bookmark.new.user ≡ bookmark.old.user }
 {
     match due {
-        Due::Reports(pulled) => {
-            let count = pulled.reports.as_slice().len() as u64;
-            let ended = pulled.ended;
-            link.tell(rt, door, Event::Pulled { count, ended });
-            pulled.next
+        Due::Reports(fetched) => {
+            link.sent(rt, door, fetched, bookmark);
+            None
         }
-        Due::Sign(_) | Due::Nothing | Due::Over => next,
+        Due::Sign(signed) => signed.finished(),
+        Due::Nothing => None,
+        Due::Over(finished) => Some(finished),
     }
 }
 
-/// What a session is told where a packet was not sent.
-fn told<'a>(unsent: Unsent) -> Event<'a> {
-    match unsent {
-        Unsent::Fault(SendFault::OutOfMemory) => Event::Refused(StepFault::OutOfMemory),
-        Unsent::Fault(SendFault::WriteFailed) | Unsent::Unkept => Event::Fault,
-    }
-}
-
-/// What comes of a login that was answered so.
-fn after_answer(user: UserName, answer: LoginAnswer) -> Greeted
-    ensures { result ≡ greeted_by user answer }
+/// What breaks a session off where a packet was not sent.
+fn cause_of(unsent: Unsent) -> Break
+    ensures { break_of result ≡ told_of unsent }
 {
-    match answer {
-        LoginAnswer::Accepted { session: _, next } => Greeted::On(user, next),
-        LoginAnswer::Rejected(_) => Greeted::Over,
+    match unsent {
+        Unsent::Fault(SendFault::OutOfMemory) => Break::Refused(StepFault::OutOfMemory),
+        Unsent::Fault(SendFault::WriteFailed) | Unsent::Unkept => Break::Fault,
     }
 }
 
 /// Waits for the answer to the login, and sends it once all that was done is kept.
 #[tactic(auto, using(crate::proofs::Speaking::is_greeted))]
-fn write_answer<D: Door, O: Write, R: Wait + Clock>(
+fn write_answer<D: Door, O: Write, R: Wait + Clock + Dial>(
     rt: &R,
     alloc: Global,
     door: &D,
@@ -212,48 +187,46 @@ fn write_answer<D: Door, O: Write, R: Wait + Clock>(
         (O.contents writer.old.device) (O.contents writer.new.device) result }
     ensures kept { IfOn result (writer.new.failed ≡ writer.old.failed) }
 {
-    let Some((user, answer)) = link.await_answer(rt, door, stop) else {
-        return Greeted::Over;
+    let answered = match link.await_answer(rt, door, stop) {
+        Ok(answered) => answered,
+        Err(finished) => return Greeted::Over(finished),
     };
-    match send_answer(rt, alloc, door, stop, answer, writer) {
-        Ok(()) => after_answer(user, answer),
+    match send_answer(rt, alloc, door, stop, answered.answer(), writer) {
+        Ok(()) => answered.sent(),
         Err(unsent) => {
-            link.tell(rt, door, told(unsent));
+            link.break_off(rt, door, cause_of(unsent));
             Greeted::Cut
         }
     }
 }
 
-/// Writes heartbeats and a user's reports from this number on, until the session is over or the writer
-/// fails. Answers whether all was written.
-fn write_reports<D: Door, O: Write, R: Wait + Clock>(
+/// Writes heartbeats and a user's reports from the bookmark on, until the session is over or the writer
+/// fails. Answers that all was written, if so.
+fn write_reports<D: Door, O: Write, R: Wait + Clock + Dial>(
     rt: &R,
     alloc: Global,
     door: &D,
     stop: &Stop,
     link: &Link<D::Ticket>,
-    user: UserName,
-    from: u64,
+    bookmark: Bookmark,
     writer: &mut Counted<O>,
-) -> bool
+) -> Option<Finished>
     requires { writer.old.failed < 2 ^ 64 - 1 }
-    ensures spoken { IsTrue result → WasSpoken D.policy user from
+    ensures spoken { IsTrue (is_some result) → WasSpoken D.policy bookmark.user bookmark.next
         (O.contents writer.old.device) (O.contents writer.new.device) }
-    ensures front { IsFalse result → WasCutOff D.policy user from
+    ensures front { IsFalse (is_some result) → WasCutOff D.policy bookmark.user bookmark.next
         (O.contents writer.old.device) (O.contents writer.new.device) }
 {
-    let mut next = from;
-    let mut watch = Watch::new();
+    let mut bookmark = bookmark;
     for _ in rt.forever() {
-        let due = link.await_due(rt, door, stop, user, next, &mut watch);
+        let due = link.await_due(rt, door, stop, &bookmark);
         if let Err(unsent) = send_kept(rt, alloc, door, stop, &due, writer) {
-            link.tell(rt, door, told(unsent));
-            return false;
+            link.break_off(rt, door, cause_of(unsent));
+            return None;
         }
-        if is_last(&due) {
-            return true;
+        if let Some(finished) = go_on(rt, door, link, due, &mut bookmark) {
+            return Some(finished);
         }
-        next = go_on(rt, door, link, &due, next);
     }
     unreachable!()
 }
@@ -261,26 +234,25 @@ fn write_reports<D: Door, O: Write, R: Wait + Clock>(
 /// Writes the answer to a connection's login, and then, where it was accepted, its user's reports from the
 /// number that the answer names on, each once and in order, heartbeats between them, until the
 /// session is over or the writer fails. The answer and the reports are sent once the door keeps all that was done; where
-/// it can't, nothing more is sent, and the server is asked to end. Answers whether all was written.
-pub fn write_on<D: Door, O: Write, R: Wait + Clock>(
+/// it can't, nothing more is sent, and the server is asked to end. Answers that the session is over and all was written, if
+/// so.
+pub fn write_on<D: Door, O: Write, R: Wait + Clock + Dial>(
     rt: &R,
     alloc: Global,
     door: &D,
     stop: &Stop,
     link: &Link<D::Ticket>,
     writer: &mut Counted<O>,
-) -> bool
+) -> Option<Finished>
     requires { writer.old.failed < 2 ^ 64 - 1 }
-    ensures said { IsTrue result → WasSaid D.policy
+    ensures said { IsTrue (is_some result) → WasSaid D.policy
         (O.contents writer.old.device) (O.contents writer.new.device) }
-    ensures front { IsFalse result → WasCut D.policy
+    ensures front { IsFalse (is_some result) → WasCut D.policy
         (O.contents writer.old.device) (O.contents writer.new.device) }
 {
     match write_answer(rt, alloc, door, stop, link, writer) {
-        Greeted::On(user, next) => {
-            write_reports(rt, alloc, door, stop, link, user, next, writer)
-        },
-        Greeted::Over => true,
-        Greeted::Cut => false,
+        Greeted::On(bookmark) => write_reports(rt, alloc, door, stop, link, bookmark, writer),
+        Greeted::Over(finished) => Some(finished),
+        Greeted::Cut => None,
     }
 }

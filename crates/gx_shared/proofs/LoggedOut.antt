@@ -40,17 +40,17 @@ logout_is_granted : (policy : PolicyData) (history : List RecordData) (line : �
 logout_is_granted policy history line user moment on = logouts_are_granted policy history line (folded_user user) moment on
 
 -- its step
-record LogsOut (old new : GateData) (user : UserName) : Type 0 where
-  added : AddsLogouts old.records new.records
+record LogsOut (handed : ℕ) (old new : GateData) (user : UserName) : Type 0 where
+  added : AddsLogouts handed old.records new.records
   left : ChangesLine old.policy old.records new.records user None
 
 by_step : (old new : GateData) (a : Asked) (r : Result Outcome StepFault) → a.request ≡ requests.Logout → verdict_of old a ≡ verdicts.Granted
     → (has_its_places old a ≡ true → is_ok r ≡ true) → IfOk r (λ o. next_of old a ≡ Some (left_by a o)) → IfOk r (λ o. o.verdict ≡ verdict_of old a)
-    → IfOk r (λ o. new.records ≡ with_record old a o) → LogsOut old new a.user
+    → IfOk r (λ o. new.records ≡ with_record old a o) → LogsOut a.handed old new a.user
 by_step old new a (Ok o) asks grants sure next given grown = record {
   added = record {
     added = left_by a o ∷ [];
-    logouts = (record { asked = a; step_is = refl; request_is = asks; granted = given ∙ grants }, tt);
+    logouts = (record { asked = a; step_is = refl; request_is = asks; handed_is = refl; granted = given ∙ grants }, tt);
     grown = grown;
   };
   left = subst (λ (records : List RecordData). ChangesLine old.policy old.records records a.user None) (sym grown)
@@ -62,15 +62,15 @@ by_step old new a (Err e) asks grants sure next given grown =
 
 logs_out : (old new : GateData) (line : ℕ) (user : UserName) (moment : ℕ) (asked : Asked) (r : Result Outcome StepFault) → line_of old.records (folded_user user) ≡ Some line
     → asked ≡ asked_on line user requests.Logout moment → (has_its_places old asked ≡ true → is_ok r ≡ true) → IfOk r (λ o. next_of old asked ≡ Some (left_by asked o))
-    → IfOk r (λ o. o.verdict ≡ verdict_of old asked) → IfOk r (λ o. new.records ≡ with_record old asked o) → LogsOut old new (folded_user user)
+    → IfOk r (λ o. o.verdict ≡ verdict_of old asked) → IfOk r (λ o. new.records ≡ with_record old asked o) → LogsOut moment old new (folded_user user)
 logs_out old new line user moment asked r on is sure next given grown =
     let request_is : asked.request ≡ requests.Logout = ap (λ (a : Asked). a.request) is in
     let grants : verdict_of old asked ≡ verdicts.Granted = ap (verdict_of old) is ∙ logout_is_granted old.policy old.records line user moment on in
-    subst (λ (u : UserName). LogsOut old new u) (ap (λ (a : Asked). a.user) is) (by_step old new asked r request_is grants sure next given grown)
+    subst (λ (a : Asked). LogsOut a.handed old new a.user) is (by_step old new asked r request_is grants sure next given grown)
 
 pub adds_logout : (old new : GateData) (line : ℕ) (user : UserName) (moment : ℕ) (asked : Asked) (r : Result Outcome StepFault) → line_of old.records (folded_user user) ≡ Some line
     → asked ≡ asked_on line user requests.Logout moment → (has_its_places old asked ≡ true → is_ok r ≡ true) → IfOk r (λ o. next_of old asked ≡ Some (left_by asked o))
-    → IfOk r (λ o. o.verdict ≡ verdict_of old asked) → IfOk r (λ o. new.records ≡ with_record old asked o) → AddsLogouts old.records new.records
+    → IfOk r (λ o. o.verdict ≡ verdict_of old asked) → IfOk r (λ o. new.records ≡ with_record old asked o) → AddsLogouts moment old.records new.records
 adds_logout old new line user moment asked r on is sure next given grown = (logs_out old new line user moment asked r on is sure next given grown).added
 
 pub leaves_line : (old new : GateData) (line : ℕ) (user : UserName) (moment : ℕ) (asked : Asked) (r : Result Outcome StepFault) → line_of old.records (folded_user user) ≡ Some line
@@ -84,10 +84,10 @@ all_joined : {X : Type 0} (P : X → Type 0) (xs ys : List X) → AllByRecursion
 all_joined P [] ys h k = k
 all_joined P (x ∷ xs) ys h k = (h.0, all_joined P xs ys h.1 k)
 
-pub adds_more : (a b c : List RecordData) → AddsLogouts a b → AddsLogouts b c → AddsLogouts a c
-adds_more a b c first then = record {
+pub adds_more : (handed : ℕ) (a b c : List RecordData) → AddsLogouts handed a b → AddsLogouts handed b c → AddsLogouts handed a c
+adds_more handed a b c first then = record {
   added = first.added ++ then.added;
-  logouts = all_joined IsGrantedLogout first.added then.added first.logouts then.logouts;
+  logouts = all_joined (IsGrantedLogout handed) first.added then.added first.logouts then.logouts;
   grown = then.grown ∙ ap (λ (records : List RecordData). records ++ then.added) first.grown ∙ append_assoc a first.added then.added;
 }
 

@@ -52,11 +52,11 @@ all_kept begun count earlier j records after kept begins put sound none =
 pub earlier_kept : (begun : Option (List ℕ)) (count : ℕ) (earlier : List RecordData) (j : JournalData) (records : List RecordData) → IsKept begun count earlier j → IsPrefix j.met.front records → IsPrefix earlier records
 earlier_kept begun count earlier j records kept begins = prefix_trans earlier j.met.front records (earlier_begin earlier j.met.front kept.begins) begins
 
-pub longer : (before after : List RecordData) → AddsLogouts before after → length before ≤ length after
-longer before after logouts = prefix_length before after (logouts.added, sym logouts.grown)
+pub longer : (handed : ℕ) (before after : List RecordData) → AddsLogouts handed before after → length before ≤ length after
+longer handed before after logouts = prefix_length before after (logouts.added, sym logouts.grown)
 
 -- a day goes on with logouts
-pub day_goes_on : (policy : PolicyData) (records : List RecordData) (gate : GateData) (later : List RecordData) → gate.policy ≡ policy → AddsLogouts records gate.records → NobodyIsOn gate → IsPrefix gate.records later → GoesOn policy records later
+pub day_goes_on : (policy : PolicyData) (records : List RecordData) (gate : GateData) (later : List RecordData) → gate.policy ≡ policy → AddsLogouts 0 records gate.records → NobodyIsOn gate → IsPrefix gate.records later → GoesOn policy records later
 day_goes_on policy records gate later same logouts off begins = record {
   earlier = gate.records;
   logouts = logouts;

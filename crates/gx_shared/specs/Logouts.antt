@@ -12,17 +12,18 @@ use Rattle.gx_history.specs.declared.record.Verdict.TheVariants as verdicts
 use Rattle.gx_history.specs.InForce.{line_of}
 use Rattle.gx_answers.specs.Gates.{GateData}
 
--- a granted Logout
-pub record IsGrantedLogout (r : RecordData) : Type 0 where
+-- a granted Logout that was handed in at this moment
+pub record IsGrantedLogout (handed : ℕ) (r : RecordData) : Type 0 where
   pub asked : Asked
   pub step_is : r.step ≡ steps.Asked asked
   pub request_is : asked.request ≡ requests.Logout
+  pub handed_is : asked.handed ≡ handed
   pub granted : r.verdict ≡ verdicts.Granted
 
--- granted Logouts were added, and nothing else
-pub record AddsLogouts (before after : List RecordData) : Type 0 where
+-- granted Logouts that were handed in at this moment were added, and nothing else
+pub record AddsLogouts (handed : ℕ) (before after : List RecordData) : Type 0 where
   pub added : List RecordData
-  pub logouts : AllByRecursion IsGrantedLogout added
+  pub logouts : AllByRecursion (IsGrantedLogout handed) added
   pub grown : after ≡ before ++ added
 
 -- the user is logged in on none of the lines, which begin at 1

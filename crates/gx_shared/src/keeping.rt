@@ -151,7 +151,7 @@ fn serve_named<
 #[tactic(auto, using(crate::proofs::Resting::longer))]
 fn log_out<G: AccessGate>(gate: &mut G)
     ensures policy { (G.seen gate.new).policy ≡ (G.seen gate.old).policy }
-    ensures added { AddsLogouts (G.seen gate.old).records (G.seen gate.new).records }
+    ensures added { AddsLogouts 0 (G.seen gate.old).records (G.seen gate.new).records }
     ensures longer { length (G.seen gate.old).records ≤ length (G.seen gate.new).records }
     ensures nobody_on { NobodyIsOn (G.seen gate.new) }
 {

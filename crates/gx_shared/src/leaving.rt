@@ -18,7 +18,7 @@ fn leave_line<G: AccessGate>(gate: &mut G, line: u16, user: UserName, moment: Mo
     requires line { 0 < line }
     requires on { line_of (G.seen gate.old).records (folded_user user) ≡ Some line }
     ensures policy { (G.seen gate.new).policy ≡ (G.seen gate.old).policy }
-    ensures added { AddsLogouts (G.seen gate.old).records (G.seen gate.new).records }
+    ensures added { AddsLogouts moment (G.seen gate.old).records (G.seen gate.new).records }
     ensures left { ChangesLine (G.seen gate.old).policy
         (G.seen gate.old).records (G.seen gate.new).records
         (folded_user user) None }
@@ -31,7 +31,7 @@ fn leave_line<G: AccessGate>(gate: &mut G, line: u16, user: UserName, moment: Mo
 /// Logs the user out, where he is logged in.
 fn log_out<G: AccessGate>(gate: &mut G, user: UserName, moment: Moment)
     ensures policy { (G.seen gate.new).policy ≡ (G.seen gate.old).policy }
-    ensures added { AddsLogouts (G.seen gate.old).records (G.seen gate.new).records }
+    ensures added { AddsLogouts moment (G.seen gate.old).records (G.seen gate.new).records }
     ensures off { IsOff (G.seen gate.new).records (folded_user user) }
     ensures others { (other : UserName) → IsOff (G.seen gate.old).records other
         → IsOff (G.seen gate.new).records other }
@@ -50,7 +50,7 @@ fn log_out<G: AccessGate>(gate: &mut G, user: UserName, moment: Moment)
 /// Nothing else changes. Takes no memory, and goes in a full day too.
 pub fn log_out_all<G: AccessGate>(gate: &mut G, moment: Moment)
     ensures policy { (G.seen gate.new).policy ≡ (G.seen gate.old).policy }
-    ensures added { AddsLogouts (G.seen gate.old).records (G.seen gate.new).records }
+    ensures added { AddsLogouts moment (G.seen gate.old).records (G.seen gate.new).records }
     ensures legal { IsLegal (G.seen gate.new).policy (G.seen gate.new).records }
     ensures nobody_on { NobodyIsOn (G.seen gate.new) }
 {

@@ -19,7 +19,7 @@ ghost use Rattle.gx_shared.specs.Lines.{highest_line};
 
 use crate::desk::Desk;
 use gx_answers::{AccessGate, LoginAnswer, Outcome, Pulled, StepFault};
-use gx_door::{Door, PullFault};
+use gx_door::{Dial, Door, PullFault};
 use gx_history::record::{Record, Request};
 use gx_pass::{Blank, GateName, Pass, PassFault};
 use gx_policy::Policy;
@@ -105,7 +105,7 @@ impl<G: AccessGate, N: GateName> Door for SharedGate<G, N> {
         self.desk.lock(rt).issue()
     }
 
-    fn login<R: Wait>(
+    fn login<R: Wait + Dial>(
         &self,
         rt: &R,
         pass: Pass<N>,
@@ -120,7 +120,7 @@ impl<G: AccessGate, N: GateName> Door for SharedGate<G, N> {
             .login(pass, user, password, session, wanted, moment)
     }
 
-    fn act<R: Wait>(
+    fn act<R: Wait + Dial>(
         &self,
         rt: &R,
         pass: Pass<N>,
@@ -131,7 +131,7 @@ impl<G: AccessGate, N: GateName> Door for SharedGate<G, N> {
         self.desk.lock(rt).act(pass, user, request, moment)
     }
 
-    fn match_one<R: Wait>(
+    fn match_one<R: Wait + Dial>(
         &self,
         rt: &R,
         pass: Pass<N>,
@@ -151,7 +151,7 @@ impl<G: AccessGate, N: GateName> Door for SharedGate<G, N> {
         self.desk.lock(rt).pull(pass, user, from, most)
     }
 
-    fn logout<R: Wait>(
+    fn logout<R: Wait + Dial>(
         &self,
         rt: &R,
         pass: Pass<N>,

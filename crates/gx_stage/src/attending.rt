@@ -3,7 +3,7 @@
 use crate::devices::{Client, Sheet};
 use crate::holding::Holds;
 use crate::plays::{Play, Stage, Who};
-use gx_door::Door;
+use gx_door::{Dial, Door};
 use gx_pass::PassFault;
 use gx_serve::{Link, converse, match_on};
 use std::alloc::Global;
@@ -12,14 +12,11 @@ use std::thread;
 use std::thread::Threads;
 use std::time::Clock;
 
-/// The moment at which the connections begin, where the date stands still.
-const START: u64 = 0;
-
 /// What both were sent, ALICE first.
 pub type Texts = (Vec<u8>, Vec<u8>);
 
 /// Serves one of the two, and gives what he was sent.
-fn attend<'x, T: Drop + Send, D: Door<Ticket = T> + Sync, R: Threads + Wait + Clock + Sync>(
+fn attend<'x, T: Drop + Send, D: Door<Ticket = T> + Sync, R: Threads + Wait + Clock + Dial + Sync>(
     rt: &'x R,
     alloc: Global,
     door: &'x D,
@@ -28,7 +25,7 @@ fn attend<'x, T: Drop + Send, D: Door<Ticket = T> + Sync, R: Threads + Wait + Cl
     pass: T,
 ) -> Vec<u8> {
     let line = stage.line(who);
-    let link = Link::new(pass, START);
+    let link = Link::new(rt, pass);
     let client = Client::new(rt, stage.pieces(who), line);
     let mut sheet = Sheet::new(rt, alloc, stage.first_write(who), line);
     converse(
@@ -57,7 +54,12 @@ pub fn three_passes<D: Door, R: Wait>(
 }
 
 /// Serves both, beside a matcher. Gives the matcher's pass and what they were sent; None where no thread could be made.
-fn attend_both<'x, T: Drop + Send, D: Door<Ticket = T> + Sync, R: Threads + Wait + Clock + Sync>(
+fn attend_both<
+    'x,
+    T: Drop + Send,
+    D: Door<Ticket = T> + Sync,
+    R: Threads + Wait + Clock + Dial + Sync,
+>(
     rt: &'x R,
     alloc: Global,
     door: &'x D,
@@ -82,7 +84,12 @@ fn attend_both<'x, T: Drop + Send, D: Door<Ticket = T> + Sync, R: Threads + Wait
 }
 
 /// Serves both at the door, or at one before it that holds a call, as the play says.
-pub fn play_on<'x, T: Drop + Send, D: Door<Ticket = T> + Sync, R: Threads + Wait + Clock + Sync>(
+pub fn play_on<
+    'x,
+    T: Drop + Send,
+    D: Door<Ticket = T> + Sync,
+    R: Threads + Wait + Clock + Dial + Sync,
+>(
     rt: &'x R,
     alloc: Global,
     door: &'x D,

@@ -2,7 +2,7 @@
 
 use crate::counting::{Count, Flag, Until};
 use gx_answers::{LoginAnswer, Outcome, Pulled, StepFault};
-use gx_door::{Door, PullFault};
+use gx_door::{Dial, Door, PullFault};
 use gx_history::record::{Record, Request};
 use gx_pass::PassFault;
 use gx_units::{Moment, OutOfMemory, Password, SessionName, UserName};
@@ -85,7 +85,7 @@ impl<D: Door, C: Clock> Door for Holds<'_, D, C> {
         self.door.issue(rt)
     }
 
-    fn login<R: Wait>(
+    fn login<R: Wait + Dial>(
         &self,
         rt: &R,
         pass: D::Ticket,
@@ -99,7 +99,7 @@ impl<D: Door, C: Clock> Door for Holds<'_, D, C> {
             .login(rt, pass, user, password, session, wanted, moment)
     }
 
-    fn act<R: Wait>(
+    fn act<R: Wait + Dial>(
         &self,
         rt: &R,
         pass: D::Ticket,
@@ -113,7 +113,7 @@ impl<D: Door, C: Clock> Door for Holds<'_, D, C> {
         answer
     }
 
-    fn match_one<R: Wait>(
+    fn match_one<R: Wait + Dial>(
         &self,
         rt: &R,
         pass: D::Ticket,
@@ -133,7 +133,7 @@ impl<D: Door, C: Clock> Door for Holds<'_, D, C> {
         self.door.pull(rt, pass, user, from, most)
     }
 
-    fn logout<R: Wait>(
+    fn logout<R: Wait + Dial>(
         &self,
         rt: &R,
         pass: D::Ticket,

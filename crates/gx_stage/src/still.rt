@@ -1,5 +1,9 @@
 //! A runtime on which no day passes.
 
+ghost use Rattle.std.specs.Prelude.{◌≡◌};
+
+use gx_door::Dial;
+use gx_units::Moment;
 use std::io;
 use std::sync::Wait;
 use std::thread::Threads;
@@ -38,5 +42,13 @@ impl<R: Clock> Clock for Still<'_, R> {
 
     fn sleep(&self, duration: Duration) {
         self.rt.sleep(duration)
+    }
+}
+
+impl<R> Dial for Still<'_, R> {
+    ghost shown = { λ moment. moment ≡ 0 };
+
+    fn moment(&self) -> Moment {
+        0
     }
 }

@@ -1,25 +1,18 @@
-use Rattle.std.proofs.Common.{◌∙◌}
-use Rattle.gx_serve.proofs.Speaking.{ends_there, goes_further, is_cut_off}
+use Rattle.std.proofs.Common.{◌∙◌, refl}
+use Rattle.gx_serve.proofs.Speaking.{due_still, ends_there, goes_further, is_cut_off}
 use Rattle.gx_serve.proofs.writing.write_reports.Goals as goal
 
 pub returns-in-Err-clause-front : goal.returns-in-Err-clause-front
-returns-in-Err-clause-front g c = λ _. is_cut_off _ _ _ _ _ _ _ c.await_due-due.result c.await_due-due.ensures c.loop.invariant.says c.in-Err.ensures.front
+returns-in-Err-clause-front g c = λ _. is_cut_off _ _ _ _ _ _ _ c.await_due-due.result (due_still _ _ _ _ _ c.loop.invariant.user c.await_due-due.ensures) c.loop.invariant.says c.in-Err.ensures.front
 
-pub returns-then-is_last-clause-spoken : goal.returns-then-is_last-clause-spoken
-returns-then-is_last-clause-spoken g c = λ _. ends_there _ _ _ _ _ _ _ c.await_due-due.result _ c.is_last.ensures c.if-is_last.true c.loop.invariant.says c.in_default.ensures.sent
+pub returns-in-Some-go_on-clause-spoken : goal.returns-in-Some-go_on-clause-spoken
+returns-in-Some-go_on-clause-spoken g c = λ _. ends_there _ _ _ _ _ _ _ c.await_due-due.result _ c.in-Some-go_on.ensures.last refl c.loop.invariant.says c.in_default.ensures.sent
 
 pub loop-preserved : goal.loop-preserved
 loop-preserved g c = record {
   next = tt;
   finite = tt;
   kept = c.in_default.ensures.kept ∙ c.loop.invariant.kept;
-  says = goes_further _ _ _ _ _ _ _ _ c.await_due-due.result _ c.await_due-due.ensures c.is_last.ensures c.if-is_last.false c.go_on-next.ensures c.loop.invariant.says c.in_default.ensures.sent;
-}
-
-pub loop-preserved-else-is_last : goal.loop-preserved-else-is_last
-loop-preserved-else-is_last g c = record {
-  next = tt;
-  finite = tt;
-  kept = c.in_default.ensures.kept ∙ c.loop.invariant.kept;
-  says = goes_further _ _ _ _ _ _ _ _ c.await_due-due.result _ c.await_due-due.ensures c.is_last.ensures c.if-is_last.false c.go_on-next.ensures c.loop.invariant.says c.in_default.ensures.sent;
+  user = c.go_on.ensures.user ∙ c.loop.invariant.user;
+  says = goes_further _ _ _ _ _ _ _ _ c.await_due-due.result _ (due_still _ _ _ _ _ c.loop.invariant.user c.await_due-due.ensures) c.in_default-go_on.ensures.last refl c.go_on.ensures.next c.loop.invariant.says c.in_default.ensures.sent;
 }

@@ -7,5 +7,6 @@ invariant-loop g l = record {
   next : (goal.iterator-loop g).can_next l.iterator';
   finite : (goal.iterator-loop g).is_finite l.iterator';
   kept : l.writer.failed ≡ l.fn.writer.failed;
-  says : Says g.D.Door.policy l.user l.from l.next (g.O.Write.contents l.fn.writer.device) (g.O.Write.contents l.writer.device);
+  user : l.bookmark.user ≡ l.fn.bookmark.user;
+  says : Says g.D.Door.policy l.fn.bookmark.user l.fn.bookmark.next l.bookmark.next (g.O.Write.contents l.fn.writer.device) (g.O.Write.contents l.writer.device);
 }

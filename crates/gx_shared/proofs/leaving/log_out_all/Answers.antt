@@ -19,7 +19,7 @@ loop-place-preserved g c =
     record {
       policy = c.log_out.ensures.policy ∙ c.loop-place.invariant.policy;
       added =
-          adds_more (g.G.AccessGate.seen c.args.gate.now).records (g.G.AccessGate.seen c.loop-place.gate).records (g.G.AccessGate.seen c.log_out.new.gate).records c.loop-place.invariant.added c.log_out.ensures.added;
+          adds_more c.args.moment (g.G.AccessGate.seen c.args.gate.now).records (g.G.AccessGate.seen c.loop-place.gate).records (g.G.AccessGate.seen c.log_out.new.gate).records c.loop-place.invariant.added c.log_out.ensures.added;
       off =
           one_more_off (g.G.AccessGate.seen c.loop-place.gate).records (g.G.AccessGate.seen c.log_out.new.gate).records users i u u within is c.loop-place.invariant.off c.log_out.ensures.others off;
     }

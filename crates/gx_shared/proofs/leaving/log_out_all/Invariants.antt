@@ -8,6 +8,6 @@ use Rattle.gx_shared.proofs.leaving.log_out_all.Given as goal
 abbrev pub invariant-loop-place : goal.invariant-loop-place
 invariant-loop-place g l = record {
   policy : (g.G.AccessGate.seen l.gate).policy ≡ (g.G.AccessGate.seen l.fn.gate).policy;
-  added : AddsLogouts (g.G.AccessGate.seen l.fn.gate).records (g.G.AccessGate.seen l.gate).records;
+  added : AddsLogouts l.fn.moment (g.G.AccessGate.seen l.fn.gate).records (g.G.AccessGate.seen l.gate).records;
   off : AllByRecursion (λ (u : User). IsOff (g.G.AccessGate.seen l.gate).records (folded_user u.name)) (take l.place (g.G.AccessGate.seen l.fn.gate).policy.users);
 }

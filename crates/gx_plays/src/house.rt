@@ -1,0 +1,83 @@
+//! What the threads of a play share, and its peers.
+
+use crate::clock::{Looks, PlayClock};
+use crate::peer::Peer;
+use gx_lobby::{Bell, Stop};
+use std::alloc::Global;
+
+/// What the threads of a play share: the door, the clock, the matcher's bell, and whether the server is to end.
+#[derive(Drop)]
+pub struct House<'x, D, R> {
+    pub(crate) rt: &'x R,
+    pub(crate) alloc: Global,
+    pub(crate) door: &'x D,
+    pub(crate) clock: PlayClock,
+    /// How often the matcher has looked at the clock.
+    pub(crate) looks: Looks,
+    pub(crate) bell: Bell,
+    pub(crate) stop: Stop,
+}
+
+impl<'x, D, R> House<'x, D, R> {
+    /// A play that was not begun, at this door.
+    pub fn new(rt: &'x R, alloc: Global, door: &'x D) -> House<'x, D, R> {
+        House {
+            rt,
+            alloc,
+            door,
+            clock: PlayClock::new(),
+            looks: Looks::new(),
+            bell: Bell::new(),
+            stop: Stop::new(),
+        }
+    }
+}
+
+/// A play as it is performed: its cues, its peers, and what its threads share.
+pub struct Stage<'x, D, R> {
+    pub(crate) house: &'x House<'x, D, R>,
+    pub(crate) script: &'x Script<'x>,
+}
+
+impl<'x, D, R> Stage<'x, D, R> {
+    /// A play that was not begun.
+    pub fn new(house: &'x House<'x, D, R>, script: &'x Script<'x>) -> Stage<'x, D, R> {
+        Stage { house, script }
+    }
+}
+
+impl<D, R> Drop for Stage<'_, D, R> {
+    fn drop(self) {
+        let Stage {
+            house: _,
+            script: _,
+        } = self;
+    }
+}
+
+/// The cues of a play, a line each, and its peers.
+#[derive(Drop)]
+pub struct Script<'a> {
+    pub(crate) lines: Vec<&'a str>,
+    /// Its records have one order alone.
+    pub(crate) ordered: bool,
+    pub(crate) peers: Vec<Peer<'a>>,
+}
+
+impl<'a> Script<'a> {
+    /// Whether its records have one order alone.
+    pub fn is_ordered(&self) -> bool {
+        self.ordered
+    }
+
+    /// The peer of this name.
+    pub(crate) fn peer(&self, name: &str) -> Option<&Peer<'a>> {
+        let mut found = None;
+        for peer in &self.peers {
+            if peer.name == name {
+                found = Some(peer);
+            }
+        }
+        found
+    }
+}

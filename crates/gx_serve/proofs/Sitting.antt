@@ -1,0 +1,215 @@
+-- What becomes of a session and its pass under the lock.
+use Rattle.std.proofs.Common.{◌≡◌, ◌≢◌, ℕ, ◌-◌, Bool, true, false, cond, Option, Some, None, inl, inr, refl, sym, ap, subst, ◌∙◌}
+use Rattle.std.specs.Prelude.{nat_le}
+use Rattle.gx_units.specs.declared.names.UserName.{UserName}
+use Rattle.gx_policy.specs.declared.policy.PolicyData.{PolicyData}
+use Rattle.gx_answers.specs.declared.outcome.StepFault.TheVariants as faults
+use Rattle.gx_answers.specs.declared.outcome.LoginAnswer.{LoginAnswer}
+use Rattle.gx_answers.specs.declared.outcome.LoginAnswer.TheVariants as answers
+use Rattle.gx_soup.specs.declared.packet.ClientPacket.{ClientPacket}
+use Rattle.gx_soup.specs.declared.packet.ClientPacket.TheVariants as client
+use Rattle.gx_pass.specs.declared.view.Holds.{Holds}
+use Rattle.gx_session.specs.Happenings as happens
+use Rattle.gx_session.specs.declared.session.Phase.{Phase}
+use Rattle.gx_session.specs.declared.session.Phase.TheVariants.{Fresh, Waiting, On, Abandoned, Done}
+use Rattle.gx_session.specs.Table.{row_in, turn, SessionData}
+use Rattle.gx_history.specs.InForce.{line_of}
+use Rattle.gx_units.specs.Spelling.{folded_user}
+use Rattle.gx_answers.specs.declared.pulled.Pulled.{Pulled}
+use Rattle.gx_pass.specs.Views.{mine, retold}
+use Rattle.gx_door.specs.Acts.{IsLater}
+use Rattle.gx_lobby.specs.Watches.{has_news, WatchData}
+use Rattle.gx_session.specs.Events.{is_over}
+use Rattle.gx_serve.specs.declared.seat.Sign.{Sign}
+use Rattle.gx_serve.specs.declared.seat.outgoing.Due.{Due}
+use Rattle.gx_serve.specs.declared.seat.outgoing.Due.TheVariants as dues
+use Rattle.gx_serve.specs.Marks.{fetched, FetchedData, Mark}
+use Rattle.gx_serve.specs.Seats.{answer_after, is_on, sign_after, HasLooked, WasTold, WasToldRefusal}
+use Rattle.gx_serve.specs.Seeking.{due_of, is_bare, watch_after, GoesOnWhere, IsOver, LooksWhere, Seeks, Watches, WasPulled, WasSought, WasWatched}
+use Rattle.gx_serve.specs.Speech.{IsDue, IsShown}
+
+-- as many records were told as had been seen
+pub was_idle : (policy : PolicyData) (user : UserName) (m : Mark) (moment : ℕ) (session : SessionData) (was is : Holds) (watch : WatchData) (count : ℕ) → is ≡ retold was count → has_news watch count ≡ false
+    → WasPulled policy user m moment session was watch session is watch dues.Nothing
+was_idle policy user m moment session was is watch count told idle = inl (record {
+  told = told ∙ ap (λ n. retold was n) (sym (ap (λ (h : Holds). h.told) told));
+  idle = ap (λ n. has_news watch n) (ap (λ (h : Holds). h.told) told) ∙ idle;
+  same = refl;
+  seen = refl;
+  nothing = refl;
+})
+
+own_told : (was mid is : Holds) (count : ℕ) → mid ≡ retold was count → HasLooked mid is → HasLooked was is
+own_told was mid is count told looked = record {
+  line = looked.line ∙ ap (λ (h : Holds). h.line) told;
+  own = looked.own ∙ ap mine told;
+}
+
+-- the user's reports were pulled
+pub was_fetched : (policy : PolicyData) (user : UserName) (m : Mark) (moment : ℕ) (session : SessionData) (was mid is : Holds) (watch : WatchData) (pulled : Pulled) (count : ℕ)
+    → mid ≡ retold was count → has_news watch count ≡ true → IsLater policy mid is → HasLooked mid is → IsShown policy m.user m.next pulled
+    → WasPulled policy user m moment session was watch session is (watch_after watch (fetched pulled count)) (due_of (fetched pulled count))
+was_fetched policy user m moment session was mid is watch pulled count told news later looked shown = inr (inl (record {
+  pulled = pulled;
+  count = count;
+  news = news;
+  later = subst (λ h. IsLater policy h is) told later;
+  looked = own_told was mid is count told looked;
+  shown = shown;
+  same = refl;
+  seen = refl;
+  brought = refl;
+}))
+
+-- it was refused for want of memory
+pub was_refused : (policy : PolicyData) (user : UserName) (m : Mark) (moment : ℕ) (session session' : SessionData) (was mid next is : Holds) (watch : WatchData) (count : ℕ)
+    → mid ≡ retold was count → HasLooked mid next → WasToldRefusal policy user faults.OutOfMemory moment session next session' is
+    → WasPulled policy user m moment session was watch session' is watch dues.Nothing
+was_refused policy user m moment session session' was mid next is watch count told looked refusal = inr (inr (record {
+  between = next;
+  looked = own_told was mid next count told looked;
+  told = inl refusal;
+  seen = refl;
+  nothing = refl;
+}))
+
+-- the user is not logged in there
+pub was_not_on : (policy : PolicyData) (user : UserName) (m : Mark) (moment : ℕ) (session session' : SessionData) (was mid next is : Holds) (watch : WatchData) (count : ℕ)
+    → mid ≡ retold was count → HasLooked mid next → line_of next.front (folded_user m.user) ≢ Some mid.line → WasTold policy user happens.Fault moment session next session' is
+    → WasPulled policy user m moment session was watch session' is watch dues.Nothing
+was_not_on policy user m moment session session' was mid next is watch count told looked off fault = inr (inr (record {
+  between = next;
+  looked = own_told was mid next count told looked;
+  told = inr (subst (λ line. line_of next.front (folded_user m.user) ≢ Some line) (ap (λ (h : Holds). h.line) told) off, fault);
+  seen = refl;
+  nothing = refl;
+}))
+
+-- the session was told of the time
+pub was_watched : (left : Option Sign) (policy : PolicyData) (user : UserName) (m : Mark) (moment : ℕ) (session ticked session' : SessionData) (was between is : Holds) (watch watch' : WatchData) (due : Due)
+    → WasTold policy user happens.Tick moment session was ticked between → Seeks (sign_after left (turn session happens.Tick moment).reply.send) policy user m moment ticked between watch session' is watch' due
+    → WasWatched left policy user m moment session was watch session' is watch' due
+was_watched left policy user m moment session ticked session' was between is watch watch' due told sought = record { ticked = ticked; between = between; told = told; sought = sought }
+
+-- What is due are the user's reports from the mark on.
+
+fetched_due : (policy : PolicyData) (user : UserName) (from : ℕ) (f : FetchedData) → IsShown policy user from f.pulled → (bare : Bool) → IsDue policy user from (cond bare dues.Nothing (dues.Reports f))
+fetched_due policy user from f shown true = tt
+fetched_due policy user from f shown false = shown
+
+due_so : (policy : PolicyData) (user : UserName) (from : ℕ) (due due' : Due) → due' ≡ due → IsDue policy user from due → IsDue policy user from due'
+due_so policy user from due due' same is = subst (λ d. IsDue policy user from d) (sym same) is
+
+pulled_due : (policy : PolicyData) (user : UserName) (m : Mark) (moment : ℕ) (session : SessionData) (was : Holds) (watch : WatchData) (session' : SessionData) (is : Holds) (watch' : WatchData) (due : Due)
+    → WasPulled policy user m moment session was watch session' is watch' due → IsDue policy m.user m.next due
+pulled_due policy user m moment session was watch session' is watch' due (inl idle) = due_so policy m.user m.next dues.Nothing due idle.nothing tt
+pulled_due policy user m moment session was watch session' is watch' due (inr (inl found)) =
+    due_so policy m.user m.next (due_of (fetched found.pulled found.count)) due found.brought (fetched_due policy m.user m.next (fetched found.pulled found.count) found.shown (is_bare (fetched found.pulled found.count)))
+pulled_due policy user m moment session was watch session' is watch' due (inr (inr refused)) = due_so policy m.user m.next dues.Nothing due refused.nothing tt
+
+over_due : (policy : PolicyData) (user : UserName) (from : ℕ) (due : Due) → IsOver due → IsDue policy user from due
+over_due policy user from (dues.Sign sign) over = tt
+over_due policy user from (dues.Reports f) over = absurd over
+over_due policy user from dues.Nothing over = tt
+over_due policy user from (dues.Over finished) over = tt
+
+looks_due : (on : Bool) (policy : PolicyData) (user : UserName) (m : Mark) (moment : ℕ) (session : SessionData) (was : Holds) (watch : WatchData) (session' : SessionData) (is : Holds) (watch' : WatchData) (due : Due)
+    → LooksWhere on policy user m moment session was watch session' is watch' due → IsDue policy m.user m.next due
+looks_due true policy user m moment session was watch session' is watch' due pulled = pulled_due policy user m moment session was watch session' is watch' due pulled
+looks_due false policy user m moment session was watch session' is watch' due (stays, nothing) = due_so policy m.user m.next dues.Nothing due nothing tt
+
+goes_due : (over : Bool) (policy : PolicyData) (user : UserName) (m : Mark) (moment : ℕ) (session : SessionData) (was : Holds) (watch : WatchData) (session' : SessionData) (is : Holds) (watch' : WatchData) (due : Due)
+    → GoesOnWhere over policy user m moment session was watch session' is watch' due → IsDue policy m.user m.next due
+goes_due true policy user m moment session was watch session' is watch' due (stays, over) = over_due policy m.user m.next due over
+goes_due false policy user m moment session was watch session' is watch' due looks = looks_due (is_on session.phase) policy user m moment session was watch session' is watch' due looks
+
+seeks_due : (left : Option Sign) (policy : PolicyData) (user : UserName) (m : Mark) (moment : ℕ) (session : SessionData) (was : Holds) (watch : WatchData) (session' : SessionData) (is : Holds) (watch' : WatchData) (due : Due)
+    → Seeks left policy user m moment session was watch session' is watch' due → IsDue policy m.user m.next due
+seeks_due (Some sign) policy user m moment session was watch session' is watch' due (stays, signs) = due_so policy m.user m.next (dues.Sign sign) due signs tt
+seeks_due None policy user m moment session was watch session' is watch' due goes = goes_due (is_over session.phase) policy user m moment session was watch session' is watch' due goes
+
+watches_due : (over : Bool) (policy : PolicyData) (user : UserName) (m : Mark) (moment : ℕ) (session : SessionData) (was : Holds) (watch : WatchData) (session' : SessionData) (is : Holds) (watch' : WatchData) (due : Due)
+    → Watches over policy user m moment session was watch session' is watch' due → IsDue policy m.user m.next due
+watches_due true policy user m moment session was watch session' is watch' due (stays, over) = over_due policy m.user m.next due over
+watches_due false policy user m moment session was watch session' is watch' due watched =
+    seeks_due (sign_after None (turn session happens.Tick moment).reply.send) policy user m moment watched.ticked watched.between watch session' is watch' due watched.sought
+
+pub sought_is_due : (left : Option Sign) (policy : PolicyData) (user : UserName) (m : Mark) (moment : ℕ) (session : SessionData) (was : Holds) (watch : WatchData) (session' : SessionData) (is : Holds) (watch' : WatchData) (due : Due)
+    → WasSought left policy user m moment session was watch session' is watch' due → IsDue policy m.user m.next due
+sought_is_due (Some sign) policy user m moment session was watch session' is watch' due (stays, signs) = due_so policy m.user m.next (dues.Sign sign) due signs tt
+sought_is_due None policy user m moment session was watch session' is watch' due watched = watches_due (is_over session.phase) policy user m moment session was watch session' is watch' due watched
+
+-- A packet and a login's answer leave no sign.
+
+packet_row : (left : Option Sign) (phase : Phase) (packet : ClientPacket) (silent quiet : Bool) → sign_after left (row_in phase (happens.Packet packet) silent quiet).reply.send ≡ left
+packet_row left Fresh (client.Login login) silent quiet = refl
+packet_row left Fresh (client.Data payload) silent quiet = refl
+packet_row left Fresh client.Logout silent quiet = refl
+packet_row left Fresh client.Heartbeat silent quiet = refl
+packet_row left Fresh client.Debug silent quiet = refl
+packet_row left Waiting packet silent quiet = refl
+packet_row left On (client.Login login) silent quiet = refl
+packet_row left On (client.Data payload) silent quiet = refl
+packet_row left On client.Logout silent quiet = refl
+packet_row left On client.Heartbeat silent quiet = refl
+packet_row left On client.Debug silent quiet = refl
+packet_row left Abandoned packet silent quiet = refl
+packet_row left Done packet silent quiet = refl
+
+pub packets_leave_no_sign : (left : Option Sign) (session : SessionData) (packet : ClientPacket) (moment : ℕ) → sign_after left (turn session (happens.Packet packet) moment).reply.send ≡ left
+unfolding turn
+packets_leave_no_sign left session packet moment = packet_row left session.phase packet (nat_le 15000000000 (moment - session.heard)) (nat_le 1000000000 (moment - session.sent))
+
+answered_row : (left : Option Sign) (phase : Phase) (answer : LoginAnswer) (silent quiet : Bool) → sign_after left (row_in phase (happens.Answered answer) silent quiet).reply.send ≡ left
+answered_row left Fresh answer silent quiet = refl
+answered_row left Waiting (answers.Accepted name next) silent quiet = refl
+answered_row left Waiting (answers.Rejected reason) silent quiet = refl
+answered_row left On answer silent quiet = refl
+answered_row left Abandoned (answers.Accepted name next) silent quiet = refl
+answered_row left Abandoned (answers.Rejected reason) silent quiet = refl
+answered_row left Done answer silent quiet = refl
+
+pub answers_leave_no_sign : (left : Option Sign) (session : SessionData) (answer : LoginAnswer) (moment : ℕ) → sign_after left (turn session (happens.Answered answer) moment).reply.send ≡ left
+unfolding turn
+answers_leave_no_sign left session answer moment = answered_row left session.phase answer (nat_le 15000000000 (moment - session.heard)) (nat_le 1000000000 (moment - session.sent))
+
+-- As time passes no login is answered.
+
+tick_row : (left : Option LoginAnswer) (phase : Phase) (silent quiet : Bool) → answer_after left (row_in phase happens.Tick silent quiet).reply.send ≡ left
+tick_row left Fresh true quiet = refl
+tick_row left Fresh false quiet = refl
+tick_row left Waiting true quiet = refl
+tick_row left Waiting false quiet = refl
+tick_row left On true quiet = refl
+tick_row left On false true = refl
+tick_row left On false false = refl
+tick_row left Abandoned silent quiet = refl
+tick_row left Done silent quiet = refl
+
+pub ticks_answer_nothing : (left : Option LoginAnswer) (session : SessionData) (moment : ℕ) → answer_after left (turn session happens.Tick moment).reply.send ≡ left
+unfolding turn
+ticks_answer_nothing left session moment = tick_row left session.phase (nat_le 15000000000 (moment - session.heard)) (nat_le 1000000000 (moment - session.sent))
+
+-- At the end nothing is answered or sent.
+
+end_row : (left : Option LoginAnswer) (phase : Phase) (silent quiet : Bool) → answer_after left (row_in phase happens.End silent quiet).reply.send ≡ left
+end_row left Fresh silent quiet = refl
+end_row left Waiting silent quiet = refl
+end_row left On silent quiet = refl
+end_row left Abandoned silent quiet = refl
+end_row left Done silent quiet = refl
+
+pub ends_answer_nothing : (left : Option LoginAnswer) (session : SessionData) (moment : ℕ) → answer_after left (turn session happens.End moment).reply.send ≡ left
+unfolding turn
+ends_answer_nothing left session moment = end_row left session.phase (nat_le 15000000000 (moment - session.heard)) (nat_le 1000000000 (moment - session.sent))
+
+end_sign : (left : Option Sign) (phase : Phase) (silent quiet : Bool) → sign_after left (row_in phase happens.End silent quiet).reply.send ≡ left
+end_sign left Fresh silent quiet = refl
+end_sign left Waiting silent quiet = refl
+end_sign left On silent quiet = refl
+end_sign left Abandoned silent quiet = refl
+end_sign left Done silent quiet = refl
+
+pub ends_leave_no_sign : (left : Option Sign) (session : SessionData) (moment : ℕ) → sign_after left (turn session happens.End moment).reply.send ≡ left
+unfolding turn
+ends_leave_no_sign left session moment = end_sign left session.phase (nat_le 15000000000 (moment - session.heard)) (nat_le 1000000000 (moment - session.sent))

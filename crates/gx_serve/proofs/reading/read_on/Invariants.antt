@@ -1,0 +1,9 @@
+use Rattle.gx_serve.proofs.Hearing.{Hears}
+use Rattle.gx_serve.proofs.reading.read_on.Given as goal
+
+abbrev pub invariant-loop : goal.invariant-loop
+invariant-loop g l = record {
+  next : (goal.iterator-loop g).can_next l.iterator';
+  finite : (goal.iterator-loop g).is_finite l.iterator';
+  hears : Hears (g.I.Read.remaining l.fn.reader.device) (g.I.Read.remaining l.reader.device) l.feeder l.left;
+}

@@ -1,0 +1,38 @@
+-- What a seat gives its writer: whose reports he sends, an answer, reports.
+use Rattle.std.specs.Prelude.{ℕ, length, nat_le}
+use Rattle.gx_units.specs.declared.names.UserName.{UserName}
+use Rattle.gx_answers.specs.declared.outcome.LoginAnswer.{LoginAnswer}
+use Rattle.gx_answers.specs.declared.pulled.Pulled.{Pulled}
+use Rattle.gx_lobby.specs.Watches.{watch_of, WatchData}
+
+-- the user whose reports are sent, and the number of the next
+pub record Mark : Type 0 where
+  pub user : UserName
+  pub next : ℕ
+
+abbrev pub mark : UserName → ℕ → Mark
+mark user next = record { user = user; next = next }
+
+-- the answer to a user's login
+pub record Given : Type 0 where
+  pub user : UserName
+  pub answer : LoginAnswer
+
+abbrev pub given : UserName → LoginAnswer → Given
+given user answer = record { user = user; answer = answer }
+
+-- reports that were pulled, and how many records there were before
+pub record FetchedData : Type 0 where
+  pub pulled : Pulled
+  pub count : ℕ
+
+abbrev pub fetched : Pulled → ℕ → FetchedData
+fetched pulled count = record { pulled = pulled; count = count }
+
+-- once they were sent, the next report is the one behind them
+abbrev pub mark_sent : Mark → FetchedData → Mark
+mark_sent m f = mark m.user f.pulled.next
+
+-- and as many records were seen as there were; where all were pulled that one pull may give, there may be more
+abbrev pub watch_sent : FetchedData → WatchData
+watch_sent f = watch_of f.count (nat_le 256 (length f.pulled.reports))

@@ -1,0 +1,70 @@
+-- What a piece of a connection's bytes leaves of its session.
+use Rattle.std.specs.Prelude.{◌≡◌, ◌<◌, ℕ, ◌⊎◌, List, [], ◌++◌, Option, Some, None}
+use Rattle.std.specs.Io.KnownBytes.{Consumes, IsAtEnd}
+use Rattle.gx_devices.specs.Devices.{one_more}
+use Rattle.gx_soup.specs.Feeding.{Held, HasRead}
+use Rattle.gx_soup.specs.Packets.{packets_of}
+use Rattle.gx_answers.specs.declared.outcome.StepFault.TheVariants as faults
+use Rattle.gx_soup.specs.declared.packet.SoupFault.{SoupFault}
+use Rattle.gx_session.specs.Happenings.{Happening}
+use Rattle.gx_session.specs.Happenings as happens
+use Rattle.gx_serve.specs.declared.reading.Left.{Left}
+use Rattle.gx_serve.specs.declared.reading.Left.TheVariants as lefts
+
+-- it goes on where the bytes are packets, and else it was told of the fault
+abbrev pub IsCut : Option SoupFault → Left → Type 0
+IsCut fault lefts.Open = fault ≡ None
+IsCut fault (lefts.Over over) = ⊥
+IsCut fault (lefts.Refused told) = ⊥
+IsCut fault (lefts.Broken found told) = (fault ≡ Some found) × (told ≡ happens.Fault)
+
+-- the same, or it was over before, or it was told that there is no memory
+abbrev pub IsLeft : Option SoupFault → Left → Type 0
+IsLeft fault lefts.Open = fault ≡ None
+IsLeft fault (lefts.Over over) = Unit {0}
+IsLeft fault (lefts.Refused told) = told ≡ happens.Refused faults.OutOfMemory
+IsLeft fault (lefts.Broken found told) = (fault ≡ Some found) × (told ≡ happens.Fault)
+
+-- the fault that the session was told of
+abbrev pub fault_in : Left → Option SoupFault
+fault_in lefts.Open = None
+fault_in (lefts.Over over) = None
+fault_in (lefts.Refused told) = None
+fault_in (lefts.Broken found told) = Some found
+
+-- the fact, where the session goes on
+abbrev pub IfOpen : Left → Type 0 → Type 0
+IfOpen lefts.Open Fact = Fact
+IfOpen (lefts.Over over) Fact = Unit {0}
+IfOpen (lefts.Refused told) Fact = Unit {0}
+IfOpen (lefts.Broken found told) Fact = Unit {0}
+
+-- a front of the bytes is no packets, and the session was told so
+pub record IsBroken (found : SoupFault) (t : Happening) (bytes : List ℕ) : Type 0 where
+  pub front : List ℕ
+  pub rest : List ℕ
+  pub whole : bytes ≡ front ++ rest
+  pub fault : (packets_of front).fault ≡ Some found
+  pub told : t ≡ happens.Fault
+
+-- what the bytes that were read leave of a session: it goes on where they are packets; else it is over, or was told why not
+abbrev pub Leaves : List ℕ → Left → Type 0
+Leaves bytes lefts.Open = (packets_of bytes).fault ≡ None
+Leaves bytes (lefts.Over over) = Unit {0}
+Leaves bytes (lefts.Refused told) = told ≡ happens.Refused faults.OutOfMemory
+Leaves bytes (lefts.Broken found told) = IsBroken found told bytes
+
+-- and while it goes on the feeder was fed all of them
+abbrev pub Stands : Left → Held → List ℕ → Type 0
+Stands left feeder bytes = IfOpen left (HasRead feeder bytes) × Leaves bytes left
+
+-- the input has ended, or a call of its reader has failed; no byte of it was taken
+abbrev pub HasEnded : Option (List ℕ) → Option (List ℕ) → ℕ → ℕ → Type 0
+HasEnded was is failed failed' = Consumes was is [] × (IsAtEnd is ⊎ (failed' ≡ one_more failed))
+
+-- a connection was read to its end, or until its reader failed, and this is what its bytes leave of the session
+pub record WasHeard (input left : Option (List ℕ)) (failed : ℕ) (heard : Left) : Type 0 where
+  pub bytes : List ℕ
+  pub consumed : Consumes input left bytes
+  pub leaves : Leaves bytes heard
+  pub ended : IsAtEnd left ⊎ (0 < failed)

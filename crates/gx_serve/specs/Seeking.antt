@@ -1,0 +1,145 @@
+-- What a writer is given to do: the answer to a login, and then what is due to its user.
+use Rattle.std.specs.Prelude.{◌≡◌, ◌≢◌, ◌==◌, ◌≤◌, ℕ, ◌⊎◌, Bool, true, false, ◌&&◌, not, cond, IsFalse, IsTrue, Option, Some, None, length}
+use Rattle.gx_units.specs.declared.names.UserName.{UserName}
+use Rattle.gx_units.specs.Spelling.{folded_user}
+use Rattle.gx_policy.specs.declared.policy.PolicyData.{PolicyData}
+use Rattle.gx_history.specs.InForce.{line_of}
+use Rattle.gx_answers.specs.declared.outcome.LoginAnswer.{LoginAnswer}
+use Rattle.gx_answers.specs.declared.outcome.StepFault.TheVariants as faults
+use Rattle.gx_answers.specs.declared.pulled.Pulled.{Pulled}
+use Rattle.gx_pass.specs.declared.view.Holds.{Holds}
+use Rattle.gx_pass.specs.Views.{retold}
+use Rattle.gx_door.specs.Acts.{IsLater}
+use Rattle.gx_lobby.specs.Watches.{has_news, watch_of, WatchData}
+use Rattle.gx_session.specs.Events.{is_over}
+use Rattle.gx_session.specs.Happenings as happens
+use Rattle.gx_session.specs.Table.{SessionData, turn}
+use Rattle.gx_serve.specs.declared.seat.Sign.{Sign}
+use Rattle.gx_serve.specs.declared.seat.Sign.TheVariants as signs
+use Rattle.gx_serve.specs.declared.seat.outgoing.Due.{Due}
+use Rattle.gx_serve.specs.declared.seat.outgoing.Due.TheVariants as dues
+use Rattle.gx_serve.specs.declared.seat.outgoing.Greeting.{Greeting}
+use Rattle.gx_serve.specs.declared.seat.outgoing.Greeting.TheVariants as greetings
+use Rattle.gx_serve.specs.Marks.{fetched, given, FetchedData, Mark}
+use Rattle.gx_serve.specs.Seats.{is_on, sign_after, HasLooked, WasTold, WasToldRefusal}
+use Rattle.gx_serve.specs.Speech.{IsShown}
+
+-- there is nothing to greet with: for good where the session is over, else for now
+abbrev pub IsQuiet : Bool → Greeting → Type 0
+IsQuiet over (greetings.Answer answered) = ⊥
+IsQuiet over greetings.Nothing = over ≡ false
+IsQuiet over (greetings.Over finished) = over ≡ true
+
+-- before a login is answered the session is told of the time, unless it is over
+abbrev pub Ticks : Bool → PolicyData → UserName → ℕ → SessionData → Holds → SessionData → Holds → Type 0
+Ticks true policy user moment session was session' is = (session' ≡ session) × (is ≡ was)
+Ticks false policy user moment session was session' is = WasTold policy user happens.Tick moment session was session' is
+
+-- what the writer does before the login is answered: he sends the answer that is left; else the time is told, and there is
+-- nothing, for good once the session is over
+abbrev pub WasGreeted : Option LoginAnswer → PolicyData → UserName → ℕ → SessionData → Holds → SessionData → Holds → Greeting → Type 0
+WasGreeted (Some answer) policy user moment session was session' is greeting =
+    ((session' ≡ session) × (is ≡ was)) × (greeting ≡ greetings.Answer (given user answer))
+WasGreeted None policy user moment session was session' is greeting =
+    Ticks (is_over session.phase) policy user moment session was session' is × IsQuiet (is_over session'.phase) greeting
+
+-- the session is over, and nothing is left to be sent
+abbrev pub IsOver : Due → Type 0
+IsOver (dues.Sign sign) = ⊥
+IsOver (dues.Reports found) = ⊥
+IsOver dues.Nothing = ⊥
+IsOver (dues.Over finished) = Unit {0}
+
+-- it ends the session
+abbrev pub is_ending : Sign → Bool
+is_ending signs.Heartbeat = false
+is_ending signs.EndOfSession = true
+
+-- a pull brought nothing, and more may come
+abbrev pub is_bare : FetchedData → Bool
+is_bare f = (length f.pulled.reports == 0) && not f.pulled.ended
+
+-- what a pull brought is due, unless it is nothing
+abbrev pub due_of : FetchedData → Due
+due_of f = cond (is_bare f) dues.Nothing (dues.Reports f)
+
+-- and in the latter case all records were seen
+abbrev pub watch_after : WatchData → FetchedData → WatchData
+watch_after watch f = cond (is_bare f) (watch_of f.count false) watch
+
+-- as many records were told as had been seen, and there is nothing to be looked for
+pub record WasIdle (session : SessionData) (was : Holds) (watch : WatchData) (session' : SessionData) (is : Holds) (watch' : WatchData) (due : Due) : Type 0 where
+  pub told : is ≡ retold was is.told
+  pub idle : IsFalse (has_news watch is.told)
+  pub same : session' ≡ session
+  pub seen : watch' ≡ watch
+  pub nothing : due ≡ dues.Nothing
+
+-- there was news, and the user's reports were pulled, as they stood once so many records were told
+pub record WasFetched (policy : PolicyData) (m : Mark) (session : SessionData) (was : Holds) (watch : WatchData) (session' : SessionData) (is : Holds) (watch' : WatchData) (due : Due) : Type 0 where
+  pub pulled : Pulled
+  pub count : ℕ
+  pub news : IsTrue (has_news watch count)
+  pub later : IsLater policy (retold was count) is
+  pub looked : HasLooked was is
+  pub shown : IsShown policy m.user m.next pulled
+  pub same : session' ≡ session
+  pub seen : watch' ≡ watch_after watch (fetched pulled count)
+  pub brought : due ≡ due_of (fetched pulled count)
+
+-- the pull was refused, and the session was told so: for want of memory, or since the user is not logged in on the line
+pub record WasUnfetched (policy : PolicyData) (user : UserName) (m : Mark) (moment : ℕ) (session : SessionData) (was : Holds) (watch : WatchData) (session' : SessionData) (is : Holds) (watch' : WatchData) (due : Due) : Type 0 where
+  pub between : Holds
+  pub looked : HasLooked was between
+  pub told : WasToldRefusal policy user faults.OutOfMemory moment session between session' is
+      ⊎ ((line_of between.front (folded_user m.user) ≢ Some was.line) × WasTold policy user happens.Fault moment session between session' is)
+  pub seen : watch' ≡ watch
+  pub nothing : due ≡ dues.Nothing
+
+-- what came of looking for the user's reports
+abbrev pub WasPulled : PolicyData → UserName → Mark → ℕ → SessionData → Holds → WatchData → SessionData → Holds → WatchData → Due → Type 0
+WasPulled policy user m moment session was watch session' is watch' due =
+    WasIdle session was watch session' is watch' due
+    ⊎ (WasFetched policy m session was watch session' is watch' due
+    ⊎ WasUnfetched policy user m moment session was watch session' is watch' due)
+
+-- nothing else was done
+abbrev pub Stays : SessionData → Holds → WatchData → SessionData → Holds → WatchData → Type 0
+Stays session was watch session' is watch' = ((session' ≡ session) × (is ≡ was)) × (watch' ≡ watch)
+
+-- reports are looked for while a user is logged in
+abbrev pub LooksWhere : Bool → PolicyData → UserName → Mark → ℕ → SessionData → Holds → WatchData → SessionData → Holds → WatchData → Due → Type 0
+LooksWhere true policy user m moment session was watch session' is watch' due = WasPulled policy user m moment session was watch session' is watch' due
+LooksWhere false policy user m moment session was watch session' is watch' due = Stays session was watch session' is watch' × (due ≡ dues.Nothing)
+
+-- nothing is due any more once the session is over; else reports are looked for
+abbrev pub GoesOnWhere : Bool → PolicyData → UserName → Mark → ℕ → SessionData → Holds → WatchData → SessionData → Holds → WatchData → Due → Type 0
+GoesOnWhere true policy user m moment session was watch session' is watch' due = Stays session was watch session' is watch' × IsOver due
+GoesOnWhere false policy user m moment session was watch session' is watch' due =
+    LooksWhere (is_on session.phase) policy user m moment session was watch session' is watch' due
+
+-- the packet that is left is due; else what else there is
+abbrev pub Seeks : Option Sign → PolicyData → UserName → Mark → ℕ → SessionData → Holds → WatchData → SessionData → Holds → WatchData → Due → Type 0
+Seeks (Some sign) policy user m moment session was watch session' is watch' due = Stays session was watch session' is watch' × (due ≡ dues.Sign sign)
+Seeks None policy user m moment session was watch session' is watch' due =
+    GoesOnWhere (is_over session.phase) policy user m moment session was watch session' is watch' due
+
+-- the session was told of the time, and what it then asks to send is due, or else what there is
+pub record WasWatched (left : Option Sign) (policy : PolicyData) (user : UserName) (m : Mark) (moment : ℕ) (session : SessionData) (was : Holds) (watch : WatchData) (session' : SessionData) (is : Holds) (watch' : WatchData) (due : Due) : Type 0 where
+  pub ticked : SessionData
+  pub between : Holds
+  pub told : WasTold policy user happens.Tick moment session was ticked between
+  pub sought : Seeks (sign_after left (turn session happens.Tick moment).reply.send) policy user m moment ticked between watch session' is watch' due
+
+-- what is done for a user before all else is over: the session is told of the time
+abbrev pub Watches : Bool → PolicyData → UserName → Mark → ℕ → SessionData → Holds → WatchData → SessionData → Holds → WatchData → Due → Type 0
+Watches true policy user m moment session was watch session' is watch' due = Stays session was watch session' is watch' × IsOver due
+Watches false policy user m moment session was watch session' is watch' due =
+    WasWatched None policy user m moment session was watch session' is watch' due
+
+-- what the writer does for a user: he sends the packet that is left; once the session is over nothing more; else the session is
+-- told of the time, and he sends what it then asks for, or the user's reports, where there are any
+abbrev pub WasSought : Option Sign → PolicyData → UserName → Mark → ℕ → SessionData → Holds → WatchData → SessionData → Holds → WatchData → Due → Type 0
+WasSought (Some sign) policy user m moment session was watch session' is watch' due = Stays session was watch session' is watch' × (due ≡ dues.Sign sign)
+WasSought None policy user m moment session was watch session' is watch' due =
+    Watches (is_over session.phase) policy user m moment session was watch session' is watch' due
