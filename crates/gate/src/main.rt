@@ -21,7 +21,7 @@ use gx_lobby::Lobby;
 use gx_pipe::run_pipe;
 use gx_policy::Policy;
 use gx_scripting::run_script;
-use gx_serve::ServeFault;
+use gx_serve::{Ending, ServeFault};
 use gx_server::{Noted, ProgramFault, migrated_policy, open_gate, policy_for, told_of_policy};
 use gx_shared::{Kept, Served, serve, serve_journaled};
 use gx_units::OutOfMemory;
@@ -240,8 +240,11 @@ where
 }
 
 /// How a server ended.
-fn served<'a>(ended: Result<(), ServeFault>) -> Result<(), Ended<'a>> {
-    Ok(ended?)
+fn served<'a>(ended: Ending) -> Result<(), Ended<'a>> {
+    match ended.fault() {
+        Some(fault) => Err(fault.into()),
+        None => Ok(()),
+    }
 }
 
 /// Serves connections under a policy, and writes the audit.
@@ -259,13 +262,13 @@ where
     served(ended).and(audited)
 }
 
-/// Serves connections of a day that goes on, and keeps its records.
+/// Serves connections of a day that goes on, and keeps its records. Tells how the server ended, too.
 fn go_on<'a, R>(
     rt: &R,
     host: &HostRuntime,
     serving: &Serving<'a>,
     day: Day,
-) -> Result<Kept<Gate, Noted<JournalDevice>>, Ended<'a>>
+) -> Result<(Kept<Gate, Noted<JournalDevice>>, Ending), Ended<'a>>
 where
     R: Net<Listener = TcpListener, Stream = TcpStream> + Threads + Wait + Clock + Eprint + Sync,
 {
@@ -319,12 +322,12 @@ where
     R: Net<Listener = TcpListener, Stream = TcpStream> + Threads + Wait + Clock + Eprint + Sync,
 {
     let day = take_up(host, policy, journal)?;
+    let (left, ended) = go_on(rt, host, serving, day)?;
     let Kept {
         gate,
-        ended,
         fault,
         device,
-    } = go_on(rt, host, serving, day)?;
+    } = left;
     let audited = close_audited(host, gate, serving.files.audit);
     kept(fault, journal.path, device.cause)
         .and(served(ended))

@@ -2,6 +2,7 @@
 
 ghost use Rattle.std.specs.Prelude.{◌≡◌, IsTrue};
 ghost use Rattle.gx_history.specs.Showing.{has_its_first};
+ghost use Rattle.gx_shared.specs.Permits.{all_parts};
 
 use crate::plays::put_legal;
 use gx_answers::{AccessGate, Outcome, Pulled};
@@ -10,17 +11,17 @@ use gx_desk::{Action, Command, Tag};
 use gx_door::{Dial, Door, PullFault};
 use gx_history::record::{Record, Request, Step};
 use gx_ouch::EnterOrder;
-use gx_pass::{Blank, GateName, Pass};
+use gx_pass::{Blank, GateName};
 use gx_policy::Policy;
 use gx_server::sample_policy;
-use gx_shared::SharedGate;
+use gx_shared::{Entrance, Permits, SharedGate, Ticket, blank_ledger};
 use gx_stage::{ALICE, BOB, Ended, Still, put, three_passes};
 use gx_trials::put_records;
 use gx_units::{AccountName, Firm, Password, SessionName, Symbol, Token, UserName};
 use std::alloc::Global;
 use std::fmt::Write;
 use std::marker::Brand;
-use std::sync::Wait;
+use std::sync::{Wait, ledger};
 use std::thread;
 use std::thread::Threads;
 use std::time::Clock;
@@ -255,7 +256,7 @@ fn put_caller<N: GateName>(
     out: &mut String,
     records: &[Record],
     caller: Caller,
-    called: &(Pass<N>, Vec<u64>),
+    called: &(Ticket<N>, Vec<u64>),
 ) -> Result<(), Ended> {
     let line = called.0.line();
     let name = caller.name;
@@ -275,7 +276,7 @@ fn put_caller<N: GateName>(
 fn put_called<N: GateName>(
     out: &mut String,
     records: &[Record],
-    called: &Called<Pass<N>>,
+    called: &Called<Ticket<N>>,
 ) -> Result<(), Ended> {
     let [alice, bob, olga] = CALLERS;
     put_caller(out, records, alice, &called.0)?;
@@ -338,7 +339,7 @@ fn put_met<N: GateName, R: Wait>(
     alloc: Global,
     out: &mut String,
     shared: &SharedGate<Gate, N>,
-    pass: Pass<N>,
+    pass: Ticket<N>,
 ) -> Result<(), Ended> {
     let line = pass.line();
     let (_pass, records) = shared.records(rt, pass, 1, u64::MAX);
@@ -365,7 +366,7 @@ fn put_meeting<N: GateName, R: Wait + Dial>(
     alloc: Global,
     out: &mut String,
     shared: &SharedGate<Gate, N>,
-    passes: (Pass<N>, Pass<N>),
+    passes: (Ticket<N>, Ticket<N>),
 ) -> Result<(), Ended> {
     let (one, mut other) = passes;
     let asked = request(Role::Trader, 0);
@@ -384,7 +385,7 @@ fn put_three<N: GateName + Send + Sync, R: Threads + Wait + Dial + Sync>(
     alloc: Global,
     out: &mut String,
     shared: &SharedGate<Gate, N>,
-    passes: (Pass<N>, Pass<N>, Pass<N>),
+    passes: (Ticket<N>, Ticket<N>, Ticket<N>),
 ) -> Result<(), Ended> {
     let Some((first, second, (pass, numbers))) = call_at_once(rt, alloc, shared, passes) else {
         return Err(Ended::OutOfMemory);
@@ -425,10 +426,12 @@ fn put_act<N: GateName + Send + Sync, R: Threads + Wait + Clock + Dial + Sync>(
     alloc: Global,
     out: &mut String,
     shared: &SharedGate<Gate, N>,
+    permits: Permits<N>,
     act: Act,
 ) -> Result<(), Ended> {
     put(out, act.title())?;
-    let passes = three_passes(rt, shared)?;
+    let mut entrance = Entrance::new(shared, permits);
+    let passes = three_passes(rt, &mut entrance)?;
     match act {
         Act::Pulls => put_pulls(rt, out, shared, (passes.0, passes.1)),
         Act::Meeting => put_meeting(rt, alloc, out, shared, (passes.0, passes.1)),
@@ -443,11 +446,12 @@ fn act_at<N: GateName + Send + Sync, R: Threads + Wait + Clock + Dial + Sync>(
     out: &mut String,
     policy: &Policy,
     shared: SharedGate<Gate, N>,
-    pass: Pass<N>,
+    permits: Permits<N>,
+    pass: Ticket<N>,
     act: Act,
 ) -> Result<(), Ended> {
-    let told = put_act(rt, alloc, out, &shared, act);
-    let gate = shared.close(pass);
+    let told = put_act(rt, alloc, out, &shared, permits, act);
+    let (gate, _met, _total) = shared.close(pass);
     let legal = put_legal(alloc, out, &gate, policy);
     gate.close();
     told?;
@@ -462,14 +466,18 @@ fn act_named<N: GateName + Send + Sync, R: Threads + Wait + Clock + Dial + Sync>
     out: &mut String,
     policy: &Policy,
     blank: Blank,
+    ledger: ledger::Blank,
     act: Act,
 ) -> Result<(), Ended>
     requires policy { policy.now ≡ N.policy }
     requires blank { blank ≡ N.table }
+    requires name { ledger.name ≡ N.name }
+    requires parts { ledger.parts ≡ N.parts }
+    requires all { ledger.parts ≡ all_parts }
 {
     let gate = Gate::open(alloc, policy)?;
-    match SharedGate::<Gate, N>::over(gate, blank) {
-        Ok((shared, pass)) => act_at(rt, alloc, out, policy, shared, pass, act),
+    match SharedGate::<Gate, N>::over(gate, blank, ledger) {
+        Ok((shared, permits, pass)) => act_at(rt, alloc, out, policy, shared, permits, pass, act),
         Err(fault) => Err(Ended::Pass(fault)),
     }
 }
@@ -482,7 +490,15 @@ fn act_once<R: Threads + Wait + Clock + Dial + Sync>(
     policy: &Policy,
     act: Act,
 ) -> Result<(), Ended> {
-    act_named::<Brand, R>(rt, alloc, out, policy, Blank::new(alloc)?, act)
+    act_named::<Brand, R>(
+        rt,
+        alloc,
+        out,
+        policy,
+        Blank::new(alloc)?,
+        blank_ledger(),
+        act,
+    )
 }
 
 /// Makes the calls under a policy, each kind at a gate of its own.

@@ -2,6 +2,7 @@
 //! fails.
 
 ghost use Rattle.std.specs.Prelude.{◌≡◌, []};
+ghost use Rattle.gx_shared.specs.Permits.{all_parts};
 
 use gx_answers::AccessGate;
 use gx_audit::{Resumed, audit_of, check_audit, resume};
@@ -9,9 +10,9 @@ use gx_audit_bytes::AuditVersion;
 use gx_core::Gate;
 use gx_door::Dial;
 use gx_journal::Journaled;
-use gx_pass::{Blank, GateName, Pass};
+use gx_pass::{Blank, GateName};
 use gx_policy::Policy;
-use gx_shared::{Kept, SharedGate, close_kept};
+use gx_shared::{Entrance, Kept, Permits, SharedGate, Ticket, close_kept};
 use gx_stage::{
     ALICE, BOB, Ended, Paper, Stage, Texts, has_first_reports, journal_of, play_on, put, put_found,
     put_sent, three_passes,
@@ -19,7 +20,7 @@ use gx_stage::{
 use gx_units::{OutOfMemory, UserName};
 use std::alloc::Global;
 use std::marker::Brand;
-use std::sync::Wait;
+use std::sync::{Wait, ledger};
 use std::thread::Threads;
 use std::time::Clock;
 
@@ -134,14 +135,19 @@ fn play_at<N: GateName + Send + Sync, R: Threads + Wait + Clock + Dial + Sync>(
     alloc: Global,
     policy: &Policy,
     shared: SharedGate<Gate, N>,
-    pass: Pass<N>,
+    permits: Permits<N>,
+    pass: Ticket<N>,
     stage: &Stage,
     device: Device,
     out: &mut String,
 ) -> Result<(), Ended>
-    requires { pass.front ≡ [] }
+    requires front { pass.held.front ≡ [] }
+    requires none_added { pass.added ≡ 0 }
 {
-    let passes = match three_passes(rt, &shared) {
+    let mut entrance = Entrance::new(&shared, permits);
+    let issued = three_passes(rt, &mut entrance);
+    drop(entrance);
+    let passes = match issued {
         Ok(passes) => passes,
         Err(fault) => {
             shared.let_go();
@@ -154,12 +160,12 @@ fn play_at<N: GateName + Send + Sync, R: Threads + Wait + Clock + Dial + Sync>(
     );
     let played = play_on(rt, alloc, &door, stage, passes);
     let journal = door.into_journal();
+    let (kept, _met, _total) = close_kept(shared, journal);
     let Kept {
         gate,
-        ended: _,
         fault,
         device: paper,
-    } = close_kept(shared, journal, Ok(()));
+    } = kept;
     let told = match played {
         Some((_pass, texts)) => put_kept(
             alloc,
@@ -183,16 +189,22 @@ pub(crate) fn run_kept<N: GateName + Send + Sync, R: Threads + Wait + Clock + Di
     alloc: Global,
     policy: &Policy,
     blank: Blank,
+    ledger: ledger::Blank,
     stage: &Stage,
     device: Device,
     out: &mut String,
 ) -> Result<(), Ended>
     requires policy { policy.now ≡ N.policy }
     requires blank { blank ≡ N.table }
+    requires name { ledger.name ≡ N.name }
+    requires parts { ledger.parts ≡ N.parts }
+    requires all { ledger.parts ≡ all_parts }
 {
     let gate = Gate::open(alloc, policy)?;
-    match SharedGate::<Gate, N>::over(gate, blank) {
-        Ok((shared, pass)) => play_at(rt, alloc, policy, shared, pass, stage, device, out),
+    match SharedGate::<Gate, N>::over(gate, blank, ledger) {
+        Ok((shared, permits, pass)) => {
+            play_at(rt, alloc, policy, shared, permits, pass, stage, device, out)
+        }
         Err(fault) => Err(Ended::Pass(fault)),
     }
 }

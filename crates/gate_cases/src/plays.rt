@@ -1,22 +1,23 @@
 //! Plays: connections over lines in memory, served by the server's own workers at a shared gate, and what is told of them.
 
 ghost use Rattle.std.specs.Prelude.{◌≡◌};
+ghost use Rattle.gx_shared.specs.Permits.{all_parts};
 
 use crate::audits::tell_shown;
 use gx_answers::AccessGate;
 use gx_audit::{audit_of, check_audit};
 use gx_audit_bytes::AuditVersion::Two;
 use gx_core::Gate;
-use gx_pass::{Blank, GateName, Pass};
+use gx_pass::{Blank, GateName};
 use gx_plays::{House, Script, Stage, Vain, play, tell_packets, tell_vain};
 use gx_policy::Policy;
-use gx_shared::SharedGate;
+use gx_shared::{Entrance, Permits, SharedGate, Ticket, blank_ledger};
 use gx_trials::{LARGE, put};
 use gx_units::OutOfMemory;
 use std::alloc::Global;
 use std::fmt::Write;
 use std::marker::Brand;
-use std::sync::Wait;
+use std::sync::{Wait, ledger};
 use std::thread::Threads;
 use std::time::Clock;
 
@@ -59,12 +60,13 @@ fn perform<N: GateName + Send + Sync, R: Threads + Wait + Clock + Sync>(
     alloc: Global,
     out: &mut String,
     shared: &SharedGate<Gate, N>,
-    pass: Pass<N>,
+    permits: Permits<N>,
+    pass: Ticket<N>,
     script: &Script<'_>,
-) -> Option<(Pass<N>, Result<(), OutOfMemory>)> {
+) -> Option<(Ticket<N>, Result<(), OutOfMemory>)> {
     let house = House::new(rt, alloc, shared);
     let stage = Stage::new(&house, script);
-    let (pass, vain) = play(&stage, pass)?;
+    let (pass, vain) = play(&stage, Entrance::new(shared, permits), pass)?;
     Some((pass, tell(rt, alloc, out, script, vain)))
 }
 
@@ -87,14 +89,15 @@ fn play_at<N: GateName + Send + Sync, R: Threads + Wait + Clock + Sync>(
     out: &mut String,
     policy: &Policy,
     shared: SharedGate<Gate, N>,
-    pass: Pass<N>,
+    permits: Permits<N>,
+    pass: Ticket<N>,
     script: &Script<'_>,
 ) -> Result<(), OutOfMemory> {
-    let Some((pass, told)) = perform(rt, alloc, out, &shared, pass, script) else {
+    let Some((pass, told)) = perform(rt, alloc, out, &shared, permits, pass, script) else {
         shared.let_go();
         return Err(OutOfMemory);
     };
-    let gate = shared.close(pass);
+    let (gate, _met, _total) = shared.close(pass);
     let told = told.and(put_day(alloc, out, &gate, policy, script));
     gate.close();
     told
@@ -107,14 +110,20 @@ fn play_named<N: GateName + Send + Sync, R: Threads + Wait + Clock + Sync>(
     out: &mut String,
     policy: &Policy,
     blank: Blank,
+    ledger: ledger::Blank,
     script: &Script<'_>,
 ) -> Result<(), OutOfMemory>
     requires policy { policy.now ≡ N.policy }
     requires blank { blank ≡ N.table }
+    requires name { ledger.name ≡ N.name }
+    requires parts { ledger.parts ≡ N.parts }
+    requires all { ledger.parts ≡ all_parts }
 {
     let gate = Gate::open(alloc, policy)?;
-    match SharedGate::<Gate, N>::over(gate, blank) {
-        Ok((shared, pass)) => play_at(rt, alloc, out, policy, shared, pass, script),
+    match SharedGate::<Gate, N>::over(gate, blank, ledger) {
+        Ok((shared, permits, pass)) => play_at(
+            rt, alloc, out, policy, shared, permits, pass, script,
+        ),
         Err(_) => Err(OutOfMemory),
     }
 }
@@ -129,5 +138,13 @@ pub(crate) fn tell_play<R: Threads + Wait + Clock + Sync>(
     ordered: bool,
 ) -> Result<(), OutOfMemory> {
     let script = Script::new(alloc, text, ordered)?;
-    play_named::<Brand, R>(rt, alloc, out, policy, Blank::new(alloc)?, &script)
+    play_named::<Brand, R>(
+        rt,
+        alloc,
+        out,
+        policy,
+        Blank::new(alloc)?,
+        blank_ledger(),
+        &script,
+    )
 }

@@ -6,6 +6,7 @@ use gx_door::Dial;
 use gx_pass::Blank;
 use gx_policy::Policy;
 use gx_server::sample_policy;
+use gx_shared::blank_ledger;
 use gx_stage::{Ended, Play, Stage, Still, put};
 use std::alloc::Global;
 use std::marker::Brand;
@@ -81,7 +82,8 @@ fn play_on_stage<R: Threads + Wait + Clock + Dial + Sync>(
     device: Device,
     out: &mut String,
 ) -> Result<(), Ended> {
-    run_kept::<Brand, R>(rt, alloc, policy, Blank::new(alloc)?, stage, device, out)
+    let blank = Blank::new(alloc)?;
+    run_kept::<Brand, R>(rt, alloc, policy, blank, blank_ledger(), stage, device, out)
 }
 
 /// A play on a stage of its own, behind its title.

@@ -1,6 +1,6 @@
 //! What threads ask of a gate that they share.
 
-ghost use Rattle.std.specs.Prelude.{◌≡◌, ◌≢◌, ◌↔◌, ◌≤◌, [], length, IsTrue, IfErr, IfNone, IfOk, IfSome, OnErr, OnOk, Some, None, is_some};
+ghost use Rattle.std.specs.Prelude.{◌≡◌, ◌≢◌, ◌↔◌, ◌+◌, ◌≤◌, [], length, IsTrue, IfErr, IfNone, IfOk, IfSome, OnErr, OnOk, Some, None, is_some};
 ghost use Rattle.gx_units.specs.Spelling.{folded_user};
 ghost use Rattle.gx_history.specs.declared.record.Request.TheVariants as requests;
 ghost use Rattle.gx_history.specs.InForce.{line_of};
@@ -18,7 +18,6 @@ use crate::dial::Dial;
 use crate::fault::PullFault;
 use gx_answers::{LoginAnswer, Outcome, Pulled, StepFault};
 use gx_history::record::{Record, Request};
-use gx_pass::PassFault;
 use gx_units::{Moment, OutOfMemory, Password, SessionName, UserName};
 use std::sync::Wait;
 
@@ -26,7 +25,11 @@ use std::sync::Wait;
 ///
 /// A step is refused as one of a full day exactly where the day is full. A granted Kill or Logout is never refused: at
 /// `Err` what was met is what the request was judged on, and it does not make it one.
+///
+/// Each record, of whatever line, is counted in the pass that it was added with: no call adds more than its clauses say.
+/// Passes come from an [`Issuer`](crate::Issuer).
 pub trait Door {
+    ghost use Rattle.std.specs.Prelude.{ℕ};
     ghost use Rattle.gx_policy.specs.declared.policy.PolicyData.{PolicyData};
     ghost use Rattle.gx_pass.specs.declared.view.Holds.{Holds};
 
@@ -39,10 +42,8 @@ pub trait Door {
     // What the pass has met.
     ghost held: { Self.Ticket → Holds };
 
-    /// A pass of a new line. It has met all records, of which none is of its line.
-    fn issue<R: Wait>(&self, rt: &R) -> Result<Self::Ticket, PassFault>
-        ensures legal { IfOk result (λ p. IsLegal policy (held p).front) }
-        ensures own { IfOk result (λ p. mine (held p) ≡ []) };
+    // How many records were added with the pass.
+    ghost added: { Self.Ticket → ℕ };
 
     /// A login on the pass's line, and what it is told.
     fn login<R: Wait + Dial>(
@@ -60,7 +61,9 @@ pub trait Door {
         ensures done { IfOk result.1 (LogsIn policy (held pass) (held result.0)
             (login_on policy (held pass).line user password session wanted moment) wanted) }
         ensures refused { OnErr result.1 (mine (held result.0) ≡ mine (held pass)) }
-        ensures full { IfErr result.1 (IsToldFull (gate_met policy (held result.0))) };
+        ensures full { IfErr result.1 (IsToldFull (gate_met policy (held result.0))) }
+        ensures adds_one { OnOk result.1 (added result.0 ≡ added pass + 1) }
+        ensures adds_none { OnErr result.1 (added result.0 ≡ added pass) };
 
     /// A request on the pass's line.
     fn act<R: Wait + Dial>(
@@ -79,7 +82,9 @@ pub trait Door {
         ensures refused { OnErr result.1 (mine (held result.0) ≡ mine (held pass)) }
         ensures never_refused { OnErr result.1 (MayBeRefused (gate_met policy (held result.0))
             (asked_on (held pass).line user request moment)) }
-        ensures full { IfErr result.1 (IsToldFull (gate_met policy (held result.0))) };
+        ensures full { IfErr result.1 (IsToldFull (gate_met policy (held result.0))) }
+        ensures adds_one { OnOk result.1 (added result.0 ≡ added pass + 1) }
+        ensures adds_none { OnErr result.1 (added result.0 ≡ added pass) };
 
     /// A matching step, whose record is nobody's own. `None` where no order waits.
     fn match_one<R: Wait + Dial>(
@@ -97,7 +102,12 @@ pub trait Door {
             (matching_of (gate_met policy (held result.0)) ≡ None)) }
         ensures waits { OnErr result.1
             (IsTrue (is_some (matching_of (gate_met policy (held result.0))))) }
-        ensures full { IfErr result.1 (IsToldFull (gate_met policy (held result.0))) };
+        ensures full { IfErr result.1 (IsToldFull (gate_met policy (held result.0))) }
+        ensures adds_one { IfOk result.1 (λ found. IfSome found (λ _.
+            added result.0 ≡ added pass + 1)) }
+        ensures adds_none_idle { IfOk result.1 (λ found. IfNone found
+            (added result.0 ≡ added pass)) }
+        ensures adds_none { OnErr result.1 (added result.0 ≡ added pass) };
 
     /// The reports of a user who is logged in on the pass's line, from this number on, 0 counting as 1, and at most so
     /// many, 256 where more are asked for.
@@ -116,7 +126,8 @@ pub trait Door {
         ensures not_on { IfErr result.1 (λ e. e ≡ pull_faults.NotOn
             ↔ line_of (held result.0).front (folded_user user) ≢ Some (held pass).line) }
         ensures pulled { IfOk result.1
-            (IsPulled (gate_met policy (held result.0)) (folded_user user) from most) };
+            (IsPulled (gate_met policy (held result.0)) (folded_user user) from most) }
+        ensures adds_none { added result.0 ≡ added pass };
 
     /// A logout on the pass's line.
     fn logout<R: Wait + Dial>(
@@ -133,7 +144,9 @@ pub trait Door {
         ensures refused { OnErr result.1 (mine (held result.0) ≡ mine (held pass)) }
         ensures never_refused { OnErr result.1 (MayBeRefused (gate_met policy (held result.0))
             (asked_on (held pass).line user requests.Logout moment)) }
-        ensures full { IfErr result.1 (IsToldFull (gate_met policy (held result.0))) };
+        ensures full { IfErr result.1 (IsToldFull (gate_met policy (held result.0))) }
+        ensures adds_one { OnOk result.1 (added result.0 ≡ added pass + 1) }
+        ensures adds_none { OnErr result.1 (added result.0 ≡ added pass) };
 
     /// The records from this number on, 0 counting as 1, and at most so many.
     fn records<R: Wait>(
@@ -146,7 +159,8 @@ pub trait Door {
         ensures later { IsLater policy (held pass) (held result.0) }
         ensures own { mine (held result.0) ≡ mine (held pass) }
         ensures records { IfOk result.1
-            (λ v. v.items ≡ slice (held result.0).front from most) };
+            (λ v. v.items ≡ slice (held result.0).front from most) }
+        ensures adds_none { added result.0 ≡ added pass };
 
     /// Whether what was done so far may be told: a door that keeps its records elsewhere keeps all that there are by
     /// now, and answers false where it can't, and from then on. Whoever tells of records asks before.
@@ -164,11 +178,14 @@ pub trait Door {
         ensures first_own { mine (held result.0) ≡ mine (held one) }
         ensures second_own { mine (held result.1) ≡ mine (held other) }
         ensures front { (held result.0).front ≡ (held result.1).front }
-        ensures apart { (held one).line ≢ (held other).line };
+        ensures apart { (held one).line ≢ (held other).line }
+        ensures first_adds_none { added result.0 ≡ added one }
+        ensures second_adds_none { added result.1 ≡ added other };
 
     /// How many records there are: at least as many as were met, and as were told before. It waits for nobody.
     fn length(&self, pass: &mut Self::Ticket) -> u64
         ensures told { held pass.new ≡ retold (held pass.old) result }
         ensures more { (held pass.old).told ≤ result }
-        ensures front { length (held pass.old).front ≤ result };
+        ensures front { length (held pass.old).front ≤ result }
+        ensures adds_none { added pass.new ≡ added pass.old };
 }

@@ -5,7 +5,9 @@
 mod dial;
 mod door;
 mod fault;
+mod issuer;
 
 pub use dial::Dial;
 pub use door::Door;
 pub use fault::PullFault;
+pub use issuer::Issuer;

@@ -1,6 +1,5 @@
 -- What a journal keeps, call by call.
-use Rattle.std.proofs.Common.{◌≡◌, ℕ, ◌+◌, ◌-◌, ◌<◌, ◌≤◌, Bool, true, false, List, ◌++◌, Option, Some, None, length, take, drop, min, max, is_some, refl, sym, ap, ◌∙◌, subst, arith}
-use Rattle.std.specs.Prelude.{IsTrue, IsFalse}
+use Rattle.std.proofs.Common.{◌≡◌, ℕ, ◌+◌, ◌-◌, ◌<◌, ◌≤◌, Bool, true, false, List, ◌++◌, Option, None, length, take, drop, min, is_some, refl, sym, ap, ◌∙◌, subst, arith}
 use Rattle.std.specs.Io.KnownBytes.{Appends}
 use Rattle.std.proofs.lemmas.List.{length-take, length-drop, take_all, take-append-drop, take-append-le}
 use mathlib.Core.List.{IsPrefix}
@@ -9,11 +8,11 @@ use Rattle.gx_policy.specs.declared.policy.PolicyData.{PolicyData}
 use Rattle.gx_history.specs.declared.record.RecordData.{RecordData}
 use Rattle.gx_policy.specs.Lists.{slice}
 use Rattle.gx_pass.specs.declared.view.Holds.{Holds}
-use Rattle.gx_pass.proofs.Fronts.{prefix_length, prefix_trans}
+use Rattle.gx_pass.proofs.Fronts.{prefix_length}
 use Rattle.gx_door.specs.Acts.{IsLater}
 use Rattle.gx_journal.specs.declared.fault.JournalFault.{JournalFault}
 use Rattle.gx_journal.specs.Journals.{added, is_broken, journal_bytes, known, IsGrown, IsKept, JournalData, TapeData}
-use Rattle.gx_journal.proofs.Rolling.{added_later, are_next, cut_there, cut_written, more_appended, more_written, none_added, piece_size, whole_written}
+use Rattle.gx_journal.proofs.Rolling.{added_later, cut_there, cut_written, more_written, none_added, piece_size}
 
 clash : {X : Type 0} (b : Bool) → b ≡ true → b ≡ false → X
 clash true t f = absurd (cc f)

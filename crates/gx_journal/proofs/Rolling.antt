@@ -1,10 +1,9 @@
 -- Records that are written piece by piece, behind those that were there at first.
-use Rattle.std.proofs.Common.{◌≡◌, ℕ, ◌+◌, ◌-◌, ◌<◌, ◌≤◌, Bool, true, false, List, [], ◌∷◌, ◌++◌, Option, Some, None, length, take, drop, pred, max, min, refl, sym, ap, ◌∙◌, subst, append_assoc, append-nil, arith}
-use Rattle.std.specs.Prelude.{IsTrue, IsFalse, is_some}
-use Rattle.std.specs.Io.KnownBytes.{append_known, Appends}
+use Rattle.std.proofs.Common.{◌≡◌, ℕ, ◌+◌, ◌-◌, ◌≤◌, List, [], ◌∷◌, ◌++◌, Option, Some, None, length, take, drop, pred, max, min, refl, sym, ap, ◌∙◌, subst, append_assoc, arith}
+use Rattle.std.specs.Io.KnownBytes.{Appends}
 use Rattle.std.proofs.KnownBytes.{Appends-nil, Appends-trans}
 use Rattle.std.proofs.Math.Seq.{take-add}
-use Rattle.std.proofs.lemmas.List.{take_all, drop_all, take-append-drop, take_min, take-append-le, drop-append-le, length-take, length-drop, length-append}
+use Rattle.std.proofs.lemmas.List.{drop_all, take-append-drop, take_min, take-append-le, drop-append-le, length-take, length-drop}
 use mathlib.Core.List.{IsPrefix}
 use Rattle.gx_devices.specs.Devices.{IsFront}
 use Rattle.gx_history.specs.declared.record.RecordData.{RecordData}

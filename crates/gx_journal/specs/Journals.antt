@@ -41,6 +41,11 @@ abbrev pub met_by : {T : Type 0} → (T → Holds) → Option T → Holds
 met_by held (Some pass) = held pass
 met_by held None = holds 0 [] 0
 
+-- how many records were added with a pass that may be out
+abbrev pub added_by : {T : Type 0} → (T → ℕ) → Option T → ℕ
+added_by added (Some pass) = added pass
+added_by added None = 0
+
 -- so many records there are at least, as the pass knows
 abbrev pub known : Holds → ℕ
 known h = max h.told (length h.front)

@@ -32,14 +32,14 @@ pub struct Journal<D: Door, W: Write, J: JournalName> {
 }
 
 impl<D: Door, W: Write, J: JournalName> Model for Journal<D, W, J> {
-    ghost use Rattle.std.specs.Prelude.{is_some, IsTrue};
-    ghost use Rattle.gx_journal.specs.Journals.{met_by, IsKept, JournalData};
+    ghost use Rattle.std.specs.Prelude.{◌≡◌, is_some, IsTrue};
+    ghost use Rattle.gx_journal.specs.Journals.{added_by, met_by, IsKept, JournalData};
 
     ghost Value = { JournalData };
 
     ghost view = { λ j. record { met = met_by D.held j.pass; tape = j.tape } };
 
-    ghost invariant = { λ j. IsTrue (is_some j.pass)
+    ghost invariant = { λ j. IsTrue (is_some j.pass) × (added_by D.added j.pass ≡ 0)
         × IsKept J.begun J.count J.earlier
         (record { met = met_by D.held j.pass; tape = j.tape }) };
 }
@@ -50,6 +50,7 @@ impl<D: Door, W: Write, J: JournalName> Journal<D, W, J> {
         requires begun { W.contents device ≡ J.begun }
         requires count { count ≡ J.count }
         requires met { (D.held pass).front ≡ J.earlier }
+        requires none_added { D.added pass ≡ 0 }
         requires within { count ≤ length J.earlier }
         ensures met { result.met ≡ D.held pass }
         ensures contents { result.tape.contents ≡ J.begun }
@@ -178,6 +179,7 @@ impl<D: Door, W: Write, J: JournalName> Journal<D, W, J> {
     /// The pass, and the device with the day's records that are on it.
     pub fn into_parts(self) -> (D::Ticket, Tape<W>)
         ensures met { D.held result.0 ≡ self.met }
+        ensures none_added { D.added result.0 ≡ 0 }
         ensures tape { result.1 ≡ self.tape }
         ensures kept { IsKept J.begun J.count J.earlier self }
     {

@@ -7,7 +7,6 @@ use crate::name::JournalName;
 use gx_answers::{LoginAnswer, Outcome, Pulled, StepFault};
 use gx_door::{Dial, Door, PullFault};
 use gx_history::record::{Record, Request};
-use gx_pass::PassFault;
 use gx_units::{Moment, OutOfMemory, Password, SessionName, UserName};
 use std::alloc::Global;
 use std::io::Write;
@@ -34,6 +33,7 @@ impl<'x, D: Door, W: Write, J: JournalName> Journaled<'x, D, W, J> {
         requires begun { W.contents device ≡ J.begun }
         requires count { count ≡ J.count }
         requires met { (D.held pass).front ≡ J.earlier }
+        requires none_added { D.added pass ≡ 0 }
         requires within { count ≤ length J.earlier }
     {
         Journaled {
@@ -56,9 +56,7 @@ impl<D: Door, W: Write, J: JournalName> Door for Journaled<'_, D, W, J> {
 
     ghost held = { D.held };
 
-    fn issue<R: Wait>(&self, rt: &R) -> Result<D::Ticket, PassFault> {
-        self.door.issue(rt)
-    }
+    ghost added = { D.added };
 
     fn login<R: Wait + Dial>(
         &self,

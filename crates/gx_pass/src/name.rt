@@ -1,10 +1,11 @@
 //! The name by which types under a lock agree.
 
 use std::marker::Brand;
+use std::sync::ledger::Ledger;
 
-/// Names one table and one policy: what lies under a lock is known by its type alone. A caller makes the blank and hands
-/// it to a function generic in this name.
-pub trait GateName {
+/// Names one table, one policy and one ledger: what lies under a lock is known by its type alone. A caller makes the
+/// blanks and hands them to a function generic in this name.
+pub trait GateName: Ledger {
     ghost use Rattle.atomic_table.specs.Seated.{TableId};
     ghost use Rattle.gx_policy.specs.declared.policy.PolicyData.{PolicyData};
 

@@ -4,7 +4,7 @@ use crate::clock::Timed;
 use crate::devices::{WireReader, WireWriter};
 use crate::directing::{Director, Guest, Vain};
 use crate::house::{House, Stage};
-use gx_door::Door;
+use gx_door::{Door, Issuer};
 use gx_serve::{Link, converse, match_on};
 use std::sync::Wait;
 use std::thread;
@@ -36,10 +36,13 @@ fn attend<'x, T: Drop + Send, D: Door<Ticket = T> + Sync, R: Threads + Wait + Cl
 
 /// Performs the cues, each connection in a thread of its own, and waits until all have ended. Answers what was waited for
 /// in vain.
-fn conduct<'x, T: Drop + Send, D: Door<Ticket = T> + Sync, R: Threads + Wait + Clock + Sync>(
-    stage: &'x Stage<'x, D, R>,
-    director: Director<T>,
-) -> Vain {
+fn conduct<
+    'x,
+    T: Drop + Send,
+    D: Door<Ticket = T> + Sync,
+    I: Issuer<Ticket = T> + Drop,
+    R: Threads + Wait + Clock + Sync,
+>(stage: &'x Stage<'x, D, R>, director: Director<T, I>) -> Vain {
     thread::scope(thread::scope_env(), stage.house.rt, |scope| {
         let mut director = director;
         for _ in &stage.script.peers {
@@ -63,11 +66,13 @@ fn make_matches<'x, T: Drop + Send, D: Door<Ticket = T> + Sync, R: Threads + Wai
 
 /// Performs the cues beside a matcher, which has this pass. Gives the pass back, and answers what was waited for in vain;
 /// `None` where no thread could be made.
-fn play_with<'x, T: Drop + Send, D: Door<Ticket = T> + Sync, R: Threads + Wait + Clock + Sync>(
-    stage: &'x Stage<'x, D, R>,
-    director: Director<T>,
-    pass: T,
-) -> Option<(T, Vain)> {
+fn play_with<
+    'x,
+    T: Drop + Send,
+    D: Door<Ticket = T> + Sync,
+    I: Issuer<Ticket = T> + Drop,
+    R: Threads + Wait + Clock + Sync,
+>(stage: &'x Stage<'x, D, R>, director: Director<T, I>, pass: T) -> Option<(T, Vain)> {
     thread::scope(thread::scope_env(), stage.house.rt, |scope| {
         let house = stage.house;
         let Ok(matcher) = (&*scope).spawn(move || make_matches(house, pass)) else {
@@ -79,14 +84,18 @@ fn play_with<'x, T: Drop + Send, D: Door<Ticket = T> + Sync, R: Threads + Wait +
     })
 }
 
-/// Performs a play beside a matcher, which has this pass. Gives the pass back, and answers what was waited for in vain;
-/// `None` where no thread could be made, or there was no pass.
-pub fn play<'x, T: Drop + Send, D: Door<Ticket = T> + Sync, R: Threads + Wait + Clock + Sync>(
-    stage: &'x Stage<'x, D, R>,
-    pass: T,
-) -> Option<(T, Vain)> {
-    match stage.house.door.issue(stage.house.rt) {
-        Ok(own) => play_with(stage, Director::new(own), pass),
+/// Performs a play beside a matcher, which has this pass; the other passes are issued. Gives the matcher's pass back, and
+/// answers what was waited for in vain; `None` where no thread could be made, or there was no pass.
+pub fn play<
+    'x,
+    T: Drop + Send,
+    D: Door<Ticket = T> + Sync,
+    I: Issuer<Ticket = T> + Drop,
+    R: Threads + Wait + Clock + Sync,
+>(stage: &'x Stage<'x, D, R>, issuer: I, pass: T) -> Option<(T, Vain)> {
+    let mut issuer = issuer;
+    match issuer.issue(stage.house.rt) {
+        Ok(own) => play_with(stage, Director::new(own, issuer), pass),
         Err(_) => None,
     }
 }

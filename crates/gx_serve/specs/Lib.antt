@@ -1,4 +1,5 @@
 pub mod Breaks
+pub mod Endings
 pub mod Marks
 pub mod Seats
 pub mod Seeking

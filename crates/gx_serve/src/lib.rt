@@ -8,6 +8,7 @@
 
 mod connection;
 mod dated;
+mod ending;
 mod fault;
 mod link;
 mod matching;
@@ -17,6 +18,7 @@ mod serving;
 mod writing;
 
 pub use connection::{HangUp, Listening, converse};
+pub use ending::{Ending, Unserved};
 pub use fault::ServeFault;
 pub use link::Link;
 pub use matching::match_on;

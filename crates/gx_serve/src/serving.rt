@@ -1,11 +1,15 @@
 //! The server, at any door.
 
+ghost use Rattle.std.specs.Prelude.{IfErr};
+ghost use Rattle.gx_serve.specs.Endings.{IsHalted};
+
 use crate::connection::converse;
 use crate::dated::Dated;
+use crate::ending::{Ending, Halt, Unserved};
 use crate::fault::ServeFault;
 use crate::link::Link;
 use crate::matching::match_on;
-use gx_door::Door;
+use gx_door::{Door, Issuer};
 use gx_lobby::{Lobby, Peer, Place, Stop};
 use gx_soup::SoupFault;
 use std::alloc::Global;
@@ -28,26 +32,29 @@ const POLL: u64 = 5;
 /// A write of which a peer takes nothing for so many milliseconds fails.
 const WRITE_PATIENCE: u64 = 5_000;
 
-/// Takes the connection of this number; `None` once the server is to end. One that fails before it is taken is passed
-/// over, and so is a want of descriptors that ends soon.
+/// Takes the connection of this number, or tells why none is taken any more. One that fails before it is taken is
+/// passed over, and so is a want of descriptors that ends soon.
 fn accept<R: Wait + Clock>(
     rt: &R,
     stop: &Stop,
     listener: &TcpListener,
     number: u64,
-) -> Result<Option<Peer>, ServeFault> {
+) -> Result<Peer, Halt>
+    ensures { IfErr result IsHalted }
+{
     let mut left = FAILURES;
     for _ in rt.forever() {
-        if stop.is_asked().is_yes() {
-            return Ok(None);
+        let asked = stop.is_asked();
+        if asked.is_yes() {
+            return Err(Halt::Asked(asked));
         }
         match listener.accept() {
             Ok((stream, address)) => {
-                return Ok(Some(Peer {
+                return Ok(Peer {
                     number,
                     address,
                     stream,
-                }));
+                });
             }
             Err(error) if error.kind() == ErrorKind::WouldBlock => {
                 thread::sleep(rt, Duration::from_millis(POLL));
@@ -55,7 +62,7 @@ fn accept<R: Wait + Clock>(
             Err(error) => {
                 left = left.saturating_sub(1);
                 if left == 0 {
-                    return Err(ServeFault::ListenFailed(error));
+                    return Err(Halt::Fault(ServeFault::ListenFailed(error)));
                 }
                 thread::sleep(rt, Duration::from_millis(PAUSE));
             }
@@ -131,64 +138,95 @@ fn serve_peer<
     drop(place);
 }
 
-/// Takes connections, each in a thread of its own, and waits until all have ended. One for which there
-/// is no pass or no thread is closed.
+/// The peer of this number, once a place is free, with a pass; `None` where there is no pass for him. He is hung up on then.
+fn next_guest<
+    'x,
+    T: Drop + Send,
+    D: Door<Ticket = T> + Sync,
+    I: Issuer<Ticket = T>,
+    R: Threads + Wait + Clock + Eprint + Sync,
+>(
+    hall: &'x Hall<'x, D, R>,
+    issuer: &mut I,
+    listener: &TcpListener,
+    number: u64,
+) -> Result<Option<Guest<'x, T, R>>, Halt>
+    ensures { IfErr result IsHalted }
+{
+    let place = hall.lobby.places.take(hall.rt);
+    let peer = accept(hall.rt, &hall.lobby.stop, listener, number)?;
+    let Ok(pass) = issuer.issue(hall.rt) else {
+        return Ok(None);
+    };
+    Ok(Some(Guest { pass, peer, place }))
+}
+
+/// Takes connections, each in a thread of its own, and waits until all have ended: how this ended. One for which there is
+/// no pass or no thread is closed.
 fn take_guests<
     'x,
     T: Drop + Send,
     D: Door<Ticket = T> + Sync,
+    I: Issuer<Ticket = T>,
     R: Threads + Wait + Clock + Eprint + Sync,
->(hall: &'x Hall<'x, D, R>, listener: TcpListener, connections: u64) -> Result<(), ServeFault> {
+>(hall: &'x Hall<'x, D, R>, issuer: &mut I, listener: TcpListener, connections: u64) -> Ending {
     thread::scope(thread::scope_env(), hall.rt, |scope| {
         for before in 0..connections {
-            let place = hall.lobby.places.take(hall.rt);
-            let Some(peer) = accept(hall.rt, &hall.lobby.stop, &listener, before + 1)? else {
-                break;
-            };
-            let Ok(pass) = hall.door.issue(hall.rt) else {
-                continue;
-            };
-            let guest = Guest { pass, peer, place };
-            let _ = (&*scope).spawn(move || serve_peer(hall, guest));
+            match next_guest(hall, issuer, &listener, before + 1) {
+                Ok(Some(guest)) => {
+                    let _ = (&*scope).spawn(move || serve_peer(hall, guest));
+                }
+                Ok(None) => {}
+                Err(halt) => return Ending::of_halt(halt),
+            }
         }
         drop(listener);
-        Ok(())
+        Ending::of_all_taken()
     })
 }
 
-/// Takes connections at the door.
+/// Takes connections at the door: how this ended.
 fn take_connections<
     T: Drop + Send,
     D: Door<Ticket = T> + Sync,
+    I: Issuer<Ticket = T>,
     R: Threads + Wait + Clock + Eprint + Sync,
 >(
     rt: &R,
     alloc: Global,
     door: &D,
+    issuer: &mut I,
     lobby: &Lobby,
     listener: TcpListener,
     connections: u64,
-) -> Result<(), ServeFault> {
+) -> Ending {
     let hall = Hall {
         rt,
         alloc,
         door,
         lobby,
     };
-    take_guests(&hall, listener, connections)
+    take_guests(&hall, issuer, listener, connections)
 }
 
-/// Runs the matcher beside the connections. Gives the matcher's pass, and why no more connections were
-/// taken; `OutOfMemory` where no thread could be made for the matcher.
-fn run<'x, T: Drop + Send, D: Door<Ticket = T> + Sync, R: Threads + Wait + Clock + Eprint + Sync>(
+/// Runs the matcher beside the connections. Gives the matcher's pass, and how the server ended; `OutOfMemory` where no
+/// thread could be made for the matcher.
+fn run<
+    'x,
+    T: Drop + Send,
+    D: Door<Ticket = T> + Sync,
+    I: Issuer<Ticket = T>,
+    R: Threads + Wait + Clock + Eprint + Sync,
+>(
     rt: &'x R,
     alloc: Global,
     door: &'x D,
+    issuer: &mut I,
     lobby: &'x Lobby,
     pass: T,
     listener: TcpListener,
     connections: u64,
-) -> Result<(T, Result<(), ServeFault>), ServeFault> {
+) -> Result<(T, Ending), Unserved> {
     thread::scope(thread::scope_env(), rt, |scope| {
         let Ok(matcher) = (&*scope).spawn(move || match_on(
             &Dated::new(rt),
@@ -196,18 +234,18 @@ fn run<'x, T: Drop + Send, D: Door<Ticket = T> + Sync, R: Threads + Wait + Clock
             &lobby.bell,
             pass,
         )) else {
-            return Err(ServeFault::OutOfMemory);
+            return Err(Unserved::of_fault(ServeFault::OutOfMemory));
         };
-        let taken = take_connections(rt, alloc, door, lobby, listener, connections);
+        let taken = take_connections(rt, alloc, door, issuer, lobby, listener, connections);
         lobby.bell.close(rt);
         Ok((matcher.join(rt), taken))
     })
 }
 
-/// Serves at any door: takes connections, each in threads of its own, and makes matching steps, until so many were
-/// served, or the lobby was asked to end. All threads have ended then.
+/// Serves at any door, with passes of its gate: takes connections, each in threads of its own, and makes matching steps,
+/// until so many were served, or the lobby was asked to end. All threads have ended then.
 ///
-/// Gives back a pass, and why the server gave up, if it did.
+/// Gives back a pass, and how the server ended.
 ///
 /// # Errors
 ///
@@ -216,19 +254,25 @@ fn run<'x, T: Drop + Send, D: Door<Ticket = T> + Sync, R: Threads + Wait + Clock
 pub fn serve_door<
     T: Drop + Send,
     D: Door<Ticket = T> + Sync,
+    I: Issuer<Ticket = T>,
     R: Threads + Wait + Clock + Eprint + Sync,
 >(
     rt: &R,
     alloc: Global,
     door: &D,
+    issuer: &mut I,
     lobby: &Lobby,
     listener: TcpListener,
     connections: u64,
-) -> Result<(T, Result<(), ServeFault>), ServeFault> {
-    let pass = door.issue(rt)?;
+) -> Result<(T, Ending), Unserved> {
+    let pass = match issuer.issue(rt) {
+        Ok(pass) => pass,
+        Err(fault) => return Err(Unserved::of_fault(fault.into())),
+    };
     if let Err(error) = listener.set_nonblocking(true) {
-        return Ok((pass, Err(ServeFault::ListenFailed(error))));
+        let halt = Halt::Fault(ServeFault::ListenFailed(error));
+        return Ok((pass, Ending::of_halt(halt)));
     }
     lobby.bell.open(rt);
-    run(rt, alloc, door, lobby, pass, listener, connections)
+    run(rt, alloc, door, issuer, lobby, pass, listener, connections)
 }

@@ -1,28 +1,18 @@
 -- A user who is logged in on a line is logged out there.
-use Rattle.std.proofs.Common.{◌≡◌, ℕ, ◌+◌, ◌<◌, Bool, true, false, List, [], ◌∷◌, ◌++◌, length, take, get_or, map, Option, Some, None, Result, Ok, Err, IfOk, is_ok, refl, sym, ap, ◌∙◌, subst, append_assoc, eq-eqb}
-use Rattle.std.specs.Prelude.{not, ◌&&◌, ◌||◌}
-use Rattle.std.specs.List.{list_any, AllByRecursion}
-use Rattle.std.specs.Option.{option_map_or}
+use Rattle.std.proofs.Common.{◌≡◌, ℕ, ◌+◌, ◌<◌, true, false, List, [], ◌∷◌, ◌++◌, length, take, get_or, Some, None, Result, Ok, Err, IfOk, is_ok, refl, sym, ap, ◌∙◌, subst, append_assoc}
+use Rattle.std.specs.List.{AllByRecursion}
 use Rattle.std.proofs.lemmas.List.{take_more}
-use Rattle.std.proofs.lemmas.List.Folds.{list_any-append}
 use Rattle.gx_units.specs.Spelling.{folded_user}
 use Rattle.gx_units.specs.declared.names.UserName.{UserName}
-use Rattle.gx_history.specs.declared.facts.Facts.{Facts}
-use Rattle.gx_history.specs.declared.facts.RuleFigures.{RuleFigures}
-use Rattle.gx_policy.specs.declared.policy.FileRule.{FileRule}
 use Rattle.gx_policy.specs.declared.policy.PolicyData.{PolicyData}
 use Rattle.gx_policy.specs.declared.policy.User.{User}
 use Rattle.gx_history.specs.declared.record.Asked.{Asked}
 use Rattle.gx_history.specs.declared.record.RecordData.{RecordData}
 use Rattle.gx_history.specs.declared.record.Request.TheVariants as requests
 use Rattle.gx_history.specs.declared.record.Verdict.TheVariants as verdicts
-use Rattle.gx_history.specs.Asking.{facts, is_on_line}
 use Rattle.gx_history.specs.Effects.{ChangesLine}
 use Rattle.gx_history.specs.InForce.{line_of}
-use Rattle.gx_policy.specs.People.{covers}
-use Rattle.gx_policy.specs.RuleNames.{rules_before, rules_behind}
-use Rattle.gx_history.specs.Rules.{Rule, BuiltIn, OfFile, applies, written_order}
-use Rattle.gx_history.specs.Verdicts.{facts_now, rules_now, verdict}
+use Rattle.gx_history.specs.Verdicts.{verdict}
 use Rattle.gx_history_laws.proofs.Logouts.{logouts_are_granted}
 use Rattle.gx_history_laws.proofs.Pushing.{all_next}
 use Rattle.gx_effects.proofs.Lines.{logout_takes_effect}

@@ -1,3 +1,5 @@
 pub mod GoingOn
 pub mod Lines
 pub mod Logouts
+pub mod Permits
+pub mod Tickets

@@ -1,6 +1,6 @@
 //! What lies under the lock.
 
-ghost use Rattle.std.specs.Prelude.{◌≡◌, ◌≢◌, ◌↔◌, ◌++◌, ◌∷◌, [], length, IsTrue, IfErr, IfNone, IfOk, IfSome, OnErr, OnOk, Some, None, is_some};
+ghost use Rattle.std.specs.Prelude.{◌≡◌, ◌≢◌, ◌↔◌, ◌+◌, ◌<◌, ◌++◌, ◌∷◌, [], length, IsTrue, IfErr, IfNone, IfOk, IfSome, OnErr, OnOk, Some, None, is_some};
 ghost use mathlib.Core.List.{IsPrefix};
 ghost use Rattle.gx_units.specs.Spelling.{folded_user};
 ghost use Rattle.gx_history.specs.InForce.{line_of};
@@ -13,9 +13,12 @@ ghost use Rattle.gx_pass.specs.declared.pass.PassFault.TheVariants as pass_fault
 ghost use Rattle.gx_pass.specs.Views.{mine, of_line};
 ghost use Rattle.gx_door.specs.declared.fault.PullFault.TheVariants as pull_faults;
 ghost use Rattle.gx_door.specs.Acts.{asked_on, gate_at, gate_met, login_on};
+ghost use Rattle.gx_shared.specs.Permits.{all_parts};
 ghost use Rattle.gx_door.specs.Acts.{AddsOwn, EndsWith, IsLater, IsPulled, IsToldFull, LogsIn, MayBeRefused};
 ghost use Rattle.gx_shared.specs.Lines.{highest_line};
 
+use crate::counting::CountingKeeper;
+use crate::permit::Permits;
 use crate::resuming::resume;
 use crate::steps::{asked_on, leave, match_one, pull, step};
 use gx_answers::{AccessGate, LoginAnswer, Outcome, Pulled, StepFault};
@@ -26,12 +29,14 @@ use gx_policy::Policy;
 use gx_units::{Moment, OutOfMemory, Password, SessionName, UserName};
 use std::alloc::Global;
 use std::marker::Model;
+use std::sync::ledger;
+use std::sync::ledger::{Share, Total};
 
-/// The gate, and the keeper of its history. Contracts see the gate's records. It is closed, and never dropped: the drop
-/// of all that a gate keeps is proved where the gate is.
+/// The gate, and the keeper of its history, by which each record is counted. Contracts see the gate's records. It is
+/// closed, and never dropped: the drop of all that a gate keeps is proved where the gate is.
 pub struct Desk<G: AccessGate, N: GateName> {
     gate: G,
-    keeper: Keeper<N>,
+    keeper: CountingKeeper<N>,
 }
 
 impl<G: AccessGate, N: GateName> Model for Desk<G, N> {
@@ -47,30 +52,52 @@ impl<G: AccessGate, N: GateName> Model for Desk<G, N> {
 }
 
 impl<G: AccessGate, N: GateName> Desk<G, N> {
-    /// A desk at the beginning of a day.
-    pub fn new(alloc: Global, policy: &Policy, blank: Blank) -> Result<Desk<G, N>, OutOfMemory>
+    /// A desk at the beginning of a day, and all permits for passes, in which nothing is counted.
+    pub fn new(
+        alloc: Global,
+        policy: &Policy,
+        blank: Blank,
+        ledger: ledger::Blank,
+    ) -> Result<(Desk<G, N>, Permits<N>), OutOfMemory>
         requires policy { policy.now ≡ N.policy }
         requires blank { blank ≡ N.table }
-        ensures { IfOk result (λ desk. desk ≡ []) }
+        requires name { ledger.name ≡ N.name }
+        requires parts { ledger.parts ≡ N.parts }
+        requires all { ledger.parts ≡ all_parts }
+        ensures desk { IfOk result (λ made. made.0 ≡ []) }
+        ensures all { IfOk result (λ made. made.1.left + 1 ≡ N.parts) }
+        ensures none_added { IfOk result (λ made. made.1.added ≡ 0) }
     {
         let gate = G::open(alloc, policy)?;
-        let keeper = Keeper::open(blank);
-        Ok(Desk { gate, keeper })
+        let (keeper, permits) = CountingKeeper::over(Keeper::open(blank), 0, ledger);
+        Ok((Desk { gate, keeper }, permits))
     }
 
-    /// A desk over a gate that has records, and a pass of a new line, which has met them. No line of theirs is issued any
-    /// more.
-    pub fn over(gate: G, blank: Blank) -> Result<(Desk<G, N>, Pass<N>), PassFault>
+    /// A desk over a gate that has records, all permits for passes, in which these are counted, and a pass of a new line,
+    /// which has met them. No line of theirs is issued any more.
+    pub fn over(
+        gate: G,
+        blank: Blank,
+        ledger: ledger::Blank,
+    ) -> Result<(Desk<G, N>, Permits<N>, Pass<N>), PassFault>
         requires policy { (G.seen gate).policy ≡ N.policy }
         requires blank { blank ≡ N.table }
+        requires name { ledger.name ≡ N.name }
+        requires parts { ledger.parts ≡ N.parts }
+        requires all { ledger.parts ≡ all_parts }
         ensures desk { IfOk result (λ made. made.0 ≡ (G.seen gate).records) }
-        ensures front { IfOk result (λ made. made.1.front ≡ (G.seen gate).records) }
-        ensures own { IfOk result (λ made. mine made.1 ≡ []) }
+        ensures all { IfOk result (λ made. made.1.left + 1 ≡ N.parts) }
+        ensures added { IfOk result (λ made. made.1.added ≡ length (G.seen gate).records) }
+        ensures front { IfOk result (λ made. made.2.front ≡ (G.seen gate).records) }
+        ensures own { IfOk result (λ made. mine made.2 ≡ []) }
         ensures no_lines { IfErr result (λ e.
             e ≡ pass_faults.NoLines → highest_line (G.seen gate).records ≡ 65535) }
     {
         match resume(&gate, blank) {
-            Ok((keeper, pass)) => Ok((Desk { gate, keeper }, pass)),
+            Ok((keeper, pass)) => {
+                let (keeper, permits) = CountingKeeper::over(keeper, gate.length(), ledger);
+                Ok((Desk { gate, keeper }, permits, pass))
+            }
             Err(fault) => {
                 gate.close();
                 Err(fault)
@@ -89,25 +116,30 @@ impl<G: AccessGate, N: GateName> Desk<G, N> {
         self.keeper.issue()
     }
 
-    /// A login on the pass's line, and what it is told.
+    /// A login on the pass's line, and what it is told. Its record is counted in the share.
     pub fn login(
         &mut self,
         pass: Pass<N>,
+        share: &mut Share<N>,
         user: UserName,
         password: Password,
         session: SessionName,
         wanted: u64,
         moment: Moment,
     ) -> (Pass<N>, Result<LoginAnswer, StepFault>)
+        requires part { 0 < share.old.parts }
         ensures front { result.0.front ≡ self.new }
         ensures later { IsLater N.policy pass result.0 }
         ensures done { IfOk result.1 (LogsIn N.policy pass result.0
             (login_on N.policy pass.line user password session wanted moment) wanted) }
         ensures refused { OnErr result.1 (mine result.0 ≡ mine pass) }
         ensures full { IfErr result.1 (IsToldFull (gate_at N.policy self.new)) }
+        ensures adds_one { OnOk result.1 (share.new.amount ≡ share.old.amount + 1) }
+        ensures adds_none { OnErr result.1 (share.new.amount ≡ share.old.amount) }
+        ensures parts { share.new.parts ≡ share.old.parts }
     {
         let request = self.gate.login_request(user, password, session, wanted);
-        let (pass, result) = self.act(pass, user, request, moment);
+        let (pass, result) = self.act(pass, share, user, request, moment);
         match result {
             Ok(outcome) => {
                 let answer = self
@@ -119,15 +151,17 @@ impl<G: AccessGate, N: GateName> Desk<G, N> {
         }
     }
 
-    /// A request on the pass's line.
+    /// A request on the pass's line. Its record is counted in the share.
     pub fn act(
         &mut self,
         pass: Pass<N>,
+        share: &mut Share<N>,
         user: UserName,
         request: Request,
         moment: Moment,
     ) -> (Pass<N>, Result<Outcome, StepFault>)
         requires first { IsTrue (has_its_first request) }
+        requires part { 0 < share.old.parts }
         ensures front { result.0.front ≡ self.new }
         ensures later { IsLater N.policy pass result.0 }
         ensures step { IfOk result.1 (λ o.
@@ -139,20 +173,25 @@ impl<G: AccessGate, N: GateName> Desk<G, N> {
         ensures never_refused { OnErr result.1 (MayBeRefused (gate_at N.policy self.new)
             (asked_on pass.line user request moment)) }
         ensures full { IfErr result.1 (IsToldFull (gate_at N.policy self.new)) }
+        ensures adds_one { OnOk result.1 (share.new.amount ≡ share.old.amount + 1) }
+        ensures adds_none { OnErr result.1 (share.new.amount ≡ share.old.amount) }
+        ensures parts { share.new.parts ≡ share.old.parts }
     {
         let line = pass.line();
         let entered = self.keeper.enter(pass);
         let asked = asked_on(line, user, request, moment);
-        let result = step(&mut self.gate, &mut self.keeper, asked);
+        let result = step(&mut self.gate, &mut self.keeper, share, asked);
         (leave(&self.gate, &mut self.keeper, entered), result)
     }
 
-    /// A matching step, whose record is nobody's own.
+    /// A matching step, whose record is nobody's own, and is counted in the share.
     pub fn match_one(
         &mut self,
         pass: Pass<N>,
+        share: &mut Share<N>,
         moment: Moment,
     ) -> (Pass<N>, Result<Option<Outcome>, StepFault>)
+        requires part { 0 < share.old.parts }
         ensures front { result.0.front ≡ self.new }
         ensures later { IsLater N.policy pass result.0 }
         ensures own { mine result.0 ≡ mine pass }
@@ -164,9 +203,15 @@ impl<G: AccessGate, N: GateName> Desk<G, N> {
             (IsTrue (is_some (matching_of (gate_at N.policy self.new)))) }
         ensures same { OnErr result.1 (self.new ≡ self.old) }
         ensures full { IfErr result.1 (IsToldFull (gate_at N.policy self.new)) }
+        ensures adds_one { IfOk result.1 (λ found. IfSome found (λ _.
+            share.new.amount ≡ share.old.amount + 1)) }
+        ensures adds_none_idle { IfOk result.1 (λ found. IfNone found
+            (share.new.amount ≡ share.old.amount)) }
+        ensures adds_none { OnErr result.1 (share.new.amount ≡ share.old.amount) }
+        ensures parts { share.new.parts ≡ share.old.parts }
     {
         let entered = self.keeper.enter(pass);
-        let result = match_one(&mut self.gate, &mut self.keeper, moment);
+        let result = match_one(&mut self.gate, &mut self.keeper, share, moment);
         (leave(&self.gate, &mut self.keeper, entered), result)
     }
 
@@ -229,17 +274,33 @@ impl<G: AccessGate, N: GateName> Desk<G, N> {
         (one, leave(&self.gate, &mut self.keeper, other))
     }
 
-    /// The gate. It has all that the pass has met, and of the pass's line its own records.
-    pub fn close(self, pass: Pass<N>) -> G
-        ensures policy { (G.seen result).policy ≡ N.policy }
-        ensures records { (G.seen result).records ≡ self }
-        ensures legal { IsLegal N.policy (G.seen result).records }
-        ensures front { IsPrefix pass.front (G.seen result).records }
-        ensures mine { of_line pass.line (G.seen result).records ≡ mine pass }
+    /// The gate, the pass, which has met all its records, and how many these are. It has all that the pass had met, and of
+    /// the pass's line its own records.
+    pub fn close(self, pass: Pass<N>) -> (G, Pass<N>, Total<N>)
+        ensures policy { (G.seen result.0).policy ≡ N.policy }
+        ensures records { (G.seen result.0).records ≡ self }
+        ensures legal { IsLegal N.policy (G.seen result.0).records }
+        ensures front { IsPrefix pass.front (G.seen result.0).records }
+        ensures mine { of_line pass.line (G.seen result.0).records ≡ mine pass }
+        ensures line { result.1.line ≡ pass.line }
+        ensures met { result.1.front ≡ (G.seen result.0).records }
+        ensures total { result.2.amount ≡ length (G.seen result.0).records }
     {
         let Desk { gate, mut keeper } = self;
-        gate.is_legal();
-        let _entered = keeper.enter(pass);
+        let entered = keeper.enter(pass);
+        let pass = leave(&gate, &mut keeper, entered);
+        (gate, pass, keeper.close())
+    }
+
+    /// The gate. Where all permits are left, it has as many records as are counted in them.
+    pub fn take_back(self, permits: Permits<N>) -> G
+        ensures policy { (G.seen result).policy ≡ N.policy }
+        ensures records { (G.seen result).records ≡ self }
+        ensures counted { permits.left + 1 ≡ N.parts → permits.added ≡ length self }
+    {
+        let Desk { gate, mut keeper } = self;
+        let mut permits = permits;
+        keeper.audit(&mut permits);
         gate
     }
 

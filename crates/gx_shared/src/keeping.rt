@@ -3,67 +3,73 @@
 ghost use Rattle.std.specs.Prelude.{◌≡◌, ◌≤◌, drop, length, IfOk, None};
 ghost use mathlib.Core.List.{IsPrefix};
 ghost use Rattle.gx_history.specs.Verdicts.{IsLegal};
+ghost use Rattle.gx_shared.specs.Permits.{all_parts};
 ghost use Rattle.gx_shared.specs.Logouts.{AddsLogouts, NobodyIsOn};
 ghost use Rattle.gx_journal.specs.Journals.{journal_bytes, IsGrown};
 ghost use Rattle.gx_shared.specs.GoingOn.{GoesOn};
 
+use crate::entrance::Entrance;
 use crate::leaving::log_out_all;
+use crate::permit::{Permits, blank_ledger};
 use crate::rest::put_rest;
 use crate::shared::SharedGate;
+use crate::ticket::Ticket;
 use gx_answers::AccessGate;
 use gx_journal::{Journal, JournalFault, JournalName, Journaled};
 use gx_lobby::Lobby;
-use gx_pass::{Blank, GateName, Pass, PassFault};
-use gx_serve::{ServeFault, serve_door};
+use gx_pass::{Blank, GateName, PassFault};
+use gx_serve::{Ending, serve_door};
 use gx_units::Moment;
 use std::alloc::Global;
 use std::io::Write;
 use std::marker::Brand;
 use std::net::TcpListener;
-use std::sync::Wait;
+use std::sync::ledger::Total;
+use std::sync::{Wait, ledger};
 use std::thread::Threads;
 use std::time::Clock;
 
 /// Before each other one: a record's moment is then that of the record before it.
 const NO_MOMENT: Moment = 0;
 
-/// What a server leaves whose day is kept. Its gate is closed, and never dropped.
+/// What is left of a day that was kept. Its gate is closed, and never dropped.
 pub struct Kept<G, W> {
-    /// The gate of all that was done.
+    /// The gate that was served: its records are a legal day.
     pub gate: G,
-    /// Why the server gave up, if it did.
-    pub ended: Result<(), ServeFault>,
     /// Why no more records were kept, if so. The server was asked to end then.
     pub fault: Option<JournalFault>,
     /// The device of the journal.
     pub device: W,
 }
 
-/// Closes a gate that no thread shares any more, and keeps what its journal lacks, unless that has failed.
+/// Closes a gate that no thread shares any more, and keeps what its journal lacks, unless that has failed. Gives a pass
+/// too, which has met all that was done, and how many records that are.
 pub fn close_kept<G: AccessGate, N: GateName, J: JournalName, W: Write + Drop>(
     shared: SharedGate<G, N>,
     journal: Journal<SharedGate<G, N>, W, J>,
-    ended: Result<(), ServeFault>,
-) -> Kept<G, W>
-    ensures policy { (G.seen result.gate).policy ≡ N.policy }
-    ensures legal { IsLegal N.policy (G.seen result.gate).records }
-    ensures front { IsPrefix J.earlier (G.seen result.gate).records }
-    ensures kept { result.fault ≡ None → IsGrown J.begun
-        (W.contents result.device) (journal_bytes (drop J.count (G.seen result.gate).records)) }
+) -> (Kept<G, W>, Ticket<N>, Total<N>)
+    ensures policy { (G.seen result.0.gate).policy ≡ N.policy }
+    ensures legal { IsLegal N.policy (G.seen result.0.gate).records }
+    ensures front { IsPrefix J.earlier (G.seen result.0.gate).records }
+    ensures met { result.1.held.front ≡ (G.seen result.0.gate).records }
+    ensures total { result.2.amount ≡ length (G.seen result.0.gate).records }
+    ensures kept { result.0.fault ≡ None → IsGrown J.begun (W.contents result.0.device)
+        (journal_bytes (drop J.count (G.seen result.0.gate).records)) }
 {
     let (pass, mut tape) = journal.into_parts();
-    let gate = shared.close(pass);
+    let (gate, met, total) = shared.close(pass);
     put_rest(&gate, &mut tape);
     let (device, fault) = tape.into_parts();
-    Kept {
+    let kept = Kept {
         gate,
-        ended,
         fault,
         device,
-    }
+    };
+    (kept, met, total)
 }
 
 /// Serves at a gate whose records are kept on this device, on which there are so many of those that the pass has met.
+/// Gives a pass too, which has met all that was done, how many records that are, and how the server ended.
 fn serve_kept<
     G: AccessGate + Send,
     N: GateName + Send + Sync,
@@ -74,32 +80,48 @@ fn serve_kept<
     rt: &R,
     alloc: Global,
     shared: SharedGate<G, N>,
-    pass: Pass<N>,
+    permits: Permits<N>,
+    pass: Ticket<N>,
     count: u64,
     device: W,
     lobby: &Lobby,
     listener: TcpListener,
     connections: u64,
-) -> Kept<G, W>
+) -> (Kept<G, W>, Ticket<N>, Total<N>, Ending)
     requires begun { W.contents device ≡ J.begun }
     requires count { count ≡ J.count }
-    requires met { pass.front ≡ J.earlier }
+    requires met { pass.held.front ≡ J.earlier }
+    requires none_added { pass.added ≡ 0 }
     requires within { count ≤ length J.earlier }
-    ensures policy { (G.seen result.gate).policy ≡ N.policy }
-    ensures legal { IsLegal N.policy (G.seen result.gate).records }
-    ensures front { IsPrefix J.earlier (G.seen result.gate).records }
-    ensures kept { result.fault ≡ None → IsGrown J.begun
-        (W.contents result.device) (journal_bytes (drop J.count (G.seen result.gate).records)) }
+    ensures policy { (G.seen result.0.gate).policy ≡ N.policy }
+    ensures legal { IsLegal N.policy (G.seen result.0.gate).records }
+    ensures front { IsPrefix J.earlier (G.seen result.0.gate).records }
+    ensures met { result.1.held.front ≡ (G.seen result.0.gate).records }
+    ensures total { result.2.amount ≡ length (G.seen result.0.gate).records }
+    ensures kept { result.0.fault ≡ None → IsGrown J.begun (W.contents result.0.device)
+        (journal_bytes (drop J.count (G.seen result.0.gate).records)) }
 {
     let door: Journaled<'_, SharedGate<G, N>, W, J> = Journaled::new(
         alloc, &shared, pass, count, device,
     );
-    let ended = match serve_door(rt, alloc, &door, lobby, listener, connections) {
+    let mut entrance = Entrance::new(&shared, permits);
+    let served = serve_door(
+        rt,
+        alloc,
+        &door,
+        &mut entrance,
+        lobby,
+        listener,
+        connections,
+    );
+    drop(entrance);
+    let ended = match served {
         Ok((_pass, ended)) => ended,
-        Err(fault) => Err(fault),
+        Err(unserved) => unserved.ending(),
     };
     let journal = door.into_journal();
-    close_kept(shared, journal, ended)
+    let (kept, met, total) = close_kept(shared, journal);
+    (kept, met, total, ended)
 }
 
 fn serve_named<
@@ -113,36 +135,45 @@ fn serve_named<
     alloc: Global,
     gate: G,
     blank: Blank,
+    ledger: ledger::Blank,
     count: u64,
     device: W,
     lobby: &Lobby,
     listener: TcpListener,
     connections: u64,
-) -> Result<Kept<G, W>, PassFault>
+) -> Result<(Kept<G, W>, Ending), PassFault>
     requires policy { (G.seen gate).policy ≡ N.policy }
     requires blank { blank ≡ N.table }
+    requires name { ledger.name ≡ N.name }
+    requires parts { ledger.parts ≡ N.parts }
+    requires all { ledger.parts ≡ all_parts }
     requires begun { W.contents device ≡ J.begun }
     requires count { count ≡ J.count }
     requires earlier { (G.seen gate).records ≡ J.earlier }
     requires within { count ≤ length J.earlier }
-    ensures policy { IfOk result (λ kept. (G.seen kept.gate).policy ≡ N.policy) }
-    ensures legal { IfOk result (λ kept. IsLegal N.policy (G.seen kept.gate).records) }
-    ensures front { IfOk result (λ kept. IsPrefix J.earlier (G.seen kept.gate).records) }
-    ensures kept { IfOk result (λ kept. kept.fault ≡ None → IsGrown J.begun
-        (W.contents kept.device) (journal_bytes (drop J.count (G.seen kept.gate).records))) }
+    ensures policy { IfOk result (λ left. (G.seen left.0.gate).policy ≡ N.policy) }
+    ensures legal { IfOk result (λ left. IsLegal N.policy (G.seen left.0.gate).records) }
+    ensures front { IfOk result (λ left. IsPrefix J.earlier (G.seen left.0.gate).records) }
+    ensures kept { IfOk result (λ left. left.0.fault ≡ None → IsGrown J.begun
+        (W.contents left.0.device)
+        (journal_bytes (drop J.count (G.seen left.0.gate).records))) }
 {
-    match SharedGate::<G, N>::over(gate, blank) {
-        Ok((shared, pass)) => Ok(serve_kept::<G, N, J, W, R>(
-            rt,
-            alloc,
-            shared,
-            pass,
-            count,
-            device,
-            lobby,
-            listener,
-            connections,
-        )),
+    match SharedGate::<G, N>::over(gate, blank, ledger) {
+        Ok((shared, permits, pass)) => {
+            let (kept, _met, _total, ended) = serve_kept::<G, N, J, W, R>(
+                rt,
+                alloc,
+                shared,
+                permits,
+                pass,
+                count,
+                device,
+                lobby,
+                listener,
+                connections,
+            );
+            Ok((kept, ended))
+        }
         Err(fault) => Err(fault),
     }
 }
@@ -160,7 +191,7 @@ fn log_out<G: AccessGate>(gate: &mut G)
 
 /// Serves connections on a gate that has records, as [`serve`](crate::serve) does, and keeps its records on this device,
 /// on which there are the first `count` of them: each is written before anything that comes of it is sent. Whoever is
-/// logged in by the records is logged out before.
+/// logged in by the records is logged out before. Gives what is left of the day, and how the server ended.
 ///
 /// After a fault of the device nothing more is sent, and the server ends.
 ///
@@ -180,15 +211,16 @@ pub fn serve_journaled<
     lobby: &Lobby,
     listener: TcpListener,
     connections: u64,
-) -> Result<Kept<G, W>, PassFault>
+) -> Result<(Kept<G, W>, Ending), PassFault>
     requires { count ≤ length (G.seen gate).records }
-    ensures policy { IfOk result (λ kept. (G.seen kept.gate).policy ≡ (G.seen gate).policy) }
+    ensures policy { IfOk result
+        (λ left. (G.seen left.0.gate).policy ≡ (G.seen gate).policy) }
     ensures legal { IfOk result
-        (λ kept. IsLegal (G.seen gate).policy (G.seen kept.gate).records) }
-    ensures goes_on { IfOk result (λ kept.
-        GoesOn (G.seen gate).policy (G.seen gate).records (G.seen kept.gate).records) }
-    ensures kept { IfOk result (λ kept. kept.fault ≡ None → IsGrown (W.contents device)
-        (W.contents kept.device) (journal_bytes (drop count (G.seen kept.gate).records))) }
+        (λ left. IsLegal (G.seen gate).policy (G.seen left.0.gate).records) }
+    ensures goes_on { IfOk result (λ left.
+        GoesOn (G.seen gate).policy (G.seen gate).records (G.seen left.0.gate).records) }
+    ensures kept { IfOk result (λ left. left.0.fault ≡ None → IsGrown (W.contents device)
+        (W.contents left.0.device) (journal_bytes (drop count (G.seen left.0.gate).records))) }
 {
     let mut gate = gate;
     let Ok(blank) = Blank::new(alloc) else {
@@ -201,6 +233,7 @@ pub fn serve_journaled<
         alloc,
         gate,
         blank,
+        blank_ledger(),
         count,
         device,
         lobby,

@@ -1,29 +1,85 @@
 //! A server whose day begins with it.
 
-ghost use Rattle.std.specs.Prelude.{◌≡◌, IfOk};
+ghost use Rattle.std.specs.Prelude.{◌≡◌, length, IfOk};
 ghost use Rattle.gx_history.specs.Verdicts.{IsLegal};
+ghost use Rattle.gx_shared.specs.Permits.{all_parts};
 
+use crate::entrance::Entrance;
+use crate::permit::blank_ledger;
 use crate::shared::SharedGate;
+use crate::ticket::Ticket;
 use gx_answers::AccessGate;
 use gx_lobby::Lobby;
 use gx_pass::{Blank, GateName};
 use gx_policy::Policy;
-use gx_serve::{ServeFault, serve_door};
+use gx_serve::{Ending, ServeFault, serve_door};
 use std::alloc::Global;
 use std::marker::Brand;
 use std::net::TcpListener;
-use std::sync::Wait;
+use std::sync::ledger::Total;
+use std::sync::{Wait, ledger};
 use std::thread::Threads;
 use std::time::Clock;
 
 /// What a server leaves. Its gate is closed, and never dropped.
 pub struct Served<G> {
-    /// The gate of all that was done.
+    /// The gate that was served: its records are a legal day.
     pub gate: G,
-    /// Why the server gave up, if it did.
-    pub ended: Result<(), ServeFault>,
+    /// How the server ended.
+    pub ended: Ending,
 }
 
+/// Serves at a gate of this name. Gives a pass too, which has met all that was done, and how many records that are.
+fn serve_shared<
+    G: AccessGate + Send,
+    N: GateName + Send + Sync,
+    R: Threads + Wait + Clock + Eprint + Sync,
+>(
+    rt: &R,
+    alloc: Global,
+    policy: &Policy,
+    blank: Blank,
+    ledger: ledger::Blank,
+    lobby: &Lobby,
+    listener: TcpListener,
+    connections: u64,
+) -> Result<(Served<G>, Ticket<N>, Total<N>), ServeFault>
+    requires policy { policy.now ≡ N.policy }
+    requires blank { blank ≡ N.table }
+    requires name { ledger.name ≡ N.name }
+    requires parts { ledger.parts ≡ N.parts }
+    requires all { ledger.parts ≡ all_parts }
+    ensures policy { IfOk result (λ left. (G.seen left.0.gate).policy ≡ N.policy) }
+    ensures legal { IfOk result (λ left. IsLegal N.policy (G.seen left.0.gate).records) }
+    ensures met { IfOk result (λ left. left.1.held.front ≡ (G.seen left.0.gate).records) }
+    ensures total { IfOk result
+        (λ left. left.2.amount ≡ length (G.seen left.0.gate).records) }
+{
+    let (door, permits) = SharedGate::<G, N>::new(alloc, policy, blank, ledger)?;
+    let mut entrance = Entrance::new(&door, permits);
+    let served = serve_door(
+        rt,
+        alloc,
+        &door,
+        &mut entrance,
+        lobby,
+        listener,
+        connections,
+    );
+    drop(entrance);
+    match served {
+        Ok((pass, ended)) => {
+            let (gate, pass, total) = door.close(pass);
+            Ok((Served { gate, ended }, pass, total))
+        }
+        Err(unserved) => {
+            door.let_go();
+            Err(unserved.fault())
+        }
+    }
+}
+
+/// Serves at a gate of this name.
 fn serve_named<
     G: AccessGate + Send,
     N: GateName + Send + Sync,
@@ -33,30 +89,36 @@ fn serve_named<
     alloc: Global,
     policy: &Policy,
     blank: Blank,
+    ledger: ledger::Blank,
     lobby: &Lobby,
     listener: TcpListener,
     connections: u64,
 ) -> Result<Served<G>, ServeFault>
     requires policy { policy.now ≡ N.policy }
     requires blank { blank ≡ N.table }
+    requires name { ledger.name ≡ N.name }
+    requires parts { ledger.parts ≡ N.parts }
+    requires all { ledger.parts ≡ all_parts }
     ensures policy { IfOk result (λ served. (G.seen served.gate).policy ≡ N.policy) }
     ensures legal { IfOk result (λ served. IsLegal N.policy (G.seen served.gate).records) }
 {
-    let door: SharedGate<G, N> = SharedGate::new(alloc, policy, blank)?;
-    match serve_door(rt, alloc, &door, lobby, listener, connections) {
-        Ok((pass, ended)) => Ok(Served {
-            gate: door.close(pass),
-            ended,
-        }),
-        Err(fault) => {
-            door.let_go();
-            Err(fault)
-        }
+    match serve_shared::<G, N, R>(
+        rt,
+        alloc,
+        policy,
+        blank,
+        ledger,
+        lobby,
+        listener,
+        connections,
+    ) {
+        Ok((served, _pass, _total)) => Ok(served),
+        Err(fault) => Err(fault),
     }
 }
 
 /// Takes connections under the policy, and serves each until it ends: so many of them, or
-/// fewer where the lobby is asked to end. Gives the gate of all that was done, also where it gave up.
+/// fewer where the lobby is asked to end. Gives the gate back, also where it gave up.
 pub fn serve<G: AccessGate + Send, R: Threads + Wait + Clock + Eprint + Sync>(
     rt: &R,
     alloc: Global,
@@ -69,5 +131,15 @@ pub fn serve<G: AccessGate + Send, R: Threads + Wait + Clock + Eprint + Sync>(
     ensures legal { IfOk result (λ served. IsLegal policy.now (G.seen served.gate).records) }
 {
     let blank = Blank::new(alloc)?;
-    serve_named::<G, Brand, R>(rt, alloc, policy, blank, lobby, listener, connections)
+    let ledger = blank_ledger();
+    serve_named::<G, Brand, R>(
+        rt,
+        alloc,
+        policy,
+        blank,
+        ledger,
+        lobby,
+        listener,
+        connections,
+    )
 }

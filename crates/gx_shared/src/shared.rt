@@ -1,6 +1,6 @@
 //! The gate under one lock.
 
-ghost use Rattle.std.specs.Prelude.{◌≡◌, ◌≢◌, ◌↔◌, ◌≤◌, [], length, IsTrue, IfErr, IfNone, IfOk, IfSome, OnErr, OnOk, Some, None, is_some};
+ghost use Rattle.std.specs.Prelude.{◌≡◌, ◌≢◌, ◌↔◌, ◌+◌, ◌≤◌, [], length, IsTrue, IfErr, IfNone, IfOk, IfSome, OnErr, OnOk, Some, None, is_some};
 ghost use mathlib.Core.List.{IsPrefix};
 ghost use Rattle.gx_units.specs.Spelling.{folded_user};
 ghost use Rattle.gx_history.specs.declared.record.Request.TheVariants as requests;
@@ -14,77 +14,138 @@ ghost use Rattle.gx_pass.specs.declared.pass.PassFault.TheVariants as pass_fault
 ghost use Rattle.gx_pass.specs.Views.{mine, of_line};
 ghost use Rattle.gx_door.specs.declared.fault.PullFault.TheVariants as pull_faults;
 ghost use Rattle.gx_door.specs.Acts.{asked_on, gate_met, login_on};
+ghost use Rattle.gx_shared.specs.Permits.{all_parts};
 ghost use Rattle.gx_door.specs.Acts.{AddsOwn, EndsWith, IsLater, IsPulled, IsToldFull, LogsIn, MayBeRefused};
 ghost use Rattle.gx_shared.specs.Lines.{highest_line};
 
 use crate::desk::Desk;
+use crate::permit::Permits;
+use crate::ticket::Ticket;
 use gx_answers::{AccessGate, LoginAnswer, Outcome, Pulled, StepFault};
 use gx_door::{Dial, Door, PullFault};
 use gx_history::record::{Record, Request};
-use gx_pass::{Blank, GateName, Pass, PassFault};
+use gx_pass::{Blank, GateName, PassFault};
 use gx_policy::Policy;
 use gx_units::{Moment, OutOfMemory, Password, SessionName, UserName};
 use std::alloc::Global;
-use std::sync::{Mutex, Wait};
+use std::sync::ledger::Total;
+use std::sync::{Mutex, Wait, ledger};
 
 /// The gate under one lock. Each call takes the lock once, but for `length`, which takes none.
 ///
-/// It ends by `close` or by `let_go`, and is never dropped.
+/// It ends by `close`, `take_back` or `let_go`, and is never dropped.
 pub struct SharedGate<G: AccessGate, N: GateName> {
     desk: Mutex<Desk<G, N>>,
 }
 
 impl<G: AccessGate, N: GateName> SharedGate<G, N> {
-    /// A gate at the beginning of a day with a copy of the policy, which no thread shares yet.
+    /// A gate at the beginning of a day with a copy of the policy, which no thread shares yet, and all permits for passes:
+    /// nothing is counted in them, so that the gate has no record.
     pub fn new(
         alloc: Global,
         policy: &Policy,
         blank: Blank,
-    ) -> Result<SharedGate<G, N>, OutOfMemory>
+        ledger: ledger::Blank,
+    ) -> Result<(SharedGate<G, N>, Permits<N>), OutOfMemory>
         requires policy { policy.now ≡ N.policy }
         requires blank { blank ≡ N.table }
+        requires name { ledger.name ≡ N.name }
+        requires parts { ledger.parts ≡ N.parts }
+        requires all { ledger.parts ≡ all_parts }
+        ensures all { IfOk result (λ made. made.1.left + 1 ≡ N.parts) }
+        ensures none_added { IfOk result (λ made. made.1.added ≡ 0) }
     {
-        let desk = Desk::new(alloc, policy, blank)?;
-        Ok(SharedGate {
+        let (desk, permits) = Desk::new(alloc, policy, blank, ledger)?;
+        let shared = SharedGate {
             desk: Mutex::new(desk),
-        })
+        };
+        Ok((shared, permits))
     }
 
-    /// A gate that has records, which no thread shares yet, and a pass of a new line, which has met them. Lines that
-    /// are issued from now on are above the highest of theirs.
+    /// A gate that has records, which no thread shares yet, all permits for passes but one, in which these are counted,
+    /// and a pass of a new line, which has met them. Lines that are issued from now on are above the highest of theirs.
     ///
     /// # Errors
     ///
     /// `NoLines` only where a record has the last line that there is. The gate is closed then, as it is where memory is
     /// refused.
-    pub fn over(gate: G, blank: Blank) -> Result<(SharedGate<G, N>, Pass<N>), PassFault>
+    pub fn over(
+        gate: G,
+        blank: Blank,
+        ledger: ledger::Blank,
+    ) -> Result<(SharedGate<G, N>, Permits<N>, Ticket<N>), PassFault>
         requires policy { (G.seen gate).policy ≡ N.policy }
         requires blank { blank ≡ N.table }
-        ensures front { IfOk result (λ made. made.1.front ≡ (G.seen gate).records) }
-        ensures own { IfOk result (λ made. mine made.1 ≡ []) }
+        requires name { ledger.name ≡ N.name }
+        requires parts { ledger.parts ≡ N.parts }
+        requires all { ledger.parts ≡ all_parts }
+        ensures all { IfOk result (λ made. made.1.left + 2 ≡ N.parts) }
+        ensures added { IfOk result (λ made. made.1.added ≡ length (G.seen gate).records) }
+        ensures front { IfOk result (λ made. made.2.held.front ≡ (G.seen gate).records) }
+        ensures own { IfOk result (λ made. mine made.2.held ≡ []) }
+        ensures none_added { IfOk result (λ made. made.2.added ≡ 0) }
         ensures no_lines { IfErr result (λ e.
             e ≡ pass_faults.NoLines → highest_line (G.seen gate).records ≡ 65535) }
     {
-        match Desk::over(gate, blank) {
-            Ok((desk, pass)) => Ok((
-                SharedGate {
+        match Desk::over(gate, blank, ledger) {
+            Ok((desk, mut permits, pass)) => {
+                let pass = Ticket::new(pass, permits.take());
+                let shared = SharedGate {
                     desk: Mutex::new(desk),
-                },
-                pass,
-            )),
+                };
+                Ok((shared, permits, pass))
+            }
             Err(fault) => Err(fault),
         }
     }
 
-    /// The gate. It has all that the pass has met, and of the pass's line its own records.
-    pub fn close(self, pass: Pass<N>) -> G
-        ensures policy { (G.seen result).policy ≡ N.policy }
-        ensures legal { IsLegal N.policy (G.seen result).records }
-        ensures front { IsPrefix pass.front (G.seen result).records }
-        ensures mine { of_line pass.line (G.seen result).records ≡ mine pass }
+    /// A pass of a new line, for one of these permits. It has met all records, of which none is of its line.
+    pub(crate) fn issue<R: Wait>(
+        &self,
+        rt: &R,
+        permits: &mut Permits<N>,
+    ) -> Result<Ticket<N>, PassFault>
+        ensures legal { IfOk result (λ p. IsLegal N.policy p.held.front) }
+        ensures own { IfOk result (λ p. mine p.held ≡ []) }
+        ensures adds_none { IfOk result (λ p. p.added ≡ 0) }
+        ensures one_less { OnOk result (permits.new.left + 1 ≡ permits.old.left) }
+        ensures none_less { OnErr result (permits.new ≡ permits.old) }
+        ensures counted { permits.new.added ≡ permits.old.added }
+    {
+        if permits.is_empty() {
+            return Err(PassFault::NoLines);
+        }
+        let pass = self.desk.lock(rt).issue()?;
+        Ok(Ticket::new(pass, permits.take()))
+    }
+
+    /// The gate, the pass, which has met all its records, and how many these are. It has all that the pass had met, and of
+    /// the pass's line its own records.
+    pub fn close(self, pass: Ticket<N>) -> (G, Ticket<N>, Total<N>)
+        ensures policy { (G.seen result.0).policy ≡ N.policy }
+        ensures legal { IsLegal N.policy (G.seen result.0).records }
+        ensures front { IsPrefix pass.held.front (G.seen result.0).records }
+        ensures mine { of_line pass.held.line (G.seen result.0).records ≡ mine pass.held }
+        ensures line { result.1.held.line ≡ pass.held.line }
+        ensures met { result.1.held.front ≡ (G.seen result.0).records }
+        ensures added { result.1.added ≡ pass.added }
+        ensures total { result.2.amount ≡ length (G.seen result.0).records }
     {
         let SharedGate { desk } = self;
-        desk.into_inner().close(pass)
+        let Ticket { pass, share } = pass;
+        let (gate, pass, total) = desk.into_inner().close(pass);
+        (gate, Ticket { pass, share }, total)
+    }
+
+    /// The gate, where no pass is at hand. If all permits are left, so that none was issued, it has as many records as are
+    /// counted in them.
+    pub fn take_back(self, permits: Permits<N>) -> G
+        ensures policy { (G.seen result).policy ≡ N.policy }
+        ensures counted { permits.left + 1 ≡ N.parts
+            → permits.added ≡ length (G.seen result).records }
+    {
+        let SharedGate { desk } = self;
+        desk.into_inner().take_back(permits)
     }
 
     /// Lets the gate go, where nobody holds a pass or its records are of no use.
@@ -95,91 +156,114 @@ impl<G: AccessGate, N: GateName> SharedGate<G, N> {
 }
 
 impl<G: AccessGate, N: GateName> Door for SharedGate<G, N> {
-    type Ticket = Pass<N>;
+    type Ticket = Ticket<N>;
 
     ghost policy = { N.policy };
 
-    ghost held = { λ p. p };
+    ghost held = { λ p. p.held };
 
-    fn issue<R: Wait>(&self, rt: &R) -> Result<Pass<N>, PassFault> {
-        self.desk.lock(rt).issue()
-    }
+    ghost added = { λ p. p.added };
 
     fn login<R: Wait + Dial>(
         &self,
         rt: &R,
-        pass: Pass<N>,
+        pass: Ticket<N>,
         user: UserName,
         password: Password,
         session: SessionName,
         wanted: u64,
         moment: Moment,
-    ) -> (Pass<N>, Result<LoginAnswer, StepFault>) {
-        self.desk
+    ) -> (Ticket<N>, Result<LoginAnswer, StepFault>) {
+        let Ticket { pass, mut share } = pass;
+        let (pass, result) = self
+            .desk
             .lock(rt)
-            .login(pass, user, password, session, wanted, moment)
+            .login(pass, &mut share, user, password, session, wanted, moment);
+        (Ticket { pass, share }, result)
     }
 
     fn act<R: Wait + Dial>(
         &self,
         rt: &R,
-        pass: Pass<N>,
+        pass: Ticket<N>,
         user: UserName,
         request: Request,
         moment: Moment,
-    ) -> (Pass<N>, Result<Outcome, StepFault>) {
-        self.desk.lock(rt).act(pass, user, request, moment)
+    ) -> (Ticket<N>, Result<Outcome, StepFault>) {
+        let Ticket { pass, mut share } = pass;
+        let (pass, result) = self
+            .desk
+            .lock(rt)
+            .act(pass, &mut share, user, request, moment);
+        (Ticket { pass, share }, result)
     }
 
     fn match_one<R: Wait + Dial>(
         &self,
         rt: &R,
-        pass: Pass<N>,
+        pass: Ticket<N>,
         moment: Moment,
-    ) -> (Pass<N>, Result<Option<Outcome>, StepFault>) {
-        self.desk.lock(rt).match_one(pass, moment)
+    ) -> (Ticket<N>, Result<Option<Outcome>, StepFault>) {
+        let Ticket { pass, mut share } = pass;
+        let (pass, result) = self.desk.lock(rt).match_one(pass, &mut share, moment);
+        (Ticket { pass, share }, result)
     }
 
     fn pull<R: Wait>(
         &self,
         rt: &R,
-        pass: Pass<N>,
+        pass: Ticket<N>,
         user: UserName,
         from: u64,
         most: u64,
-    ) -> (Pass<N>, Result<Pulled, PullFault>) {
-        self.desk.lock(rt).pull(pass, user, from, most)
+    ) -> (Ticket<N>, Result<Pulled, PullFault>) {
+        let Ticket { pass, share } = pass;
+        let (pass, result) = self.desk.lock(rt).pull(pass, user, from, most);
+        (Ticket { pass, share }, result)
     }
 
     fn logout<R: Wait + Dial>(
         &self,
         rt: &R,
-        pass: Pass<N>,
+        pass: Ticket<N>,
         user: UserName,
         moment: Moment,
-    ) -> (Pass<N>, Result<Outcome, StepFault>) {
-        self.desk.lock(rt).act(pass, user, Request::Logout, moment)
+    ) -> (Ticket<N>, Result<Outcome, StepFault>) {
+        self.act(rt, pass, user, Request::Logout, moment)
     }
 
     fn records<R: Wait>(
         &self,
         rt: &R,
-        pass: Pass<N>,
+        pass: Ticket<N>,
         from: u64,
         most: u64,
-    ) -> (Pass<N>, Result<Vec<Record>, OutOfMemory>) {
-        self.desk.lock(rt).records(pass, from, most)
+    ) -> (Ticket<N>, Result<Vec<Record>, OutOfMemory>) {
+        let Ticket { pass, share } = pass;
+        let (pass, result) = self.desk.lock(rt).records(pass, from, most);
+        (Ticket { pass, share }, result)
     }
 
     fn keep<R: Wait>(&self, _rt: &R) -> bool {
         true
     }
 
-    fn meet<R: Wait>(&self, rt: &R, one: Pass<N>, other: Pass<N>) -> (Pass<N>, Pass<N>) {
-        self.desk.lock(rt).meet(one, other)
+    fn meet<R: Wait>(&self, rt: &R, one: Ticket<N>, other: Ticket<N>) -> (Ticket<N>, Ticket<N>) {
+        let Ticket { pass, share } = one;
+        let Ticket {
+            pass: other,
+            share: others,
+        } = other;
+        let (pass, other) = self.desk.lock(rt).meet(pass, other);
+        let first = Ticket { pass, share };
+        let second = Ticket {
+            pass: other,
+            share: others,
+        };
+        (first, second)
     }
 
-    fn length(&self, pass: &mut Pass<N>) -> u64 {
+    fn length(&self, pass: &mut Ticket<N>) -> u64 {
         pass.length()
     }
 }

@@ -1,6 +1,6 @@
 //! Steps of a gate whose history a keeper has: each is one call of the gate, and its record is noted.
 
-ghost use Rattle.std.specs.Prelude.{◌≡◌, ◌≢◌, ◌↔◌, ◌<◌, length, IsTrue, IfErr, IfNone, IfOk, OnErr, OnOk, Some, None, is_some};
+ghost use Rattle.std.specs.Prelude.{◌≡◌, ◌≢◌, ◌↔◌, ◌+◌, ◌<◌, length, IsTrue, IfErr, IfNone, IfOk, IfSome, OnErr, OnOk, Some, None, is_some};
 ghost use Rattle.gx_units.specs.Spelling.{folded_user};
 ghost use Rattle.gx_history.specs.InForce.{line_of};
 ghost use Rattle.gx_history.specs.Showing.{has_its_first, is_askable};
@@ -12,11 +12,13 @@ ghost use Rattle.gx_pass.specs.Views.{holds, keeps, without};
 ghost use Rattle.gx_door.specs.declared.fault.PullFault.TheVariants as pull_faults;
 ghost use Rattle.gx_door.specs.Acts.{asked_on, IsPulled, IsToldFull, MayBeRefused};
 
+use crate::counting::CountingKeeper;
 use gx_answers::{AccessGate, Outcome, Pulled, StepFault, record_of, record_of_match};
 use gx_door::PullFault;
 use gx_history::record::{Asked, Request};
-use gx_pass::{Entered, GateName, Keeper, Pass};
+use gx_pass::{Entered, GateName, Pass};
 use gx_units::{Moment, UserName};
+use std::sync::ledger::Share;
 
 /// The most reports of one pull.
 const MOST_PULLED: u64 = 256;
@@ -36,15 +38,17 @@ pub fn asked_on(line: u16, user: UserName, request: Request, handed: Moment) -> 
     }
 }
 
-/// Makes the request's step. The keeper, which has its line in hand, notes the record.
+/// Makes the request's step. The keeper, which has its line in hand, notes the record, and it is counted in the share.
 ///
 /// A granted Kill or Logout is never refused.
 #[tactic(auto, using(crate::proofs::Refusals::is_no_granted_end, crate::proofs::Refusals::is_told_full))]
 pub fn step<G: AccessGate, N: GateName>(
     gate: &mut G,
-    keeper: &mut Keeper<N>,
+    keeper: &mut CountingKeeper<N>,
+    share: &mut Share<N>,
     asked: Asked,
 ) -> Result<Outcome, StepFault>
+    requires part { 0 < share.old.parts }
     requires askable { IsTrue (is_askable asked) }
     requires line { Has keeper.old.hand asked.line }
     requires history { keeper.old.list ≡ (G.seen gate.old).records }
@@ -56,21 +60,26 @@ pub fn step<G: AccessGate, N: GateName>(
     ensures full { IfErr result (IsToldFull (G.seen gate.new)) }
     ensures keeper { keeper.new
         ≡ keeps (G.seen gate.new).records keeper.old.hand keeper.old.issued }
+    ensures adds_one { OnOk result (share.new.amount ≡ share.old.amount + 1) }
+    ensures adds_none { OnErr result (share.new.amount ≡ share.old.amount) }
+    ensures parts { share.new.parts ≡ share.old.parts }
 {
     // that there is room for one more record
     gate.length();
     let outcome = gate.step(asked)?;
-    keeper.note(record_of(&asked, outcome));
+    keeper.note(share, record_of(&asked, outcome));
     Ok(outcome)
 }
 
-/// Makes a matching step, if an order waits. The keeper notes the record, if there is one.
+/// Makes a matching step, if an order waits. The keeper notes the record, if there is one, and it is counted in the share.
 #[tactic(auto, using(crate::proofs::Idling::none_is_next))]
 pub fn match_one<G: AccessGate, N: GateName>(
     gate: &mut G,
-    keeper: &mut Keeper<N>,
+    keeper: &mut CountingKeeper<N>,
+    share: &mut Share<N>,
     handed: Moment,
 ) -> Result<Option<Outcome>, StepFault>
+    requires part { 0 < share.old.parts }
     requires history { keeper.old.list ≡ (G.seen gate.old).records }
     ensures policy { (G.seen gate.new).policy ≡ (G.seen gate.old).policy }
     ensures found { IfOk result
@@ -81,13 +90,19 @@ pub fn match_one<G: AccessGate, N: GateName>(
     ensures full { IfErr result (IsToldFull (G.seen gate.new)) }
     ensures keeper { keeper.new
         ≡ keeps (G.seen gate.new).records keeper.old.hand keeper.old.issued }
+    ensures adds_one { IfOk result (λ found. IfSome found (λ _.
+        share.new.amount ≡ share.old.amount + 1)) }
+    ensures adds_none_idle { IfOk result (λ found. IfNone found
+        (share.new.amount ≡ share.old.amount)) }
+    ensures adds_none { OnErr result (share.new.amount ≡ share.old.amount) }
+    ensures parts { share.new.parts ≡ share.old.parts }
 {
     // that there is room for one more record
     gate.length();
     let Some(outcome) = gate.match_one(handed)? else {
         return Ok(None);
     };
-    keeper.note(record_of_match(handed, outcome));
+    keeper.note(share, record_of_match(handed, outcome));
     Ok(Some(outcome))
 }
 
@@ -113,7 +128,7 @@ pub fn pull<G: AccessGate>(
 /// Lets go a pass that was taken in. It has met all records of the gate, which are legal.
 pub fn leave<G: AccessGate, N: GateName>(
     gate: &G,
-    keeper: &mut Keeper<N>,
+    keeper: &mut CountingKeeper<N>,
     entered: Entered<N>,
 ) -> Pass<N>
     requires hand { Has keeper.old.hand entered }

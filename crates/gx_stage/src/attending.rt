@@ -3,7 +3,7 @@
 use crate::devices::{Client, Sheet};
 use crate::holding::Holds;
 use crate::plays::{Play, Stage, Who};
-use gx_door::{Dial, Door};
+use gx_door::{Dial, Door, Issuer};
 use gx_pass::PassFault;
 use gx_serve::{Link, converse, match_on};
 use std::alloc::Global;
@@ -43,13 +43,13 @@ fn attend<'x, T: Drop + Send, D: Door<Ticket = T> + Sync, R: Threads + Wait + Cl
 }
 
 /// A pass for each of the two, and one for the matcher.
-pub fn three_passes<D: Door, R: Wait>(
+pub fn three_passes<I: Issuer, R: Wait>(
     rt: &R,
-    door: &D,
-) -> Result<(D::Ticket, D::Ticket, D::Ticket), PassFault> {
-    let one = door.issue(rt)?;
-    let two = door.issue(rt)?;
-    let three = door.issue(rt)?;
+    issuer: &mut I,
+) -> Result<(I::Ticket, I::Ticket, I::Ticket), PassFault> {
+    let one = issuer.issue(rt)?;
+    let two = issuer.issue(rt)?;
+    let three = issuer.issue(rt)?;
     Ok((one, two, three))
 }
 

@@ -4,7 +4,6 @@ use crate::counting::{Count, Flag, Until};
 use gx_answers::{LoginAnswer, Outcome, Pulled, StepFault};
 use gx_door::{Dial, Door, PullFault};
 use gx_history::record::{Record, Request};
-use gx_pass::PassFault;
 use gx_units::{Moment, OutOfMemory, Password, SessionName, UserName};
 use std::sync::Wait;
 use std::time::Clock;
@@ -81,9 +80,7 @@ impl<D: Door, C: Clock> Door for Holds<'_, D, C> {
 
     ghost held = { D.held };
 
-    fn issue<R: Wait>(&self, rt: &R) -> Result<D::Ticket, PassFault> {
-        self.door.issue(rt)
-    }
+    ghost added = { D.added };
 
     fn login<R: Wait + Dial>(
         &self,

@@ -1,4 +1,4 @@
-use Rattle.std.proofs.Common.{◌≡◌, ℕ, List, Option, None, length, drop, subst, sym, ap, ◌∙◌}
+use Rattle.std.proofs.Common.{◌≡◌, ℕ, List, Option, None, drop, subst, sym, ◌∙◌}
 use Rattle.std.specs.Io.KnownBytes.{Appends}
 use mathlib.Core.List.{IsPrefix}
 use Rattle.gx_pass.specs.declared.view.Holds.{Holds}
@@ -8,13 +8,13 @@ use Rattle.gx_shared.proofs.keeping.close_kept.Goals as goal
 
 pub returns-clause-front : goal.returns-clause-front
 returns-clause-front g c =
-    let records = (g.G.AccessGate.seen c.close-gate.result).records in
+    let records = (g.G.AccessGate.seen c.close-gate.result.0).records in
     let begins : IsPrefix c.args.journal.met.front records = subst (λ (h : Holds). IsPrefix h.front records) c.into_parts-pass.ensures.met c.close-gate.ensures.front in
     earlier_kept g.J.JournalName.begun g.J.JournalName.count g.J.JournalName.earlier c.args.journal records c.into_parts-pass.ensures.kept begins
 
 pub returns-clause-kept : goal.returns-clause-kept
 returns-clause-kept g c = λ none.
-    let records = (g.G.AccessGate.seen c.close-gate.result).records in
+    let records = (g.G.AccessGate.seen c.close-gate.result.0).records in
     let after = c.put_rest.new.tape in
     let is = c.into_parts-pass.ensures.tape in
     let begins : IsPrefix c.args.journal.met.front records = subst (λ (h : Holds). IsPrefix h.front records) c.into_parts-pass.ensures.met c.close-gate.ensures.front in

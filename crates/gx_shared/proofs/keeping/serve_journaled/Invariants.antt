@@ -4,6 +4,10 @@ use Rattle.gx_shared.proofs.keeping.serve_journaled.Given as goal
 abbrev pub ghosts-serve_named-N-GateName : goal.ghosts-serve_named-N-GateName
 ghosts-serve_named-N-GateName g a = record { table = a.blank; policy = (g.G.AccessGate.seen a.gate).policy }
 
+-- the ledger that was just made
+abbrev pub ghosts-serve_named-N-Ledger : goal.ghosts-serve_named-N-Ledger
+ghosts-serve_named-N-Ledger g a = record { name = a.ledger.name; parts = a.ledger.parts }
+
 -- what the device holds, and how many of the gate's records are there
 abbrev pub ghosts-serve_named-J-JournalName : goal.ghosts-serve_named-J-JournalName
 ghosts-serve_named-J-JournalName g a = record { begun = g.W.Write.contents a.device; count = a.count; earlier = (g.G.AccessGate.seen a.gate).records }

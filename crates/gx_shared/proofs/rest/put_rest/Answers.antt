@@ -1,4 +1,4 @@
-use Rattle.std.proofs.Common.{arith, refl, ◌∙◌}
+use Rattle.std.proofs.Common.{arith, refl}
 use Rattle.gx_journal.proofs.Rolling.{none_appended}
 use Rattle.gx_shared.proofs.Resting.{rest_put, sound_at}
 use Rattle.gx_shared.proofs.rest.put_rest.Goals as goal

@@ -1,15 +1,18 @@
-use Rattle.std.proofs.Common.{◌≡◌, refl, subst, sym, false, ap, ◌∙◌, Option}
+use Rattle.std.proofs.Common.{◌≡◌, refl, subst, sym, false, ap, ◌∙◌}
 use Rattle.gx_pass.specs.declared.view.Holds.{Holds}
-use Rattle.gx_journal.specs.Journals.{is_broken, met_by, IsKept, JournalData}
+use Rattle.gx_journal.specs.Journals.{added_by, is_broken, met_by, IsKept, JournalData}
 use Rattle.gx_journal.proofs.Keeping.{journal, kept_later}
 use Rattle.gx_journal.proofs.journal.Journal.fetch.Goals as goal
 
 pub invariant_of-self : goal.invariant_of-self
 invariant_of-self g c =
     let held = g.D.Door.held in
-    let was : met_by held c.self.inside.pass ≡ held c.in-Some.pass = ap (met_by held) (sym c.take.ensures.value ∙ c.in-Some.is) in (
+    let was : met_by held c.self.inside.pass ≡ held c.in-Some.pass = ap (met_by held) (sym c.take.ensures.value ∙ c.in-Some.is) in
+    let added = g.D.Door.added in
+    let none : added_by added c.self.inside.pass ≡ added c.in-Some.pass = ap (added_by added) (sym c.take.ensures.value ∙ c.in-Some.is) in (
       refl,
+      c.records-pass.ensures.adds_none ∙ sym none ∙ c.self.invariant.1,
       kept_later g.J.JournalName.begun g.J.JournalName.count g.J.JournalName.earlier (held c.in-Some.pass) (held c.records-pass.result.0) c.self.inside.tape (subst (λ (j : JournalData). is_broken j.tape ≡ false) (sym c.self.view_is) c.requires.sound)
           c.records-pass.ensures.later.front
-          (subst (λ (h : Holds). IsKept g.J.JournalName.begun g.J.JournalName.count g.J.JournalName.earlier (journal h c.self.inside.tape)) was c.self.invariant.1),
+          (subst (λ (h : Holds). IsKept g.J.JournalName.begun g.J.JournalName.count g.J.JournalName.earlier (journal h c.self.inside.tape)) was c.self.invariant.2),
     )

@@ -1,4 +1,3 @@
-use Rattle.std.proofs.Common.{arith}
 use Rattle.gx_journal.proofs.Keeping.{all_known}
 use Rattle.gx_journal.proofs.journal.Journal.keep.Goals as goal
 

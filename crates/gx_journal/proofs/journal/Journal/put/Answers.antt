@@ -6,6 +6,7 @@ use Rattle.gx_journal.proofs.journal.Journal.put.Goals as goal
 pub invariant_of-self : goal.invariant_of-self
 invariant_of-self g c = (
   c.self.invariant.0,
+  c.self.invariant.1,
   kept_put g.J.JournalName.begun g.J.JournalName.count g.J.JournalName.earlier (met_by g.D.Door.held c.self.inside.pass) c.put.result c.args.records.now c.self.inside.tape c.put.new.self
       (subst (λ (j : JournalData). is_broken j.tape ≡ false) (sym c.self.view_is) c.requires.sound) (subst (λ (j : JournalData). c.args.records.now ≡ take (length c.args.records.now) (drop j.tape.done j.met.front)) (sym c.self.view_is) c.requires.next)
       (record {
@@ -16,5 +17,5 @@ invariant_of-self g c = (
         front = c.put.ensures.front;
         stays = c.put.ensures.stays;
       })
-      c.self.invariant.1,
+      c.self.invariant.2,
 )

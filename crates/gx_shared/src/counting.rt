@@ -1,0 +1,112 @@
+//! The keeper of a history in which each record is counted.
+
+ghost use Rattle.std.specs.Prelude.{◌≡◌, ◌+◌, ◌<◌, ◌≤◌, ◌^◌, ◌++◌, ◌∷◌, [], length, IfOk, OnErr};
+ghost use Rattle.gx_shared.specs.Permits.{all_parts};
+ghost use Rattle.gx_pass.specs.Rules.{IsMet, IsAbsent, Has, MayNote};
+ghost use Rattle.gx_pass.specs.Views.{keeps, holds, line_in, mine, without};
+
+use crate::permit::Permits;
+use gx_history::record::RecordData;
+use gx_pass::{Entered, GateName, Keeper, Pass, PassFault};
+use std::marker::Model;
+use std::sync::ledger::{Blank, Book, Share, Total};
+
+/// A keeper, and the book of a ledger in which each of its records is counted. Contracts see what the keeper knows.
+#[derive(Drop)]
+pub struct CountingKeeper<N: GateName> {
+    keeper: Keeper<N>,
+    book: Book<N>,
+}
+
+impl<N: GateName> Model for CountingKeeper<N> {
+    ghost use Rattle.std.specs.Prelude.{◌≡◌, length};
+    ghost use Rattle.gx_pass.specs.declared.view.Keeps.{Keeps};
+
+    ghost Value = { Keeps };
+
+    ghost view = { λ c. c.keeper };
+
+    ghost invariant = { λ c. c.book.total ≡ length c.keeper.list };
+}
+
+impl<N: GateName> CountingKeeper<N> {
+    /// Counts the keeper's records, of which there are so many, in a ledger. Gives the permits for passes, too.
+    pub fn over(keeper: Keeper<N>, count: u64, ledger: Blank) -> (CountingKeeper<N>, Permits<N>)
+        requires name { ledger.name ≡ N.name }
+        requires parts { ledger.parts ≡ N.parts }
+        requires all { ledger.parts ≡ all_parts }
+        requires count { count ≡ length keeper.list }
+        ensures keeper { result.0 ≡ keeper }
+        ensures all { result.1.left + 1 ≡ N.parts }
+        ensures added { result.1.added ≡ count }
+    {
+        let (mut book, mut permits) = Permits::<N>::open(ledger);
+        permits.count(&mut book, count);
+        (CountingKeeper { keeper, book }, permits)
+    }
+
+    /// Changes nothing: where all permits are left, as many records are counted in them as the keeper has.
+    pub fn audit(&mut self, permits: &mut Permits<N>)
+        ensures keeper { self.new ≡ self.old }
+        ensures permits { permits.new ≡ permits.old }
+        ensures all { permits.old.left + 1 ≡ N.parts
+            → permits.old.added ≡ length self.old.list }
+    {
+        permits.audit(&mut self.book);
+    }
+
+    /// A pass with a line that was not issued before, as [`Keeper::issue`] gives it.
+    pub fn issue(&mut self) -> Result<Pass<N>, PassFault>
+        ensures list { self.new.list ≡ self.old.list }
+        ensures pass { IfOk result (λ p.
+            p ≡ holds (self.old.issued + 1) self.old.list (length self.old.list)) }
+        ensures own { IfOk result (λ p. mine p ≡ []) }
+    {
+        self.keeper.issue()
+    }
+
+    /// Takes a pass in, and compares it with the history, as [`Keeper::enter`] does.
+    pub fn enter(&mut self, pass: Pass<N>) -> Entered<N>
+        ensures line { result ≡ pass.line }
+        ensures met { IsMet self.old.list pass }
+        ensures apart { IsAbsent pass.line self.old.hand }
+        ensures some { 0 < pass.line }
+        ensures issued { pass.line ≤ self.old.issued }
+        ensures hand { self.new
+            ≡ keeps self.old.list (pass.line ∷ self.old.hand) self.old.issued }
+    {
+        self.keeper.enter(pass)
+    }
+
+    /// The history takes a record of no line or of a line in hand, which is counted in the share.
+    pub fn note(&mut self, share: &mut Share<N>, noted: RecordData)
+        requires part { 0 < share.old.parts }
+        requires line { MayNote self.old.hand (line_in noted) }
+        requires room { length self.old.list + 1 < 2 ^ 64 }
+        ensures keeper { self.new
+            ≡ keeps (self.old.list ++ noted ∷ []) self.old.hand self.old.issued }
+        ensures counted { share.new.amount ≡ share.old.amount + 1 }
+        ensures parts { share.new.parts ≡ share.old.parts }
+    {
+        self.book.add(share, 1);
+        self.keeper.note(noted);
+    }
+
+    /// Lets go a pass that was taken in. It has met the whole history.
+    pub fn leave(&mut self, entered: Entered<N>) -> Pass<N>
+        requires { Has self.old.hand entered }
+        ensures hand { self.new
+            ≡ keeps self.old.list (without entered self.old.hand) self.old.issued }
+        ensures pass { result ≡ holds entered self.old.list (length self.old.list) }
+    {
+        self.keeper.leave(entered)
+    }
+
+    /// How many records there are, for good.
+    pub fn close(self) -> Total<N>
+        ensures { result.amount ≡ length self.list }
+    {
+        let CountingKeeper { keeper: _, book } = self;
+        book.close()
+    }
+}

@@ -1,0 +1,43 @@
+//! Where passes to a gate are issued.
+
+ghost use Rattle.std.specs.Prelude.{◌≡◌, ◌+◌, [], IfOk, OnErr, OnOk};
+ghost use Rattle.gx_history.specs.Verdicts.{IsLegal};
+ghost use Rattle.gx_pass.specs.Views.{mine};
+
+use crate::permit::Permits;
+use crate::shared::SharedGate;
+use crate::ticket::Ticket;
+use gx_answers::AccessGate;
+use gx_door::Issuer;
+use gx_pass::{GateName, PassFault};
+use std::sync::Wait;
+
+/// Issues the passes to a gate, for permits of its ledger.
+#[derive(Drop)]
+pub struct Entrance<'x, G: AccessGate, N: GateName> {
+    gate: &'x SharedGate<G, N>,
+    permits: Permits<N>,
+}
+
+impl<'x, G: AccessGate, N: GateName> Entrance<'x, G, N> {
+    /// The entrance of this gate, with these permits.
+    pub fn new(gate: &'x SharedGate<G, N>, permits: Permits<N>) -> Entrance<'x, G, N> {
+        Entrance { gate, permits }
+    }
+}
+
+impl<G: AccessGate, N: GateName> Issuer for Entrance<'_, G, N> {
+    type Ticket = Ticket<N>;
+
+    ghost policy = { N.policy };
+
+    ghost held = { λ p. p.held };
+
+    ghost added = { λ p. p.added };
+
+    ghost left = { λ e. e.permits.left };
+
+    fn issue<R: Wait>(&mut self, rt: &R) -> Result<Ticket<N>, PassFault> {
+        self.gate.issue(rt, &mut self.permits)
+    }
+}
