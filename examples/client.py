@@ -1,7 +1,7 @@
 #!/usr/bin/env python3
 # A small client of `gate serve`, to begin from. To try it, from the top of the repository:
 #
-#   sleep 8h | crates/gate/out/gate serve --port 9001 &
+#   crates/gate/out/gate serve --port 9001 &
 #   examples/client.py --port 9001 BOB banana 'enter S1 S 60 TEST 10.00' 'wait 1' logout
 #   examples/client.py --port 9001 ALICE apple 'enter T1 B 100 TEST 10.00' 'wait 1' \
 #       'replace T1 T2 90 10.10' 'wait 1' 'cancel T2 0' 'wait 1' logout

@@ -180,15 +180,15 @@ def server(asked: argparse.Namespace, folder: Path) -> Iterator[int]:
     (folder / "policy.toml").write_text(policy_text())
     with socket.create_server(("127.0.0.1", 0)) as free:
         port = free.getsockname()[1]
-    words = [asked.gate, "serve", "--port", str(port), "--policy", str(folder / "policy.toml"),
+    words = [asked.gate, "serve", "--port", str(port), "--until-input-ends", "--policy", str(folder / "policy.toml"),
              "--audit", str(folder / "audit"), "--connections-at-once", "2000"]
     if asked.journal or asked.journal_sync:
         words += ["--journal", str(folder / "journal")]
     if asked.journal_sync:
         words.append("--journal-sync")
-    with subprocess.Popen(words, stdin=subprocess.PIPE, stderr=subprocess.PIPE) as running:
+    with subprocess.Popen(words, stdin=subprocess.PIPE, stdout=subprocess.PIPE) as running:
         try:
-            if b"listening" not in running.stderr.readline():
+            if b"listening" not in running.stdout.readline():
                 raise RuntimeError("the server does not listen")
             yield port
             running.stdin.close()

@@ -12,7 +12,7 @@ use ending::{Ended, Place, tell};
 use gx_answers::AccessGate;
 use gx_audit::{AuditAnswer, Choice, more_of_audit, show_audit, told_of_audit, write_audit};
 use gx_command_line::{
-    Asked, AuditFiles, JournalFile, LONGEST_WORD, RunFiles, Serving, Wanted, first_bad_word,
+    Asked, AuditFiles, JournalFile, LONGEST_WORD, RunFiles, Serving, Until, Wanted, first_bad_word,
 };
 use gx_core::Gate;
 use gx_devices::Counted;
@@ -157,18 +157,23 @@ fn policy_of<'a>(rt: &HostRuntime, path: Option<&'a str>) -> Result<Policy, Ende
     Ok(policy_for(rt.alloc(), file.as_deref())?)
 }
 
-/// Listens on a port of this machine's own address, and tells which.
-fn listen<'a, R: Net<Listener = TcpListener, Stream = TcpStream> + Eprint>(
+/// Listens on a port of this machine's own address.
+fn listen<'a, R: Net<Listener = TcpListener, Stream = TcpStream>>(
     rt: &R,
     port: u16,
 ) -> Result<TcpListener, Ended<'a>> {
     let address = SocketAddr::from((Ipv4Addr::LOCALHOST, port));
     match TcpListener::bind(rt, address) {
-        Ok(listener) => {
-            let _ = eprintln!(rt; "listening on {address}");
-            Ok(listener)
-        }
+        Ok(listener) => Ok(listener),
         Err(error) => Err(ServeFault::ListenFailed(error).into()),
+    }
+}
+
+/// Tells on standard output that a server listens.
+fn tell_listening<'a>(rt: &HostRuntime, port: u16) -> Result<(), Ended<'a>> {
+    match println!(rt; "listening {port}") {
+        Ok(()) => Ok(()),
+        Err(error) => Err(Ended::unwritten(Place::Output, error)),
     }
 }
 
@@ -185,10 +190,10 @@ fn await_end<I: Read>(reader: &mut I, lobby: &Lobby) {
 }
 
 /// How many connections a server takes, where it is not ended before.
-fn connections_of(serving: &Serving) -> u64 {
-    match serving.connections {
-        Some(connections) => u64::from(connections),
-        None => u64::MAX,
+fn connections_of(until: Until) -> u64 {
+    match until {
+        Until::Connections(connections) => u64::from(connections),
+        Until::InputEnds => u64::MAX,
     }
 }
 
@@ -205,7 +210,7 @@ fn end_with_input<R: Threads>(
     }
 }
 
-/// Listens for connections: the listener, and the lobby of the server, which ends as was asked for.
+/// Listens for connections, and tells so: the listener, and the lobby of the server, which ends as was asked for.
 fn open_lobby<'a, R>(
     rt: &R,
     host: &HostRuntime,
@@ -218,13 +223,14 @@ where
     let Ok(lobby) = Arc::new(host.alloc(), Lobby::new(serving.at_once)) else {
         return Err(OutOfMemory.into());
     };
-    if serving.connections.is_none() {
+    if let Until::InputEnds = serving.until {
         end_with_input(rt, *host, &lobby)?;
     }
+    tell_listening(host, serving.port)?;
     Ok((listener, lobby))
 }
 
-/// Serves connections, until as many as were asked for have ended, or standard input has.
+/// Serves connections, until as many as were asked for have ended, or standard input has, where that was asked for.
 fn serve_on<'a, R>(
     rt: &R,
     host: &HostRuntime,
@@ -235,7 +241,7 @@ where
     R: Net<Listener = TcpListener, Stream = TcpStream> + Threads + Wait + Clock + Eprint + Sync,
 {
     let (listener, lobby) = open_lobby(rt, host, serving)?;
-    let connections = connections_of(serving);
+    let connections = connections_of(serving.until);
     Ok(serve(rt, host.alloc(), policy, &lobby, listener, connections)?)
 }
 
@@ -277,7 +283,7 @@ where
         Ok((listener, lobby)) => {
             let count = gate.length();
             tell_cut(host, count, cut);
-            let connections = connections_of(serving);
+            let connections = connections_of(serving.until);
             let alloc = host.alloc();
             let kept = serve_journaled(
                 rt,
@@ -346,12 +352,19 @@ where
     }
 }
 
-/// Puts behind an answer what more there is to tell of it; nothing where there is no memory for it. The first line on
-/// standard error is that of a fault of the program: it stays empty.
+/// Puts a line behind an answer. The first line on standard error is that of a fault of the program: it stays empty.
+fn tell_behind(rt: &HostRuntime, line: &[u8]) {
+    let _ = eprintln!(rt; "");
+    let _ = rt.stderr().write_all(line);
+}
+
+/// Puts behind an answer what more there is to tell of it; nothing where there is no memory for it.
 fn tell_more_of(rt: &HostRuntime, policy: &Policy, audit: &[u8], told: &AuditAnswer) {
+    if audit.is_empty() {
+        tell_behind(rt, b"the file is empty: it has no header and no record\n");
+    }
     if let Ok(Some(line)) = more_of_audit::<Gate>(rt.alloc(), policy, audit, told.answer) {
-        let _ = eprintln!(rt; "");
-        let _ = rt.stderr().write_all(line.as_slice());
+        tell_behind(rt, line.as_slice());
     }
 }
 

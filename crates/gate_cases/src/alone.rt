@@ -5,20 +5,13 @@ use gx_answers::AccessGate;
 use gx_core::Gate;
 use gx_devices::Counted;
 use gx_policy::Policy;
-use gx_trials::{Asks, Ended, Hears, Kind, Limits, RunsAlone, Turn, put_waited};
-use gx_units::OutOfMemory;
+use gx_trials::{Asks, Ended, Hears, Kind, Limits, RunsAlone, Told, Turn, put_waited};
 use std::alloc::Global;
 use std::cell::Cell;
 
 /// Puts what the run of a connection left: its records, how it ended, and whether it wrote no front of the whole answer.
-fn put_left(
-    alloc: Global,
-    out: &mut String,
-    gate: &Gate,
-    ended: &Ended<End>,
-    whole: &[u8],
-) -> Result<(), OutOfMemory> {
-    put_verdicts(alloc, out, gate, 1)?;
+fn put_left(alloc: Global, out: &mut Told, gate: &Gate, ended: &Ended<End>, whole: &[u8]) {
+    put_verdicts(alloc, out, gate, 1);
     ended.put_front(out, whole)
 }
 
@@ -30,36 +23,36 @@ pub(crate) struct Alone<'a> {
 }
 
 impl RunsAlone for Alone<'_> {
-    fn written(&self, kind: Kind, limits: Limits, input: &[u8]) -> Result<Vec<u8>, OutOfMemory> {
-        let mut gate = Gate::open(self.alloc, self.policy)?;
+    fn written(&self, out: &mut Told, kind: Kind, limits: Limits, input: &[u8]) -> Vec<u8> {
+        let Ok(mut gate) = Gate::open(self.alloc, self.policy) else {
+            return out.nothing(self.alloc);
+        };
         let written = run_on(kind, self.alloc, &mut gate, limits, input).written;
         gate.close();
-        Ok(written)
+        written
     }
 
     fn put_left(
         &self,
-        out: &mut String,
+        out: &mut Told,
         limits: Limits,
         input: &[u8],
         whole: &[u8],
-    ) -> Result<(usize, bool), OutOfMemory> {
-        let mut gate = Gate::open(self.alloc, self.policy)?;
+    ) -> (usize, bool) {
+        let Ok(mut gate) = Gate::open(self.alloc, self.policy) else {
+            out.give_up();
+            return (0, true);
+        };
         let ended = run_on(Kind::Pipe, self.alloc, &mut gate, limits, input);
-        let put = put_left(self.alloc, out, &gate, &ended, whole);
+        put_left(self.alloc, out, &gate, &ended, whole);
         gate.close();
-        put.and(Ok((ended.written.len(), ended.is_done)))
+        (ended.written.len(), ended.is_done)
     }
 
-    fn put_waited(
-        &self,
-        out: &mut String,
-        kind: Kind,
-        limits: Limits,
-        input: &[u8],
-        turns: &[Turn],
-    ) -> Result<(), OutOfMemory> {
-        let mut gate = Gate::open(self.alloc, self.policy)?;
+    fn put_waited(&self, out: &mut Told, kind: Kind, limits: Limits, input: &[u8], turns: &[Turn]) {
+        let Ok(mut gate) = Gate::open(self.alloc, self.policy) else {
+            return out.give_up();
+        };
         let passed_on = Cell::new(0);
         let mut reader = Counted::new(Asks::new(input, turns, limits.piece, &passed_on));
         let mut writer = Counted::new(Hears::new(limits.sip, &passed_on));

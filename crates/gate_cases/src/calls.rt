@@ -1,30 +1,32 @@
 //! Calls at a shared gate, by passes of several lines and in several threads, and what is told of them.
 
-ghost use Rattle.std.specs.Prelude.{◌≡◌, IsTrue};
+ghost use Rattle.std.specs.Prelude.{IsTrue};
 ghost use Rattle.gx_history.specs.Showing.{has_its_first};
-ghost use Rattle.gx_shared.specs.Permits.{all_parts};
 
 use crate::plays::put_legal;
 use gx_answers::{AccessGate, Outcome, Pulled};
 use gx_core::Gate;
 use gx_desk::{Action, Command, Tag};
-use gx_door::{Dial, Door, PullFault};
+use gx_door::{Dial, Door, Issuer, PullFault};
 use gx_history::record::{Record, Request, Step};
 use gx_ouch::EnterOrder;
-use gx_pass::{Blank, GateName};
+use gx_pass::GateName;
+use gx_plays::{Looks, PlayClock, Timed};
 use gx_policy::Policy;
-use gx_server::sample_policy;
-use gx_shared::{Entrance, Permits, SharedGate, Ticket, blank_ledger};
-use gx_stage::{ALICE, BOB, Ended, Still, put, three_passes};
-use gx_trials::put_records;
+use gx_shared::{Entrance, Permits, SharedGate, Ticket};
+use gx_trials::{Told, put_records};
 use gx_units::{AccountName, Firm, Password, SessionName, Symbol, Token, UserName};
 use std::alloc::Global;
-use std::fmt::Write;
-use std::marker::Brand;
-use std::sync::{Wait, ledger};
+use std::sync::Wait;
 use std::thread;
 use std::thread::Threads;
 use std::time::Clock;
+
+/// A trader.
+const ALICE: UserName = UserName { bytes: *b"ALICE " };
+
+/// Another trader.
+const BOB: UserName = UserName { bytes: *b"BOB   " };
 
 /// An officer.
 const OLGA: UserName = UserName { bytes: *b"OLGA  " };
@@ -253,34 +255,27 @@ fn of_line(records: &[Record], line: u16) -> u64 {
 
 /// Puts how the requests of a caller are on record.
 fn put_caller<N: GateName>(
-    out: &mut String,
+    out: &mut Told,
     records: &[Record],
     caller: Caller,
     called: &(Ticket<N>, Vec<u64>),
-) -> Result<(), Ended> {
+) {
     let line = called.0.line();
-    let name = caller.name;
-    let made = called.1.len();
-    let count = in_order(records, called.1.as_slice(), line, caller.user);
-    let all = of_line(records, line);
-    match writeln!(
-        out,
-        "{name}: {made} requests, {count} of them on record in order, {all} records of the line"
-    ) {
-        Ok(()) => Ok(()),
-        Err(_) => Err(Ended::OutOfMemory),
-    }
+    out.put(caller.name);
+    out.put(": ");
+    out.put_number(called.1.len() as u64);
+    out.put(" requests, ");
+    out.put_number(in_order(records, called.1.as_slice(), line, caller.user).into());
+    out.put(" of them on record in order, ");
+    out.put_number(of_line(records, line));
+    out.put(" records of the line\n");
 }
 
 /// Puts how the requests of all three are on record.
-fn put_called<N: GateName>(
-    out: &mut String,
-    records: &[Record],
-    called: &Called<Ticket<N>>,
-) -> Result<(), Ended> {
+fn put_called<N: GateName>(out: &mut Told, records: &[Record], called: &Called<Ticket<N>>) {
     let [alice, bob, olga] = CALLERS;
-    put_caller(out, records, alice, &called.0)?;
-    put_caller(out, records, bob, &called.1)?;
+    put_caller(out, records, alice, &called.0);
+    put_caller(out, records, bob, &called.1);
     put_caller(out, records, olga, &called.2)
 }
 
@@ -319,206 +314,224 @@ fn pull_thrice<D: Door, R: Wait + Dial>(
 /// Puts what comes of pulls on two lines.
 fn put_pulls<D: Door, R: Wait + Dial>(
     rt: &R,
-    out: &mut String,
+    out: &mut Told,
     door: &D,
     passes: (D::Ticket, D::Ticket),
-) -> Result<(), Ended> {
+) {
     let [first, second, third] = pull_thrice(rt, door, passes);
-    match writeln!(
-        out,
-        "on her line: {first}; on another: {second}; on hers, once she is logged out: {third}"
-    ) {
-        Ok(()) => Ok(()),
-        Err(_) => Err(Ended::OutOfMemory),
-    }
+    out.put("on her line: ");
+    out.put(first);
+    out.put("; on another: ");
+    out.put(second);
+    out.put("; on hers, once she is logged out: ");
+    out.put_line(third);
+}
+
+/// Puts records, and how many of them are of a line.
+fn put_own(alloc: Global, out: &mut Told, records: &[Record], line: u16) {
+    put_records(alloc, out, records);
+    out.put("of line ");
+    out.put_number(line.into());
+    out.put(": ");
+    out.put_number(of_line(records, line));
+    out.put("\n");
 }
 
 /// Puts what a pass has met of a day: the records, and how many of them are of its own line.
 fn put_met<N: GateName, R: Wait>(
     rt: &R,
     alloc: Global,
-    out: &mut String,
+    out: &mut Told,
     shared: &SharedGate<Gate, N>,
     pass: Ticket<N>,
-) -> Result<(), Ended> {
+) {
     let line = pass.line();
     let (_pass, records) = shared.records(rt, pass, 1, u64::MAX);
-    let records = records?;
-    put_records(alloc, out, records.as_slice())?;
-    let own = of_line(records.as_slice(), line);
-    match writeln!(out, "of line {line}: {own}") {
-        Ok(()) => Ok(()),
-        Err(_) => Err(Ended::OutOfMemory),
+    match records {
+        Ok(records) => put_own(alloc, out, records.as_slice(), line),
+        Err(_) => out.give_up(),
     }
 }
 
 /// Puts how many records a pass is told that there are.
-fn put_length(out: &mut String, length: u64) -> Result<(), Ended> {
-    match writeln!(out, "length by the other pass: {length}") {
-        Ok(()) => Ok(()),
-        Err(_) => Err(Ended::OutOfMemory),
-    }
+fn put_length(out: &mut Told, length: u64) {
+    out.put("length by the other pass: ");
+    out.put_number(length);
+    out.put("\n");
 }
 
 /// Makes a request of a user who is not on by one of two passes, and puts what both have met then.
 fn put_meeting<N: GateName, R: Wait + Dial>(
     rt: &R,
     alloc: Global,
-    out: &mut String,
+    out: &mut Told,
     shared: &SharedGate<Gate, N>,
     passes: (Ticket<N>, Ticket<N>),
-) -> Result<(), Ended> {
+) {
     let (one, mut other) = passes;
     let asked = request(Role::Trader, 0);
     let (one, _outcome) = shared.act(rt, one, ALICE, asked, rt.moment());
     let length = shared.length(&mut other);
     let (one, other) = shared.meet(rt, one, other);
-    let first = put_length(out, length);
-    let second = put_met(rt, alloc, out, shared, one);
-    let third = put_met(rt, alloc, out, shared, other);
-    first.and(second).and(third)
+    put_length(out, length);
+    put_met(rt, alloc, out, shared, one);
+    put_met(rt, alloc, out, shared, other);
+}
+
+/// Logs in, and again where that was refused.
+fn log_in_again<D: Door, R: Wait + Dial>(
+    rt: &R,
+    door: &D,
+    caller: Caller,
+    pass: D::Ticket,
+) -> D::Ticket {
+    let mut pass = pass;
+    let before = door.length(&mut pass);
+    let mut pass = log_in(rt, door, caller, pass);
+    if door.length(&mut pass) > before {
+        pass
+    } else {
+        log_in(rt, door, caller, pass)
+    }
+}
+
+/// Makes a request, and again where it was refused. `None` where a refused one left a record, or was refused again.
+fn act_again<D: Door, R: Wait + Dial>(
+    rt: &R,
+    door: &D,
+    pass: D::Ticket,
+    user: UserName,
+    order: EnterOrder,
+) -> (D::Ticket, Option<Outcome>) {
+    let mut pass = pass;
+    let before = door.length(&mut pass);
+    let (mut pass, answer) = door.act(rt, pass, user, Request::Enter(order), rt.moment());
+    if answer.is_ok() || door.length(&mut pass) > before {
+        return (pass, answer.ok());
+    }
+    let (pass, answer) = door.act(rt, pass, user, Request::Enter(order), rt.moment());
+    (pass, answer.ok())
+}
+
+/// Puts which record a request has left.
+fn put_outcome(out: &mut Told, outcome: Option<Outcome>) {
+    match outcome {
+        Some(outcome) => {
+            out.put("record ");
+            out.put_number(outcome.number);
+            out.put("\n");
+        }
+        None => out.put_line("no record"),
+    }
+}
+
+/// Makes a trader's orders, each again where it was refused, and puts which records they have left.
+fn put_again<D: Door, R: Wait + Dial>(rt: &R, out: &mut Told, door: &D, pass: D::Ticket) {
+    let [alice, _, _] = CALLERS;
+    let mut pass = log_in_again(rt, door, alice, pass);
+    for number in 0..3 {
+        let (back, outcome) = act_again(rt, door, pass, ALICE, order(number));
+        pass = back;
+        put_outcome(out, outcome);
+    }
 }
 
 /// Makes the calls of three callers at once, and puts how they are on record.
 fn put_three<N: GateName + Send + Sync, R: Threads + Wait + Dial + Sync>(
     rt: &R,
     alloc: Global,
-    out: &mut String,
+    out: &mut Told,
     shared: &SharedGate<Gate, N>,
     passes: (Ticket<N>, Ticket<N>, Ticket<N>),
-) -> Result<(), Ended> {
+) {
     let Some((first, second, (pass, numbers))) = call_at_once(rt, alloc, shared, passes) else {
-        return Err(Ended::OutOfMemory);
+        return out.give_up();
     };
     let (pass, records) = shared.records(rt, pass, 1, u64::MAX);
-    put_called(out, records?.as_slice(), &(first, second, (pass, numbers)))
+    match records {
+        Ok(records) => put_called(out, records.as_slice(), &(first, second, (pass, numbers))),
+        Err(_) => out.give_up(),
+    }
 }
 
 /// What is called.
 #[derive(Clone, Copy)]
-enum Act {
+pub(crate) enum Act {
     /// Pulls on two lines.
     Pulls,
     /// A request, and what two passes meet of it.
     Meeting,
+    /// Orders, each again where it was refused.
+    Again,
     /// Three callers at once.
     Three,
 }
 
 impl Act {
-    /// What is printed before it.
-    fn title(self) -> &'static str {
-        match self {
-            Act::Pulls => "A login on one of two lines, and pulls on both:\n",
-            Act::Meeting => {
-                "A request of a user who is not logged in, and what another pass meets of it:\n"
-            }
-            Act::Three => {
-                "Two traders with a hundred orders each, and an officer who kills and lifts, in three threads:\n"
-            }
+    /// What goes by this name.
+    pub(crate) fn named(name: &str) -> Act {
+        match name {
+            "pulls" => Act::Pulls,
+            "meeting" => Act::Meeting,
+            "again" => Act::Again,
+            _ => Act::Three,
         }
     }
+}
+
+/// Three passes, each of a line of its own; `None` where there are no more.
+fn three_passes<I: Issuer, R: Wait>(
+    rt: &R,
+    issuer: &mut I,
+) -> Option<(I::Ticket, I::Ticket, I::Ticket)> {
+    let one = issuer.issue(rt).ok()?;
+    let two = issuer.issue(rt).ok()?;
+    let three = issuer.issue(rt).ok()?;
+    Some((one, two, three))
 }
 
 /// Makes the calls at a gate, and puts what comes of them.
 fn put_act<N: GateName + Send + Sync, R: Threads + Wait + Clock + Dial + Sync>(
     rt: &R,
     alloc: Global,
-    out: &mut String,
+    out: &mut Told,
     shared: &SharedGate<Gate, N>,
     permits: Permits<N>,
     act: Act,
-) -> Result<(), Ended> {
-    put(out, act.title())?;
+) {
     let mut entrance = Entrance::new(shared, permits);
-    let passes = three_passes(rt, &mut entrance)?;
+    let Some(passes) = three_passes(rt, &mut entrance) else {
+        return out.give_up();
+    };
     match act {
         Act::Pulls => put_pulls(rt, out, shared, (passes.0, passes.1)),
         Act::Meeting => put_meeting(rt, alloc, out, shared, (passes.0, passes.1)),
+        Act::Again => put_again(rt, out, shared, passes.0),
         Act::Three => put_three(rt, alloc, out, shared, passes),
     }
 }
 
-/// Makes the calls at a gate, and puts what comes of them and of its audit.
-fn act_at<N: GateName + Send + Sync, R: Threads + Wait + Clock + Dial + Sync>(
+/// Makes the calls at a gate, on a clock that stands still, and puts what comes of them and of its audit.
+pub(crate) fn act_at<N: GateName + Send + Sync, R: Threads + Wait + Clock + Sync>(
     rt: &R,
     alloc: Global,
-    out: &mut String,
+    out: &mut Told,
     policy: &Policy,
     shared: SharedGate<Gate, N>,
     permits: Permits<N>,
     pass: Ticket<N>,
     act: Act,
-) -> Result<(), Ended> {
-    let told = put_act(rt, alloc, out, &shared, permits, act);
-    let (gate, _met, _total) = shared.close(pass);
-    let legal = put_legal(alloc, out, &gate, policy);
-    gate.close();
-    told?;
-    legal?;
-    Ok(())
-}
-
-/// Makes the calls at a gate of its own, and puts what comes of them.
-fn act_named<N: GateName + Send + Sync, R: Threads + Wait + Clock + Dial + Sync>(
-    rt: &R,
-    alloc: Global,
-    out: &mut String,
-    policy: &Policy,
-    blank: Blank,
-    ledger: ledger::Blank,
-    act: Act,
-) -> Result<(), Ended>
-    requires policy { policy.now ≡ N.policy }
-    requires blank { blank ≡ N.table }
-    requires name { ledger.name ≡ N.name }
-    requires parts { ledger.parts ≡ N.parts }
-    requires all { ledger.parts ≡ all_parts }
-{
-    let gate = Gate::open(alloc, policy)?;
-    match SharedGate::<Gate, N>::over(gate, blank, ledger) {
-        Ok((shared, permits, pass)) => act_at(rt, alloc, out, policy, shared, permits, pass, act),
-        Err(fault) => Err(Ended::Pass(fault)),
-    }
-}
-
-/// Makes the calls at a gate of its own.
-fn act_once<R: Threads + Wait + Clock + Dial + Sync>(
-    rt: &R,
-    alloc: Global,
-    out: &mut String,
-    policy: &Policy,
-    act: Act,
-) -> Result<(), Ended> {
-    act_named::<Brand, R>(
-        rt,
+) {
+    let (clock, looks) = (PlayClock::new(), Looks::new());
+    put_act(
+        &Timed::new(rt, &clock, &looks),
         alloc,
         out,
-        policy,
-        Blank::new(alloc)?,
-        blank_ledger(),
+        &shared,
+        permits,
         act,
-    )
-}
-
-/// Makes the calls under a policy, each kind at a gate of its own.
-fn run_acts<R: Threads + Wait + Clock + Dial + Sync>(
-    rt: &R,
-    alloc: Global,
-    out: &mut String,
-    policy: &Policy,
-) -> Result<(), Ended> {
-    act_once(rt, alloc, out, policy, Act::Pulls)?;
-    act_once(rt, alloc, out, policy, Act::Meeting)?;
-    act_once(rt, alloc, out, policy, Act::Three)
-}
-
-/// Makes the calls under the sample policy, on a date that stands still, and puts what comes of them.
-pub(crate) fn run_calls<R: Threads + Wait + Clock + Sync>(
-    rt: &R,
-    alloc: Global,
-    out: &mut String,
-) -> Result<(), Ended> {
-    let policy = sample_policy(alloc)?;
-    run_acts(&Still::new(rt), alloc, out, &policy)
+    );
+    let (gate, _met, _total) = shared.close(pass);
+    put_legal(alloc, out, &gate, policy);
+    gate.close();
 }

@@ -4,19 +4,18 @@ use crate::runs::End;
 use gx_core::Gate;
 use gx_devices::Counted;
 use gx_pipe::run_pipe_within;
-use gx_trials::{Endless, Limits, Sips, bytes_of, put, put_endless};
-use gx_units::OutOfMemory;
+use gx_trials::{Endless, Limits, Sips, Told, bytes_of, put_endless};
 use std::alloc::Global;
 
 /// Runs a connection that is sent the bytes again and again, with so many reads at most.
 fn run_endless(
     alloc: Global,
-    out: &mut String,
+    out: &mut Told,
     gate: &mut Gate,
     limits: Limits,
     most: u64,
     bytes: &[u8],
-) -> Result<(), OutOfMemory> {
+) {
     let mut reader = Counted::new(Endless::new(bytes, limits.piece));
     let mut writer = Counted::new(Sips::new(alloc, limits));
     let end = End::Pipe(run_pipe_within(alloc, gate, 1, &mut reader, &mut writer, most));
@@ -29,15 +28,15 @@ fn run_endless(
 /// ended, how often it read, and what was written, in hex.
 pub(crate) fn tell_endless(
     alloc: Global,
-    out: &mut String,
+    out: &mut Told,
     gate: &mut Gate,
     limits: Limits,
     most: &str,
     text: &str,
-) -> Result<(), OutOfMemory> {
+) {
     let Ok(most) = most.parse() else {
-        return put(out, "no such part\n");
+        return out.put("no such part\n");
     };
-    let bytes = bytes_of(alloc, text)?;
+    let bytes = bytes_of(alloc, out, text);
     run_endless(alloc, out, gate, limits, most, bytes.as_slice())
 }

@@ -1,5 +1,4 @@
-//! Runs the cases on standard input, and prints what each does; then runs threads over shared gates, makes calls at
-//! others, and prints what came of it.
+//! Runs the cases on standard input, and prints what each does.
 //!
 //! A case is a line `== TITLE`, which says what it shows, and parts up to the next case. A part is a line `-- KIND` and
 //! the lines behind it:
@@ -35,20 +34,29 @@
 //!   (`login`, `data HEX`, `heartbeat`, `debug`, `logout`, `accepted`, `rejected`, `pulled COUNT`, `pulled-last COUNT`,
 //!   `refused`, `tick`, `fault`, `end`). It is told what the session sends and what follows.
 //! - `-- play`, alone: cues, a line each, which are performed one after the other. Peers speak over lines in memory to the
-//!   server's own workers at a gate of their own; the clock shows what the cues say. It is told what was waited for in
-//!   vain, if anything was (the play ends there); the packets that each peer was sent, in hex, a line each, twelve of
-//!   them at most, and why his bytes are none; the records of the day, as they are shown to a person; and how many there
-//!   are in its audit, if that is a legal day's. The play's own pass is of line 1, and the first peer's of line 3.
-//!   `-- play-races`: so too, but for the records, which may come in more than one order.
+//!   server's own workers at a gate of their own, whose records are kept on a device in memory; the clock shows what the
+//!   cues say. It is told what was waited for in vain, if anything was (the play ends there); the packets that each peer
+//!   was sent, in hex, a line each, twelve of them at most, and why his bytes are none; the records of the day, as they
+//!   are shown to a person; and how many there are in its audit, if that is a legal day's. The journal has line 1, the
+//!   matcher line 2, whoever performs the play line 3, and the first peer line 4. `-- play-races`: so too, but for the
+//!   records, which may come in more than one order. `-- play-kept`, `-- play-kept PIECE READS ROOM`: the journal's device
+//!   takes so many bytes at a time, and so many in all. It is told how many reports each peer was sent, how many the user
+//!   of his name is owed, whether these are the same in order, and whether the journal is the audit; of a journal that
+//!   failed, whether all that was told is in it.
+//! - `-- calls pulls`, `-- calls meeting`, `-- calls again`, `-- calls three`, alone: calls at a shared gate of their own,
+//!   by passes of several lines, in one thread or in three. It is told what they answered, and what is on record of them;
+//!   of those that are made again where they are refused, as for want of memory, which records they leave.
 //!
 //! The cues of a play, of which NAME is a peer:
 //!
 //! - `clock MOMENT`: the clock shows this moment from now on, until each connection has done what it does then;
 //! - `open NAME`: a peer connects, until the server reads;
-//! - `NAME gives HEX`: he sends these bytes, until the server has read all and waits for more; `NAME repeats COUNT HEX`:
-//!   so often; `both NAME NAME HEX`: two peers do at once, after which all packets are told without names, sorted;
+//! - `NAME gives HEX`: he sends these bytes, until the server has read all and waits for more, or at the door; `NAME
+//!   repeats COUNT HEX`: he sends them so often, and nothing is waited for; `######` is the number of each, from 000 on;
+//!   `both NAME NAME HEX`: two peers give them at once, after which all packets are told without names, sorted;
 //! - `NAME ends HEX`: he sends these bytes and no more; `NAME ends`: no more;
 //! - `NAME takes nothing`: what the server writes to him has to wait from now on; `NAME takes all`: no longer;
+//! - `NAME asks nothing`: his requests have to wait at the door from now on; `NAME asks all`: no longer;
 //! - `NAME hears COUNT`: waits until he was sent so many packets in all, and the server has done what comes of it;
 //! - `NAME is finished`: waits until the server has said that it writes no more to him; `NAME is cut`: until he is hung up;
 //! - `records COUNT`: waits until there are so many records;
@@ -68,49 +76,46 @@ mod alone;
 mod audits;
 mod calls;
 mod endless;
-mod keeping;
 mod plays;
 mod policies;
 mod runs;
-mod threads;
+mod shown;
 
-use calls::run_calls;
+use calls::Act;
 use gx_answers::AccessGate;
 use gx_core::Gate;
 use gx_policy::Policy;
 use gx_policyfile::read_policy;
 use gx_server::{open_gate, sample_policy, told_of_policy};
 use gx_trials::{
-    BYTE_BY_BYTE, LARGE, Limits, bytes_of, changed_sample, halves, put_both, put_bytes, put_rules,
+    BYTE_BY_BYTE, LARGE, Limits, Told, bytes_of, changed_sample, halves, put_both, put_rules,
     put_title,
 };
-use gx_units::OutOfMemory;
 use plays::tell_play;
 use policies::{put_fault, put_migrated};
 use runs::tell_parts;
+use shown::{Shown, show};
 use std::alloc::Global;
 use std::io;
 use std::io::Read as _;
 use std::sync::Wait;
 use std::thread::Threads;
 use std::time::Clock;
-use threads::run_threads;
 
 /// Runs the parts on a new gate: under the policy of the file, if there is one. `policy` is what the gate opens on.
 fn run_once(
     alloc: Global,
-    out: &mut String,
+    out: &mut Told,
     file: Option<&[u8]>,
     policy: &Policy,
     parts: &str,
     usual: Limits,
-) -> Result<(), OutOfMemory> {
+) {
     match open_gate::<Gate>(alloc, file) {
         Ok(gate) => {
             let mut gate = gate;
-            let told = tell_parts(alloc, out, &mut gate, policy, parts, usual);
+            tell_parts(alloc, out, &mut gate, policy, parts, usual);
             gate.close();
-            told
         }
         Err(fault) => put_fault(out, &fault),
     }
@@ -119,59 +124,41 @@ fn run_once(
 /// Runs the parts byte by byte, behind what was told of them with large pieces.
 fn run_byte_by_byte(
     alloc: Global,
-    out: &mut String,
+    out: &mut Told,
     file: Option<&[u8]>,
     policy: &Policy,
     parts: &str,
-    large: &str,
-) -> Result<(), OutOfMemory> {
-    let mut told = String::new(alloc);
-    run_once(alloc, &mut told, file, policy, parts, BYTE_BY_BYTE)?;
-    put_both(out, large, told.as_str())
+    large: &Told,
+) {
+    let mut told = Told::new(alloc);
+    run_once(alloc, &mut told, file, policy, parts, BYTE_BY_BYTE);
+    put_both(out, large, &told)
 }
 
 /// Runs the parts over devices of both kinds.
-fn run(
-    alloc: Global,
-    out: &mut String,
-    file: Option<&[u8]>,
-    policy: &Policy,
-    parts: &str,
-) -> Result<(), OutOfMemory> {
-    let mut told = String::new(alloc);
-    run_once(alloc, &mut told, file, policy, parts, LARGE)?;
-    run_byte_by_byte(alloc, out, file, policy, parts, told.as_str())
+fn run(alloc: Global, out: &mut Told, file: Option<&[u8]>, policy: &Policy, parts: &str) {
+    let mut told = Told::new(alloc);
+    run_once(alloc, &mut told, file, policy, parts, LARGE);
+    run_byte_by_byte(alloc, out, file, policy, parts, &told)
 }
 
 /// Tells the rules of a policy, and runs the parts under its file.
-fn run_ruled(
-    alloc: Global,
-    out: &mut String,
-    file: &[u8],
-    policy: &Policy,
-    parts: &str,
-) -> Result<(), OutOfMemory> {
-    put_rules(out, policy)?;
+fn run_ruled(alloc: Global, out: &mut Told, file: &[u8], policy: &Policy, parts: &str) {
+    put_rules(out, policy);
     run(alloc, out, Some(file), policy, parts)
 }
 
 /// Puts how much a policy file holds, tells its rules, and runs the parts under it.
-fn run_under(
-    alloc: Global,
-    out: &mut String,
-    line: &[u8],
-    file: &[u8],
-    parts: &str,
-) -> Result<(), OutOfMemory> {
-    put_bytes(out, line)?;
+fn run_under(alloc: Global, out: &mut Told, line: &[u8], file: &[u8], parts: &str) {
+    out.put_bytes(line);
     match read_policy(alloc, file) {
         Ok(policy) => run_ruled(alloc, out, file, &policy, parts),
-        Err(_) => Err(OutOfMemory),
+        Err(_) => out.give_up(),
     }
 }
 
 /// Tells of a policy file, and runs the parts under it.
-fn tell_file(alloc: Global, out: &mut String, file: &[u8], parts: &str) -> Result<(), OutOfMemory> {
+fn tell_file(alloc: Global, out: &mut Told, file: &[u8], parts: &str) {
     match told_of_policy(alloc, file) {
         Ok(line) => run_under(alloc, out, line.as_slice(), file, parts),
         Err(fault) => put_fault(out, &fault),
@@ -179,44 +166,39 @@ fn tell_file(alloc: Global, out: &mut String, file: &[u8], parts: &str) -> Resul
 }
 
 /// Tells of a policy file whose bytes are in hex, and runs the parts under it.
-fn tell_hex_file(
-    alloc: Global,
-    out: &mut String,
-    text: &str,
-    parts: &str,
-) -> Result<(), OutOfMemory> {
-    let file = bytes_of(alloc, text)?;
+fn tell_hex_file(alloc: Global, out: &mut Told, text: &str, parts: &str) {
+    let file = bytes_of(alloc, out, text);
     tell_file(alloc, out, file.as_slice(), parts)
 }
 
 /// Tells of the sample policy's file as it was changed, and runs the parts under it.
-fn tell_changed_sample(
-    alloc: Global,
-    out: &mut String,
-    change: &str,
-    parts: &str,
-) -> Result<(), OutOfMemory> {
-    let file = changed_sample(alloc, change)?;
-    tell_file(alloc, out, file.as_bytes(), parts)
+fn tell_changed_sample(alloc: Global, out: &mut Told, change: &str, parts: &str) {
+    match changed_sample(alloc, change) {
+        Ok(file) => tell_file(alloc, out, file.as_bytes(), parts),
+        Err(_) => out.give_up(),
+    }
 }
 
 /// Runs a case: its first part may be a policy, and may be a play.
 fn answer<R: Threads + Wait + Clock + Sync>(
     rt: &R,
     alloc: Global,
-    out: &mut String,
+    out: &mut Told,
     sample: &Policy,
     parts: &str,
-) -> Result<(), OutOfMemory> {
+) {
     let (first, rest) = halves(parts, "\n-- ");
-    let (kind, text) = halves(first, "\n");
+    let (head, text) = halves(first, "\n");
+    let (kind, words) = halves(head, " ");
     match kind {
         "policy" => tell_file(alloc, out, text.as_bytes(), rest),
         "policy-in-hex" => tell_hex_file(alloc, out, text, rest),
         "migrate" => put_migrated(alloc, out, text.as_bytes()),
         "sample" => tell_changed_sample(alloc, out, text, rest),
-        "play" => tell_play(rt, alloc, out, sample, text, true),
-        "play-races" => tell_play(rt, alloc, out, sample, text, false),
+        "play" | "play-races" | "play-kept" => {
+            tell_play(rt, alloc, out, sample, kind, words, text)
+        }
+        "calls" => show(rt, alloc, out, sample, Shown::Calls(Act::named(words))),
         _ => run(alloc, out, None, sample, parts),
     }
 }
@@ -225,12 +207,12 @@ fn answer<R: Threads + Wait + Clock + Sync>(
 fn answer_case<R: Threads + Wait + Clock + Sync>(
     rt: &R,
     alloc: Global,
-    out: &mut String,
+    out: &mut Told,
     sample: &Policy,
     case: &str,
-) -> Result<(), OutOfMemory> {
+) {
     let (title, parts) = halves(case, "\n-- ");
-    put_title(out, title)?;
+    put_title(out, title);
     answer(rt, alloc, out, sample, parts)
 }
 
@@ -238,40 +220,37 @@ fn answer_case<R: Threads + Wait + Clock + Sync>(
 fn answer_all<R: Threads + Wait + Clock + Sync>(
     rt: &R,
     alloc: Global,
-    out: &mut String,
+    out: &mut Told,
     sample: &Policy,
     text: &str,
-) -> Result<(), OutOfMemory> {
+) {
     for case in text.split("\n== ") {
-        answer_case(rt, alloc, out, sample, case)?;
+        answer_case(rt, alloc, out, sample, case);
     }
-    Ok(())
 }
 
 /// Runs the cases of a text, most of them under the sample policy.
 fn answer_text<R: Threads + Wait + Clock + Sync>(
     rt: &R,
     alloc: Global,
-    out: &mut String,
+    out: &mut Told,
     text: &str,
-) -> Result<(), OutOfMemory> {
-    let sample = sample_policy(alloc)?;
-    answer_all(rt, alloc, out, &sample, text)
+) {
+    match sample_policy(alloc) {
+        Ok(sample) => answer_all(rt, alloc, out, &sample, text),
+        Err(_) => out.give_up(),
+    }
 }
 
 fn main(rt: HostRuntime) -> io::Result<()> {
     let alloc: Global = rt.alloc();
     let mut text = String::new(alloc);
     rt.reader().read_to_string(&mut text)?;
-    let mut out = String::new(alloc);
-    if answer_text(&rt, alloc, &mut out, text.as_str()).is_err() {
+    let mut told = Told::new(alloc);
+    answer_text(&rt, alloc, &mut told, text.as_str());
+    if !told.is_whole() {
         return Err(io::Error::from(io::ErrorKind::OutOfMemory));
     }
-    if let Err(ended) = run_threads(&rt, alloc, &mut out) {
-        print!(rt; "{ended}\n")?;
-    }
-    if let Err(ended) = run_calls(&rt, alloc, &mut out) {
-        print!(rt; "{ended}\n")?;
-    }
+    let out = told.as_str();
     print!(rt; "{out}")
 }

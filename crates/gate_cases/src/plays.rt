@@ -1,150 +1,247 @@
-//! Plays: connections over lines in memory, served by the server's own workers at a shared gate, and what is told of them.
+//! Plays: connections over lines in memory, served by the server's own workers at a shared gate whose records are kept on
+//! a device in memory, and what is told of them.
 
-ghost use Rattle.std.specs.Prelude.{◌≡◌};
-ghost use Rattle.gx_shared.specs.Permits.{all_parts};
+ghost use Rattle.std.specs.Prelude.{◌≡◌, []};
 
-use crate::audits::tell_shown;
+use crate::audits::{audit_in, tell_shown};
+use crate::shown::{Shown, show};
 use gx_answers::AccessGate;
-use gx_audit::{audit_of, check_audit};
+use gx_audit::{Resumed, check_audit, resume};
 use gx_audit_bytes::AuditVersion::Two;
+use gx_audit_bytes::write_header;
 use gx_core::Gate;
-use gx_pass::{Blank, GateName};
-use gx_plays::{House, Script, Stage, Vain, play, tell_packets, tell_vain};
+use gx_door::{Door, Issuer};
+use gx_journal::Journaled;
+use gx_pass::GateName;
+use gx_plays::{House, Script, Stage, Vain, are_owed, play, tell_owed, tell_packets, tell_vain};
 use gx_policy::Policy;
-use gx_shared::{Entrance, Permits, SharedGate, Ticket, blank_ledger};
-use gx_trials::{LARGE, put};
+use gx_shared::{Entrance, Kept, Permits, SharedGate, Ticket, close_kept};
+use gx_trials::{LARGE, Limits, Sips, Told, limits_of};
 use gx_units::OutOfMemory;
 use std::alloc::Global;
-use std::fmt::Write;
 use std::marker::Brand;
-use std::sync::{Wait, ledger};
+use std::sync::Wait;
 use std::thread::Threads;
 use std::time::Clock;
 
+/// What is told of a play.
+#[derive(Clone, Copy)]
+enum Telling {
+    /// What each peer was sent, and the records of the day, which have one order alone.
+    All,
+    /// What each peer was sent, and how many records there are.
+    Packets,
+    /// How the reports that each peer was sent stand to those that he is owed, and the journal to the audit.
+    Kept,
+}
+
+/// A play, what is told of it, and how far the journal's device goes.
+#[derive(Clone, Copy)]
+pub(crate) struct Setting<'a, 't> {
+    script: &'a Script<'t>,
+    telling: Telling,
+    limits: Limits,
+}
+
 /// Puts how many records the gate's audit is found to have.
-pub(crate) fn put_legal(
-    alloc: Global,
-    out: &mut String,
-    gate: &Gate,
-    policy: &Policy,
-) -> Result<(), OutOfMemory> {
-    let audit = audit_of(alloc, Two, gate)?;
+pub(crate) fn put_legal(alloc: Global, out: &mut Told, gate: &Gate, policy: &Policy) {
+    let audit = audit_in(alloc, out, Two, gate);
     match check_audit::<Gate>(alloc, policy, audit.as_slice()) {
         Ok(count) => {
-            writeln!(out, "legal {count}")?;
-            Ok(())
+            out.put("legal ");
+            out.put_number(count);
+            out.put("\n");
         }
-        Err(_) => put(out, "not legal\n"),
+        Err(_) => out.put("not legal\n"),
     }
 }
 
-/// Puts the records of the day, as they are shown to a person, where they have one order alone, and how many the gate's
-/// audit is found to have.
-fn put_day(
+/// The journal's file: the policy's header, and what was written behind it.
+fn journal_of(alloc: Global, policy: &Policy, written: &[u8]) -> Result<Vec<u8>, OutOfMemory> {
+    let mut file = Vec::from_slice(alloc, &write_header(policy))?;
+    file.extend_from_slice(written)?;
+    Ok(file)
+}
+
+/// Puts whether the journal's file is the gate's audit.
+fn put_whole(alloc: Global, out: &mut Told, gate: &Gate, file: &[u8]) {
+    let audit = audit_in(alloc, out, Two, gate);
+    if audit.as_slice() == file {
+        out.put("the journal is the audit\n")
+    } else {
+        out.put("the journal is not the audit\n")
+    }
+}
+
+/// Puts whether all that peers were told of is in the journal's day, which this gate has.
+fn put_told<R: Wait>(rt: &R, alloc: Global, out: &mut Told, gate: &Gate, script: &Script<'_>) {
+    match are_owed(rt, alloc, gate, script) {
+        Ok(true) => out.put("all that was told is in the journal\n"),
+        Ok(false) => out.put("something was told that is not in the journal\n"),
+        Err(_) => out.give_up(),
+    }
+}
+
+/// Puts whether all that peers were told of is in the file of a journal that failed.
+fn put_failed<R: Wait>(
+    rt: &R,
     alloc: Global,
-    out: &mut String,
-    gate: &Gate,
+    out: &mut Told,
     policy: &Policy,
+    file: &[u8],
     script: &Script<'_>,
-) -> Result<(), OutOfMemory> {
-    if script.is_ordered() {
-        tell_shown(alloc, out, Two, gate, policy, LARGE, "")?;
+) {
+    out.put("the journal failed\n");
+    let Ok(Resumed { gate, kept: _ }) = resume::<Gate>(alloc, policy, file) else {
+        return out.put("the journal is not legal\n");
+    };
+    put_told(rt, alloc, out, &gate, script);
+    gate.close();
+}
+
+/// What a play left: the gate, whether its journal failed, and what the journal's device has taken.
+#[derive(Clone, Copy)]
+struct Left<'a> {
+    gate: &'a Gate,
+    has_failed: bool,
+    written: &'a [u8],
+}
+
+/// Puts how the reports that each peer was sent stand to those that he is owed, and the journal to the audit.
+fn put_kept<R: Wait>(
+    rt: &R,
+    alloc: Global,
+    out: &mut Told,
+    policy: &Policy,
+    left: Left<'_>,
+    script: &Script<'_>,
+) {
+    let Ok(file) = journal_of(alloc, policy, left.written) else {
+        return out.give_up();
+    };
+    if left.has_failed {
+        return put_failed(rt, alloc, out, policy, file.as_slice(), script);
+    }
+    tell_owed(rt, alloc, out, left.gate, script);
+    put_legal(alloc, out, left.gate, policy);
+    put_whole(alloc, out, left.gate, file.as_slice())
+}
+
+/// Puts what each peer was sent, and the records of the day where they have one order alone, or how many they are.
+fn put_day<R: Wait>(
+    rt: &R,
+    alloc: Global,
+    out: &mut Told,
+    policy: &Policy,
+    gate: &Gate,
+    setting: Setting<'_, '_>,
+) {
+    tell_packets(rt, alloc, setting.script, out);
+    if let Telling::All = setting.telling {
+        tell_shown(alloc, out, Two, gate, policy, LARGE, "");
     }
     put_legal(alloc, out, gate, policy)
 }
 
-/// Performs a play, whose matcher has this pass, and puts what its peers were sent. Gives the pass back; `None` where no
-/// thread could be made.
-fn perform<N: GateName + Send + Sync, R: Threads + Wait + Clock + Sync>(
-    rt: &R,
-    alloc: Global,
-    out: &mut String,
-    shared: &SharedGate<Gate, N>,
-    permits: Permits<N>,
-    pass: Ticket<N>,
-    script: &Script<'_>,
-) -> Option<(Ticket<N>, Result<(), OutOfMemory>)> {
-    let house = House::new(rt, alloc, shared);
-    let stage = Stage::new(&house, script);
-    let (pass, vain) = play(&stage, Entrance::new(shared, permits), pass)?;
-    Some((pass, tell(rt, alloc, out, script, vain)))
-}
-
-/// Puts what was waited for in vain, and what the peers were sent.
+/// Puts what was waited for in vain, and what else is told of a play.
 fn tell<R: Wait>(
     rt: &R,
     alloc: Global,
-    out: &mut String,
-    script: &Script<'_>,
-    vain: Vain,
-) -> Result<(), OutOfMemory> {
-    tell_vain(out, script, vain)?;
-    tell_packets(rt, alloc, script, out)
+    out: &mut Told,
+    policy: &Policy,
+    left: Left<'_>,
+    setting: Setting<'_, '_>,
+    vain: Option<Vain>,
+) {
+    let Some(vain) = vain else {
+        return out.give_up();
+    };
+    tell_vain(out, setting.script, vain);
+    match setting.telling {
+        Telling::All | Telling::Packets => put_day(rt, alloc, out, policy, left.gate, setting),
+        Telling::Kept => put_kept(rt, alloc, out, policy, left, setting.script),
+    }
 }
 
-/// Performs a play at a gate, whose matcher has this pass, and tells of it.
-fn play_at<N: GateName + Send + Sync, R: Threads + Wait + Clock + Sync>(
+/// Performs a play at this door. Answers what was waited for in vain; `None` where no thread could be made.
+fn perform<
+    T: Drop + Send,
+    D: Door<Ticket = T> + Sync,
+    I: Issuer<Ticket = T> + Drop,
+    R: Threads + Wait + Clock + Sync,
+>(rt: &R, alloc: Global, door: &D, issuer: I, script: &Script<'_>) -> Option<Vain> {
+    let house = House::new(rt, alloc, door);
+    let stage = Stage::new(&house, script);
+    play(&stage, issuer)
+}
+
+/// Performs a play at a gate whose records are kept with this pass, and tells of it.
+pub(crate) fn play_at<N: GateName + Send + Sync, R: Threads + Wait + Clock + Sync>(
     rt: &R,
     alloc: Global,
-    out: &mut String,
+    out: &mut Told,
     policy: &Policy,
     shared: SharedGate<Gate, N>,
     permits: Permits<N>,
     pass: Ticket<N>,
-    script: &Script<'_>,
-) -> Result<(), OutOfMemory> {
-    let Some((pass, told)) = perform(rt, alloc, out, &shared, permits, pass, script) else {
-        shared.let_go();
-        return Err(OutOfMemory);
-    };
-    let (gate, _met, _total) = shared.close(pass);
-    let told = told.and(put_day(alloc, out, &gate, policy, script));
-    gate.close();
-    told
-}
-
-/// Performs a play at a gate of its own, and tells of it.
-fn play_named<N: GateName + Send + Sync, R: Threads + Wait + Clock + Sync>(
-    rt: &R,
-    alloc: Global,
-    out: &mut String,
-    policy: &Policy,
-    blank: Blank,
-    ledger: ledger::Blank,
-    script: &Script<'_>,
-) -> Result<(), OutOfMemory>
-    requires policy { policy.now ≡ N.policy }
-    requires blank { blank ≡ N.table }
-    requires name { ledger.name ≡ N.name }
-    requires parts { ledger.parts ≡ N.parts }
-    requires all { ledger.parts ≡ all_parts }
+    setting: Setting<'_, '_>,
+)
+    requires front { pass.held.front ≡ [] }
+    requires none_added { pass.added ≡ 0 }
 {
-    let gate = Gate::open(alloc, policy)?;
-    match SharedGate::<Gate, N>::over(gate, blank, ledger) {
-        Ok((shared, permits, pass)) => play_at(
-            rt, alloc, out, policy, shared, permits, pass, script,
-        ),
-        Err(_) => Err(OutOfMemory),
-    }
+    let device = Sips::new(alloc, setting.limits);
+    let door: Journaled<'_, SharedGate<Gate, N>, Sips, Brand> = Journaled::new(
+        alloc, &shared, pass, 0, device,
+    );
+    let vain = perform(
+        rt,
+        alloc,
+        &door,
+        Entrance::new(&shared, permits),
+        setting.script,
+    );
+    let journal = door.into_journal();
+    let (kept, _met, _total) = close_kept(shared, journal);
+    let Kept {
+        gate,
+        fault,
+        device,
+    } = kept;
+    let left = Left {
+        gate: &gate,
+        has_failed: fault.is_some(),
+        written: device.taken.as_slice(),
+    };
+    tell(rt, alloc, out, policy, left, setting, vain);
+    gate.close();
 }
 
-/// Performs a play at a gate of its own, and tells of it: of its records too, where they have one order alone.
+/// Performs a play at a gate of its own, and tells of it as its kind says; the words are the limits of the journal's
+/// device, where it has any.
 pub(crate) fn tell_play<R: Threads + Wait + Clock + Sync>(
     rt: &R,
     alloc: Global,
-    out: &mut String,
+    out: &mut Told,
     policy: &Policy,
+    kind: &str,
+    words: &str,
     text: &str,
-    ordered: bool,
-) -> Result<(), OutOfMemory> {
-    let script = Script::new(alloc, text, ordered)?;
-    play_named::<Brand, R>(
-        rt,
-        alloc,
-        out,
-        policy,
-        Blank::new(alloc)?,
-        blank_ledger(),
-        &script,
-    )
+) {
+    let telling = match kind {
+        "play" => Telling::All,
+        "play-races" => Telling::Packets,
+        _ => Telling::Kept,
+    };
+    let Some(limits) = limits_of(words, LARGE) else {
+        return out.put("no such part\n");
+    };
+    let Ok(script) = Script::new(alloc, text) else {
+        return out.give_up();
+    };
+    let setting = Setting {
+        script: &script,
+        telling,
+        limits,
+    };
+    show(rt, alloc, out, policy, Shown::Play(setting))
 }

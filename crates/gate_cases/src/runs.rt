@@ -14,12 +14,10 @@ use gx_policy::Policy;
 use gx_scripting::{Explained, run_script};
 use gx_server::Noted;
 use gx_trials::{
-    Drips, Ended, Kind, Limits, Sips, bytes_of, halves, limits_of, put_hex, put_records,
+    Drips, Ended, Kind, Limits, Sips, Told, bytes_of, halves, limits_of, put_hex, put_records,
     tell_in_turn, tell_session, tell_varied, text_of,
 };
-use gx_units::OutOfMemory;
 use std::alloc::Global;
-use std::fmt::Write;
 use std::io::Read;
 use std::{fmt, io};
 
@@ -96,50 +94,29 @@ pub(crate) fn run_on(
 }
 
 /// Puts the verdicts of the records from this number on, a line each.
-pub(crate) fn put_verdicts(
-    alloc: Global,
-    out: &mut String,
-    gate: &Gate,
-    from: u64,
-) -> Result<(), OutOfMemory> {
-    let records = gate.records(from, u64::MAX)?;
-    put_records(alloc, out, records.as_slice())
+pub(crate) fn put_verdicts(alloc: Global, out: &mut Told, gate: &Gate, from: u64) {
+    match gate.records(from, u64::MAX) {
+        Ok(records) => put_records(alloc, out, records.as_slice()),
+        Err(_) => out.give_up(),
+    }
 }
 
 /// Puts the verdicts of a connection's records from this number on, the bytes written, in hex, and how it ended.
-fn put_piped(
-    alloc: Global,
-    out: &mut String,
-    gate: &Gate,
-    from: u64,
-    ended: &Ended<End>,
-) -> Result<(), OutOfMemory> {
-    put_verdicts(alloc, out, gate, from)?;
-    put_hex(alloc, out, ended.written.as_slice())?;
+fn put_piped(alloc: Global, out: &mut Told, gate: &Gate, from: u64, ended: &Ended<End>) {
+    put_verdicts(alloc, out, gate, from);
+    put_hex(alloc, out, ended.written.as_slice());
     ended.put(out)
 }
 
 /// Runs a connection, and tells of it: the verdicts of its records, and the bytes written, in hex.
-fn tell_pipe(
-    alloc: Global,
-    out: &mut String,
-    gate: &mut Gate,
-    limits: Limits,
-    input: &[u8],
-) -> Result<(), OutOfMemory> {
+fn tell_pipe(alloc: Global, out: &mut Told, gate: &mut Gate, limits: Limits, input: &[u8]) {
     let from = gate.length().saturating_add(1);
     let ended = run_on(Kind::Pipe, alloc, gate, limits, input);
     put_piped(alloc, out, gate, from, &ended)
 }
 
 /// Runs a script, and tells of it: what it printed.
-fn tell_script(
-    alloc: Global,
-    out: &mut String,
-    gate: &mut Gate,
-    limits: Limits,
-    input: &[u8],
-) -> Result<(), OutOfMemory> {
+fn tell_script(alloc: Global, out: &mut Told, gate: &mut Gate, limits: Limits, input: &[u8]) {
     let ended = run_on(Kind::Script, alloc, gate, limits, input);
     ended.put_printed(out)
 }
@@ -154,13 +131,7 @@ fn step_again(alloc: Global, gate: &mut Gate, limits: Limits, line: &str) {
 }
 
 /// Makes the steps of a script's lines, each again where it is refused, and tells of the verdicts of their records.
-fn tell_again(
-    alloc: Global,
-    out: &mut String,
-    gate: &mut Gate,
-    limits: Limits,
-    text: &str,
-) -> Result<(), OutOfMemory> {
+fn tell_again(alloc: Global, out: &mut Told, gate: &mut Gate, limits: Limits, text: &str) {
     let from = gate.length().saturating_add(1);
     for line in text.lines() {
         step_again(alloc, gate, limits, line);
@@ -171,13 +142,13 @@ fn tell_again(
 /// Runs a connection or a script whose bytes are in hex, and tells of it.
 fn tell_in_hex(
     alloc: Global,
-    out: &mut String,
+    out: &mut Told,
     gate: &mut Gate,
     kind: &str,
     limits: Limits,
     text: &str,
-) -> Result<(), OutOfMemory> {
-    let input = bytes_of(alloc, text)?;
+) {
+    let input = bytes_of(alloc, out, text);
     match kind {
         "pipe" => tell_pipe(alloc, out, gate, limits, input.as_slice()),
         _ => tell_script(alloc, out, gate, limits, input.as_slice()),
@@ -187,12 +158,12 @@ fn tell_in_hex(
 /// Runs a part on the case's gate, over devices of these limits.
 fn tell_run(
     alloc: Global,
-    out: &mut String,
+    out: &mut Told,
     gate: &mut Gate,
     kind: &str,
     limits: Limits,
     text: &str,
-) -> Result<(), OutOfMemory> {
+) {
     match kind {
         "script" => tell_script(alloc, out, gate, limits, text.as_bytes()),
         "again" => tell_again(alloc, out, gate, limits, text),
@@ -204,14 +175,14 @@ fn tell_run(
 /// Tells of the audit of the case's gate, or of its records.
 fn tell_audited(
     alloc: Global,
-    out: &mut String,
+    out: &mut Told,
     gate: &Gate,
     policy: &Policy,
     kind: &str,
     words: &str,
     text: &str,
     usual: Limits,
-) -> Result<(), OutOfMemory> {
+) {
     match kind {
         "audit-1" => tell_audit_1(alloc, out, gate),
         "check" => tell_checks(alloc, out, One, gate, policy, text),
@@ -224,12 +195,12 @@ fn tell_audited(
 /// Runs a part of a case: its first line says what it is, and names limits where it has its own.
 fn tell_part(
     alloc: Global,
-    out: &mut String,
+    out: &mut Told,
     gate: &mut Gate,
     policy: &Policy,
     part: &str,
     usual: Limits,
-) -> Result<(), OutOfMemory> {
+) {
     let (head, text) = halves(part, "\n");
     let (kind, words) = halves(head, " ");
     match (kind, limits_of(words, usual)) {
@@ -249,42 +220,43 @@ fn tell_part(
 }
 
 /// Puts which users are logged in, and on which line.
-fn put_users(out: &mut String, gate: &Gate, policy: &Policy) -> Result<(), OutOfMemory> {
+fn put_users(out: &mut Told, gate: &Gate, policy: &Policy) {
     for user in policy.users() {
         if let Some(line) = gate.on(user.name) {
-            let name = text_of(&user.name.bytes);
-            writeln!(out, "on: {name} {line}")?;
+            out.put("on: ");
+            out.put(text_of(&user.name.bytes));
+            out.put(" ");
+            out.put_number(u64::from(line));
+            out.put("\n");
         }
     }
-    Ok(())
 }
 
 /// Puts which accounts are killed.
-fn put_accounts(out: &mut String, gate: &Gate, policy: &Policy) -> Result<(), OutOfMemory> {
+fn put_accounts(out: &mut Told, gate: &Gate, policy: &Policy) {
     for account in policy.accounts() {
         if gate.is_killed(account.name) {
-            let name = text_of(&account.name.bytes);
-            writeln!(out, "killed: {name}")?;
+            out.put("killed: ");
+            out.put_line(text_of(&account.name.bytes));
         }
     }
-    Ok(())
 }
 
 /// Runs the parts of a case on a gate, one after the other; there may be none.
 pub(crate) fn tell_parts(
     alloc: Global,
-    out: &mut String,
+    out: &mut Told,
     gate: &mut Gate,
     policy: &Policy,
     parts: &str,
     usual: Limits,
-) -> Result<(), OutOfMemory> {
+) {
     if parts.is_empty() {
-        return Ok(());
+        return;
     }
     for part in parts.split("\n-- ") {
-        tell_part(alloc, out, gate, policy, part, usual)?;
+        tell_part(alloc, out, gate, policy, part, usual);
     }
-    put_users(out, gate, policy)?;
+    put_users(out, gate, policy);
     put_accounts(out, gate, policy)
 }

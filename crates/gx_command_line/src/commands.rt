@@ -52,10 +52,12 @@ enum Kind {
     Text,
     /// An option with a number from 1 to 65,535, which has to be there.
     Port,
-    /// An option with a number from 1 to 65,534, and the one that holds without it, if any does.
+    /// An option with a number from 1 to 65,534, and the one that holds without it.
     Count(&'static [&'static str]),
     /// An option with nothing, which stands beside the option of this name.
-    Flag(&'static str),
+    FlagBeside(&'static str),
+    /// An option with nothing, which stands in place of the option of this name.
+    FlagInPlaceOf(&'static str),
 }
 
 /// An argument of a command.
@@ -131,8 +133,14 @@ const SERVE: Subcommand = Subcommand {
         Argument {
             name: "connections",
             value: "N",
-            kind: Kind::Count(&[]),
-            help: "End once N connections were taken and have ended; without it the server ends with its standard input",
+            kind: Kind::Count(&["64"]),
+            help: "End once N connections were taken and have ended",
+        },
+        Argument {
+            name: "until-input-ends",
+            value: "",
+            kind: Kind::FlagInPlaceOf("connections"),
+            help: "Take connections until standard input ends, and count none; without it standard input is not read",
         },
         Argument {
             name: "connections-at-once",
@@ -150,7 +158,7 @@ const SERVE: Subcommand = Subcommand {
         Argument {
             name: "journal-sync",
             value: "",
-            kind: Kind::Flag("journal"),
+            kind: Kind::FlagBeside("journal"),
             help: "Force the journal to the disk too, before anything is sent",
         },
         RUN_POLICY,
@@ -230,11 +238,14 @@ fn build_argument<'a>(alloc: Global, asked: &Argument) -> Result<Arg<'a>, AllocE
         Kind::Text => Ok(made.long(asked.name).value_name(asked.value)),
         Kind::Port => Ok(number(made.required(true), asked, 65_535)),
         Kind::Count(default) => Ok(number(made.default_values(default), asked, 65_534)),
-        Kind::Flag(beside) => made
-            .long(asked.name)
-            .action(ArgAction::SetTrue)
-            .requires_arg(beside),
+        Kind::FlagBeside(other) => flag(made, asked).requires_arg(other),
+        Kind::FlagInPlaceOf(other) => flag(made, asked).conflicts_with(other),
     }
+}
+
+/// The argument as an option with nothing behind it.
+fn flag<'a>(made: Arg<'a>, asked: &Argument) -> Arg<'a> {
+    made.long(asked.name).action(ArgAction::SetTrue)
 }
 
 /// The argument as an option with a number from 1 on.

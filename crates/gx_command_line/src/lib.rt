@@ -34,12 +34,21 @@ pub struct Serving<'a> {
     pub files: RunFiles<'a>,
     /// The port to listen on.
     pub port: u16,
-    /// How many connections to take; without it they are taken until standard input ends.
-    pub connections: Option<u16>,
+    /// When it ends.
+    pub until: Until,
     /// How many connections to serve at once.
     pub at_once: u16,
     /// The journal of the day, if one is kept.
     pub journal: Option<JournalFile<'a>>,
+}
+
+/// When a server ends by itself.
+#[derive(Clone, Copy, Debug)]
+pub enum Until {
+    /// Once so many connections were taken and have ended.
+    Connections(u16),
+    /// Once standard input has ended, however many connections were taken.
+    InputEnds,
 }
 
 /// Where a server keeps the journal of its day, and what that outlives.
@@ -92,10 +101,19 @@ fn server_options<'a>(given: &ArgMatches<'a>) -> Option<Serving<'a>> {
     Some(Serving {
         files: run_files(given),
         port: given.get_one::<u16>("port")?,
-        connections: given.get_one::<u16>("connections"),
+        until: end_of_server(given)?,
         at_once: given.get_one::<u16>("connections-at-once")?,
         journal: journal_file(given),
     })
+}
+
+/// When a server ends.
+fn end_of_server<'a>(given: &ArgMatches<'a>) -> Option<Until> {
+    if given.get_flag("until-input-ends") {
+        Some(Until::InputEnds)
+    } else {
+        Some(Until::Connections(given.get_one::<u16>("connections")?))
+    }
 }
 
 /// Where the journal is kept, if one is wanted.

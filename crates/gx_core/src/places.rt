@@ -6,15 +6,13 @@ ghost use Rattle.gx_history.specs.Verdicts.{day_limit};
 ghost use Rattle.gx_places.specs.Places.{has_kept_places, most_record_places};
 
 use gx_answers::StepFault;
+use gx_decide::is_full;
 use gx_history::history::History;
 use gx_history::record::{Asked, Verdict};
 use gx_places::requests::has_kept_places;
 use gx_policy::Policy;
 use gx_units::OutOfMemory;
 use std::alloc::Global;
-
-/// The most records of a day, but for granted Kills and Logouts.
-const DAY_LIMIT: usize = 16_777_216;
 
 /// The most places that are ever kept for the records of Kills and Logouts: one for each account, and one for each user.
 fn most_record_places(policy: &Policy) -> usize
@@ -46,7 +44,7 @@ pub(crate) fn keep_one(history: &mut History, policy: &Policy) -> Result<(), Ste
     ensures day_full { IfErr result (λ e. e ≡ faults.DayFull
         → day_limit ≤ length history.old.records) }
 {
-    if history.len() >= DAY_LIMIT {
+    if is_full(history.len()) {
         return Err(StepFault::DayFull);
     }
     history.reserve(most_record_places(policy) + 1)?;

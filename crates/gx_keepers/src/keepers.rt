@@ -14,6 +14,7 @@ use gx_book::book::Book;
 use gx_day::day::Day;
 use gx_ledger::ledger::Ledger;
 use gx_orders::orders::Orders;
+use gx_orders::seed::Seed;
 use gx_people::people::People;
 use gx_policy::Policy;
 use gx_rules::RuleBook;
@@ -87,7 +88,12 @@ fn make_ready(
         (HaveEnough [] people.now policy.now streams.new policy.now.users) }
 {
     send_to_readers(streams, policy, people)?;
-    keep_enough_for_all(streams, &Orders::new(alloc), people, policy)
+    keep_enough_for_all(
+        streams,
+        &Orders::new(alloc, Seed::of(policy)),
+        people,
+        policy,
+    )
 }
 
 fn first_telling(alloc: Global, policy: &Policy) -> Result<Telling, OutOfMemory>
@@ -163,7 +169,7 @@ impl Keepers {
             people,
             rules,
             day,
-            orders: Orders::new(alloc),
+            orders: Orders::new(alloc, Seed::of(policy)),
             book,
             ledger,
             streams,

@@ -3,3 +3,4 @@ pub mod Tables
 pub mod InForce
 pub mod Changes
 pub mod Laws
+pub mod Seeds

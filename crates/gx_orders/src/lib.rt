@@ -5,3 +5,4 @@ mod counts;
 pub mod laws;
 pub mod orders;
 pub mod request_tokens;
+pub mod seed;

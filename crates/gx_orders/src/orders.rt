@@ -9,6 +9,7 @@ ghost use Rattle.gx_orders.specs.LiveOrders.{AreBelow, AreSound, HasOpen, at_res
 
 use crate::counts::{count_in, count_no_more, count_one_less, count_one_more};
 use crate::request_tokens::denied_token;
+use crate::seed::Seed;
 use gx_history::live_order::{LiveOrder, UserToken};
 use gx_history::record::Asked;
 use gx_policy::RuleName;
@@ -27,7 +28,7 @@ pub struct Orders {
     /// The numbers of the orders that wait to be matched.
     waiting: BTreeSet<u64>,
     /// Each used token, with the number of the order that was entered under it, if one was.
-    tokens: IndexMap<UserToken, Option<u64>>,
+    tokens: IndexMap<UserToken, Option<u64>, Seed>,
     /// How many live orders each user has; one who never had any has no entry.
     counts: IndexMap<UserName, usize>,
 }
@@ -55,15 +56,15 @@ fn write(by_number: &mut BTreeMap<u64, LiveOrder>, order: LiveOrder)
 }
 
 impl Orders {
-    /// No order, and no used token. It takes no memory.
-    pub fn new(alloc: Global) -> Orders
+    /// No order, and no used token: tokens are hashed by this seed. It takes no memory.
+    pub fn new(alloc: Global, seed: Seed) -> Orders
         ensures live { result.live ≡ [] }
         ensures used { result.used ≡ [] }
     {
         Orders {
             by_number: BTreeMap::new(alloc),
             waiting: BTreeSet::new(alloc),
-            tokens: IndexMap::new(alloc),
+            tokens: IndexMap::with_hasher(alloc, seed),
             counts: IndexMap::new(alloc),
         }
     }

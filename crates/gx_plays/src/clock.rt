@@ -18,14 +18,14 @@ const BEHIND: u64 = 100_000;
 
 /// A clock that shows what a play says, and so goes on only as the play says, until it is let go.
 #[derive(Drop)]
-pub(crate) struct PlayClock {
+pub struct PlayClock {
     moment: AtomicU64,
     free: AtomicBool,
 }
 
 impl PlayClock {
     /// A clock at the beginning of a day.
-    pub(crate) fn new() -> PlayClock {
+    pub fn new() -> PlayClock {
         PlayClock {
             moment: AtomicU64::new(0),
             free: AtomicBool::new(false),
@@ -62,14 +62,14 @@ impl PlayClock {
 
 /// How often a clock was looked at: for the moment, and to measure a wait.
 #[derive(Drop)]
-pub(crate) struct Looks {
+pub struct Looks {
     count: AtomicU64,
     waits: AtomicU64,
 }
 
 impl Looks {
     /// Never.
-    pub(crate) fn new() -> Looks {
+    pub fn new() -> Looks {
         Looks {
             count: AtomicU64::new(0),
             waits: AtomicU64::new(0),
@@ -98,7 +98,7 @@ impl Looks {
 }
 
 /// A runtime whose clock is that of a play. It counts the looks at the clock.
-pub(crate) struct Timed<'x, R> {
+pub struct Timed<'x, R> {
     rt: &'x R,
     clock: &'x PlayClock,
     looks: &'x Looks,
@@ -106,7 +106,7 @@ pub(crate) struct Timed<'x, R> {
 
 impl<'x, R> Timed<'x, R> {
     /// The runtime on this clock.
-    pub(crate) fn new(rt: &'x R, clock: &'x PlayClock, looks: &'x Looks) -> Timed<'x, R> {
+    pub fn new(rt: &'x R, clock: &'x PlayClock, looks: &'x Looks) -> Timed<'x, R> {
         Timed { rt, clock, looks }
     }
 }

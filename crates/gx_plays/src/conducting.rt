@@ -3,6 +3,7 @@
 use crate::clock::Timed;
 use crate::devices::{WireReader, WireWriter};
 use crate::directing::{Director, Guest, Vain};
+use crate::holding::Holds;
 use crate::house::{House, Stage};
 use gx_door::{Door, Issuer};
 use gx_serve::{Link, converse, match_on};
@@ -20,10 +21,11 @@ fn attend<'x, T: Drop + Send, D: Door<Ticket = T> + Sync, R: Threads + Wait + Cl
     let link = Link::new(rt, pass);
     let reader = WireReader::new(house.rt, wire);
     let writer = WireWriter::new(house.rt, wire);
+    let door = &Holds::new(house.rt, house.door, wire);
     let (_hung_up, listening) = converse(
         rt,
         house.alloc,
-        house.door,
+        door,
         &house.bell,
         &house.stop,
         &link,
@@ -64,15 +66,15 @@ fn make_matches<'x, T: Drop + Send, D: Door<Ticket = T> + Sync, R: Threads + Wai
     match_on(rt, house.door, &house.bell, pass)
 }
 
-/// Performs the cues beside a matcher, which has this pass. Gives the pass back, and answers what was waited for in vain;
-/// `None` where no thread could be made.
+/// Performs the cues beside a matcher, which has this pass. Answers what was waited for in vain; `None` where no thread
+/// could be made.
 fn play_with<
     'x,
     T: Drop + Send,
     D: Door<Ticket = T> + Sync,
     I: Issuer<Ticket = T> + Drop,
     R: Threads + Wait + Clock + Sync,
->(stage: &'x Stage<'x, D, R>, director: Director<T, I>, pass: T) -> Option<(T, Vain)> {
+>(stage: &'x Stage<'x, D, R>, director: Director<T, I>, pass: T) -> Option<Vain> {
     thread::scope(thread::scope_env(), stage.house.rt, |scope| {
         let house = stage.house;
         let Ok(matcher) = (&*scope).spawn(move || make_matches(house, pass)) else {
@@ -80,20 +82,24 @@ fn play_with<
         };
         let vain = conduct(stage, director);
         house.bell.close(house.rt);
-        Some((matcher.join(house.rt), vain))
+        let _pass = matcher.join(house.rt);
+        Some(vain)
     })
 }
 
-/// Performs a play beside a matcher, which has this pass; the other passes are issued. Gives the matcher's pass back, and
-/// answers what was waited for in vain; `None` where no thread could be made, or there was no pass.
+/// Performs a play beside a matcher, whose pass is the first that is issued. Answers what was waited for in vain; `None`
+/// where no thread could be made, or there was no pass.
 pub fn play<
     'x,
     T: Drop + Send,
     D: Door<Ticket = T> + Sync,
     I: Issuer<Ticket = T> + Drop,
     R: Threads + Wait + Clock + Sync,
->(stage: &'x Stage<'x, D, R>, issuer: I, pass: T) -> Option<(T, Vain)> {
+>(stage: &'x Stage<'x, D, R>, issuer: I) -> Option<Vain> {
     let mut issuer = issuer;
+    let Ok(pass) = issuer.issue(stage.house.rt) else {
+        return None;
+    };
     match issuer.issue(stage.house.rt) {
         Ok(own) => play_with(stage, Director::new(own, issuer), pass),
         Err(_) => None,

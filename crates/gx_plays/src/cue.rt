@@ -11,7 +11,7 @@ pub(crate) enum Cue<'a> {
     Open(&'a str),
     /// A peer sends these bytes, in hex.
     Gives(&'a str, &'a str),
-    /// A peer sends these bytes, in hex, so often.
+    /// A peer sends these bytes, in hex, so often; `######` stands for the number of each.
     Repeats(&'a str, u64, &'a str),
     /// Two peers send these bytes at once.
     Both(&'a str, &'a str, &'a str),
@@ -21,6 +21,10 @@ pub(crate) enum Cue<'a> {
     TakesNothing(&'a str),
     /// A peer takes all that is written.
     TakesAll(&'a str),
+    /// A peer's requests wait at the door from now on.
+    AsksNothing(&'a str),
+    /// A peer's requests are made.
+    AsksAll(&'a str),
     /// A peer was sent so many packets in all.
     Hears(&'a str, u64),
     /// A peer is told that the server writes no more.
@@ -64,6 +68,8 @@ fn read_named<'a>(name: &'a str, words: &'a str) -> Option<Cue<'a>> {
         Some(("repeats", rest)) => read_repeats(name, rest),
         Some(("takes", "nothing")) => Some(Cue::TakesNothing(name)),
         Some(("takes", "all")) => Some(Cue::TakesAll(name)),
+        Some(("asks", "nothing")) => Some(Cue::AsksNothing(name)),
+        Some(("asks", "all")) => Some(Cue::AsksAll(name)),
         Some(("hears", count)) => Some(Cue::Hears(name, count.parse().ok()?)),
         Some(("is", "finished")) => Some(Cue::IsFinished(name)),
         Some(("is", "cut")) => Some(Cue::IsCut(name)),

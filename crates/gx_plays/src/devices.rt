@@ -6,7 +6,7 @@ use std::sync::Wait;
 use std::time::{Clock, Duration};
 use std::{io, thread};
 
-/// So many microseconds a read that finds nothing, or a write that is not taken, sleeps before it looks again.
+/// So many microseconds a read that finds nothing sleeps before it looks again.
 const NAP: u64 = 50;
 
 /// What the server reads from. A read waits for bytes, for the end, or until the line is hung up.
@@ -60,22 +60,9 @@ impl<R> Drop for WireWriter<'_, R> {
     }
 }
 
-impl<R: Wait + Clock> WireWriter<'_, R> {
-    /// Waits until the peer takes what is written, or was hung up.
-    fn wait(&self) {
-        for _ in self.rt.forever() {
-            if self.wire.cut.is_raised() || !self.wire.keeps_waiting() {
-                return;
-            }
-            thread::sleep(self.rt, Duration::from_micros(NAP));
-        }
-        unreachable!()
-    }
-}
-
 impl<R: Wait + Clock> Write for WireWriter<'_, R> {
     fn write(&mut self, buf: &[u8]) -> io::Result<usize> {
-        self.wait();
+        self.wire.wait_at(self.rt, &self.wire.taking);
         if self.wire.cut.is_raised() {
             return Err(io::Error::from(ErrorKind::BrokenPipe));
         }

@@ -59,17 +59,10 @@ impl<D, R> Drop for Stage<'_, D, R> {
 #[derive(Drop)]
 pub struct Script<'a> {
     pub(crate) lines: Vec<&'a str>,
-    /// Its records have one order alone.
-    pub(crate) ordered: bool,
     pub(crate) peers: Vec<Peer<'a>>,
 }
 
 impl<'a> Script<'a> {
-    /// Whether its records have one order alone.
-    pub fn is_ordered(&self) -> bool {
-        self.ordered
-    }
-
     /// The peer of this name.
     pub(crate) fn peer(&self, name: &str) -> Option<&Peer<'a>> {
         let mut found = None;

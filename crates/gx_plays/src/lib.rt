@@ -3,16 +3,20 @@
 #![tactic(auto)]
 
 mod clock;
+mod comparing;
 mod conducting;
 mod cue;
 mod devices;
 mod directing;
+mod holding;
 mod house;
 mod peer;
 mod performing;
 mod telling;
 mod wire;
 
+pub use clock::{Looks, PlayClock, Timed};
+pub use comparing::{are_owed, tell_owed};
 pub use conducting::play;
 pub use directing::Vain;
 pub use house::{House, Script, Stage};

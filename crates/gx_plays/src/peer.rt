@@ -35,11 +35,10 @@ fn lines_of(alloc: Global, text: &str) -> Result<Vec<&str>, OutOfMemory> {
 }
 
 impl<'a> Script<'a> {
-    /// The play that a text tells, before it is performed: with threads that race, unless its records are ordered.
-    pub fn new(alloc: Global, text: &'a str, ordered: bool) -> Result<Script<'a>, OutOfMemory> {
+    /// The play that a text tells, before it is performed.
+    pub fn new(alloc: Global, text: &'a str) -> Result<Script<'a>, OutOfMemory> {
         Ok(Script {
             lines: lines_of(alloc, text)?,
-            ordered,
             peers: peers_of(alloc, text)?,
         })
     }

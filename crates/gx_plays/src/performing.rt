@@ -2,10 +2,12 @@
 
 use crate::cue::Cue;
 use crate::house::{Script, Stage};
-use crate::wire::Wire;
+use crate::wire::{Bar, Wire};
 use gx_door::Door;
-use gx_trials::bytes_of;
-use gx_units::Moment;
+use gx_trials::spelled_by;
+use gx_units::{Moment, OutOfMemory};
+use std::alloc::Global;
+use std::fmt::Write;
 use std::sync::Wait;
 use std::thread;
 use std::time::{Clock, Duration};
@@ -22,7 +24,7 @@ const LOOKS: u64 = 2;
 /// What is waited for.
 #[derive(Clone, Copy)]
 enum Until<'x> {
-    /// The server has read all that a peer sent, and waits for more.
+    /// The server has read all that a peer sent, and waits for more, or at the door.
     Read(&'x Wire),
     /// The threads of a connection have looked at the clock so often, or wait for their peer alone.
     Looked(&'x Wire, u64),
@@ -43,10 +45,18 @@ fn has_looked(wire: &Wire, least: u64) -> bool {
     wire.looks.get() >= least || wire.is_stuck()
 }
 
-/// A peer takes what is written from now on, or nothing of it.
-fn is_held(wire: &Wire, held: bool) -> bool {
-    wire.hold(held);
+/// Whoever comes to a bar has to wait from now on, or no longer.
+fn is_put(bar: &Bar, down: bool) -> bool {
+    bar.put(down);
     true
+}
+
+/// What the hex spells the time of this number, which stands in the place of `######`: the last three of its digits.
+fn numbered(alloc: Global, hex: &str, number: u64) -> Result<String, OutOfMemory> {
+    let mut digits = String::new(alloc);
+    let (high, middle, low) = (number / 100 % 10, number / 10 % 10, number % 10);
+    write!(digits, "3{high}3{middle}3{low}")?;
+    Ok(hex.replacen(alloc, "######", digits.as_str(), 1)?)
 }
 
 impl<'x, D: Door, R: Wait + Clock> Stage<'x, D, R> {
@@ -111,16 +121,24 @@ impl<'x, D: Door, R: Wait + Clock> Stage<'x, D, R> {
 
     /// A peer sends what the hex spells, and no more where it is the last.
     fn send(&self, wire: &Wire, hex: &str, last: bool) -> bool {
-        let Ok(bytes) = bytes_of(self.house.alloc, hex) else {
+        let Ok(bytes) = spelled_by(self.house.alloc, hex) else {
             return false;
         };
         wire.send(self.house.rt, bytes.as_slice(), last).is_ok()
     }
 
+    /// A peer sends what the hex spells the time of this number.
+    fn send_numbered(&self, wire: &Wire, number: u64, hex: &str) -> bool {
+        match numbered(self.house.alloc, hex, number) {
+            Ok(hex) => self.send(wire, hex.as_str(), false),
+            Err(_) => false,
+        }
+    }
+
     /// A peer sends what the hex spells so often.
     fn send_often(&self, wire: &Wire, count: u64, hex: &str) -> bool {
-        for _ in 0..count {
-            if !self.send(wire, hex, false) {
+        for number in 0..count {
+            if !self.send_numbered(wire, number, hex) {
                 return false;
             }
         }
@@ -144,11 +162,11 @@ impl<'x, D: Door, R: Wait + Clock> Stage<'x, D, R> {
     fn perform_on(&self, pass: &mut D::Ticket, cue: &Cue<'_>, wire: &Wire) -> bool {
         match cue {
             Cue::Gives(_, hex) => self.send(wire, hex, false) && self.wait(pass, Until::Read(wire)),
-            Cue::Repeats(_, count, hex) => {
-                self.send_often(wire, *count, hex) && self.wait(pass, Until::Read(wire))
-            }
-            Cue::TakesNothing(_) => is_held(wire, true),
-            Cue::TakesAll(_) => is_held(wire, false),
+            Cue::Repeats(_, count, hex) => self.send_often(wire, *count, hex),
+            Cue::TakesNothing(_) => is_put(&wire.taking, true),
+            Cue::TakesAll(_) => is_put(&wire.taking, false),
+            Cue::AsksNothing(_) => is_put(&wire.asking, true),
+            Cue::AsksAll(_) => is_put(&wire.asking, false),
             Cue::Ends(_, hex) => self.send(wire, hex, true),
             Cue::Hears(_, count) => self.hear(pass, wire, *count),
             Cue::IsFinished(_) => self.wait(pass, Until::Finished(wire)),
@@ -193,6 +211,8 @@ impl<'x, D: Door, R: Wait + Clock> Stage<'x, D, R> {
             | Cue::Repeats(name, _, _)
             | Cue::TakesNothing(name)
             | Cue::TakesAll(name)
+            | Cue::AsksNothing(name)
+            | Cue::AsksAll(name)
             | Cue::Ends(name, _)
             | Cue::Hears(name, _)
             | Cue::IsFinished(name)

@@ -6,10 +6,9 @@ use crate::house::Script;
 use crate::peer::Peer;
 use crate::wire::{first_packet, packets_in};
 use gx_soup::SoupFault;
-use gx_trials::{put, put_hex};
+use gx_trials::{Told, put_hex};
 use gx_units::OutOfMemory;
 use std::alloc::Global;
-use std::fmt::Write;
 use std::sync::Wait;
 
 /// So many packets of a peer are told.
@@ -38,92 +37,69 @@ fn words_of(fault: SoupFault) -> &'static str {
 }
 
 /// Puts why a peer's bytes are no packets, where they are none.
-fn put_fault(out: &mut String, name: &str, fault: Option<SoupFault>) -> Result<(), OutOfMemory> {
+fn put_fault(out: &mut Told, name: &str, fault: Option<SoupFault>) {
     if let Some(fault) = fault {
-        let words = words_of(fault);
-        writeln!(out, "{name}: no packets: {words}")?;
+        out.put(name);
+        out.put(": no packets: ");
+        out.put_line(words_of(fault));
     }
-    Ok(())
 }
 
 /// Puts a packet that a peer was sent.
-fn put_packet(
-    alloc: Global,
-    out: &mut String,
-    name: &str,
-    packet: &[u8],
-) -> Result<(), OutOfMemory> {
-    put(out, name)?;
-    put(out, ": ")?;
+fn put_packet(alloc: Global, out: &mut Told, name: &str, packet: &[u8]) {
+    out.put(name);
+    out.put(": ");
     put_hex(alloc, out, packet)
 }
 
 /// Puts how much more was sent.
-fn put_rest(out: &mut String, name: &str, rest: &[u8]) -> Result<(), OutOfMemory> {
+fn put_rest(out: &mut Told, name: &str, rest: &[u8]) {
     let count = packets_in(rest);
     if count > 0 {
-        writeln!(out, "{name}: {count} more")?;
+        out.put(name);
+        out.put(": ");
+        out.put_number(count);
+        out.put(" more\n");
     } else if !rest.is_empty() {
-        writeln!(out, "{name}: a packet that was cut")?;
+        out.put(name);
+        out.put(": a packet that was cut\n");
     }
-    Ok(())
 }
 
 /// Puts the packets of a text, a line each, and how many more there are.
-fn put_packets(
-    alloc: Global,
-    out: &mut String,
-    name: &str,
-    text: &[u8],
-) -> Result<(), OutOfMemory> {
+fn put_packets(alloc: Global, out: &mut Told, name: &str, text: &[u8]) {
     let mut rest = text;
     for _ in 0..MOST {
         let Some((packet, behind)) = first_packet(rest) else {
             break;
         };
-        put_packet(alloc, out, name, packet)?;
+        put_packet(alloc, out, name, packet);
         rest = behind;
     }
     put_rest(out, name, rest)
 }
 
 /// Puts what a peer was sent, and why his bytes are no packets, where they are none.
-fn put_peer<R: Wait>(
-    rt: &R,
-    alloc: Global,
-    out: &mut String,
-    name: &str,
-    peer: &Peer<'_>,
-) -> Result<(), OutOfMemory> {
-    let text = peer.wire.text(rt, alloc)?;
-    put_packets(alloc, out, name, text.as_slice())?;
+fn put_peer<R: Wait>(rt: &R, alloc: Global, out: &mut Told, name: &str, peer: &Peer<'_>) {
+    match peer.wire.text(rt, alloc) {
+        Ok(text) => put_packets(alloc, out, name, text.as_slice()),
+        Err(_) => out.give_up(),
+    }
     put_fault(out, name, peer.wire.fault(rt))
 }
 
 /// Puts what each peer was sent.
-fn put_peers<R: Wait>(
-    rt: &R,
-    alloc: Global,
-    out: &mut String,
-    script: &Script<'_>,
-) -> Result<(), OutOfMemory> {
+fn put_peers<R: Wait>(rt: &R, alloc: Global, out: &mut Told, script: &Script<'_>) {
     for peer in &script.peers {
-        put_peer(rt, alloc, out, peer.name, peer)?;
+        put_peer(rt, alloc, out, peer.name, peer);
     }
-    Ok(())
 }
 
 /// Puts what all peers were sent, without names.
-fn put_nameless<R: Wait>(
-    rt: &R,
-    alloc: Global,
-    out: &mut String,
-    script: &Script<'_>,
-) -> Result<(), OutOfMemory> {
+fn put_nameless<R: Wait>(rt: &R, alloc: Global, out: &mut Told, script: &Script<'_>) {
     for peer in &script.peers {
-        put_peer(rt, alloc, out, "one of them", peer)?;
+        put_peer(rt, alloc, out, "one of them", peer);
     }
-    Ok(())
 }
 
 /// The lines of a text in the order of their bytes.
@@ -137,41 +113,41 @@ fn sorted_lines(alloc: Global, text: &str) -> Result<Vec<&str>, OutOfMemory> {
 }
 
 /// Puts the lines of a text in the order of their bytes.
-fn put_sorted(alloc: Global, out: &mut String, text: &str) -> Result<(), OutOfMemory> {
-    for line in sorted_lines(alloc, text)? {
-        put(out, line)?;
-        put(out, "\n")?;
+fn put_sorted(alloc: Global, out: &mut Told, text: &str) {
+    let Ok(lines) = sorted_lines(alloc, text) else {
+        return out.give_up();
+    };
+    for line in &lines {
+        out.put_line(line);
     }
-    Ok(())
 }
 
 /// Puts what each peer was sent in a play: where two send at once, without names and sorted, since either may come first.
-pub fn tell_packets<R: Wait>(
-    rt: &R,
-    alloc: Global,
-    script: &Script<'_>,
-    out: &mut String,
-) -> Result<(), OutOfMemory> {
+pub fn tell_packets<R: Wait>(rt: &R, alloc: Global, script: &Script<'_>, out: &mut Told) {
     if !script.has_races() {
         return put_peers(rt, alloc, out, script);
     }
-    let mut told = String::new(alloc);
-    put_nameless(rt, alloc, &mut told, script)?;
+    let mut told = Told::new(alloc);
+    put_nameless(rt, alloc, &mut told, script);
+    out.take_over(&told);
     put_sorted(alloc, out, told.as_str())
 }
 
 /// Puts what was waited for in vain.
-pub fn tell_vain(out: &mut String, script: &Script<'_>, vain: Vain) -> Result<(), OutOfMemory> {
+pub fn tell_vain(out: &mut Told, script: &Script<'_>, vain: Vain) {
     match vain {
         Vain::Nothing => {}
         Vain::Cue(place) => {
             let line = *script.lines.get(place).unwrap_or(&"");
-            writeln!(out, "in vain: {line}")?;
+            out.put("in vain: ");
+            out.put_line(line);
         }
         Vain::EndOf(place) => {
-            let name = script.peers.get(place).map_or("", |peer| peer.name);
-            writeln!(out, "in vain: the end of {name}")?;
+            out.put("in vain: the end of ");
+            if let Some(peer) = script.peers.get(place) {
+                out.put(peer.name);
+            }
+            out.put("\n");
         }
     }
-    Ok(())
 }

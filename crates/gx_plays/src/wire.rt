@@ -7,6 +7,11 @@ use gx_units::OutOfMemory;
 use std::alloc::Global;
 use std::sync::atomic::{AtomicBool, AtomicU64, Ordering};
 use std::sync::{Mutex, Wait};
+use std::thread;
+use std::time::{Clock, Duration};
+
+/// So many microseconds a thread that has to wait for a peer sleeps before it looks again.
+const NAP: u64 = 50;
 
 /// What a peer has sent, and how far the server has read it.
 #[derive(Drop)]
@@ -71,6 +76,41 @@ impl Flag {
     }
 }
 
+/// What a thread of the server waits at, while a peer says so.
+#[derive(Drop)]
+pub(crate) struct Bar {
+    down: AtomicBool,
+    /// A thread waits at it.
+    waited_at: AtomicBool,
+}
+
+impl Bar {
+    /// Nobody has to wait.
+    fn new() -> Bar {
+        Bar {
+            down: AtomicBool::new(false),
+            waited_at: AtomicBool::new(false),
+        }
+    }
+
+    /// Whoever comes has to wait from now on, or no longer.
+    pub(crate) fn put(&self, down: bool) {
+        self.down.store(down, Ordering::SeqCst);
+    }
+
+    /// Whether who comes has to wait.
+    fn stops(&self) -> bool {
+        let down = self.down.load(Ordering::SeqCst);
+        self.waited_at.store(down, Ordering::SeqCst);
+        down
+    }
+
+    /// Whether a thread waits.
+    pub(crate) fn is_waited_at(&self) -> bool {
+        self.waited_at.load(Ordering::SeqCst) && self.down.load(Ordering::SeqCst)
+    }
+}
+
 /// A line in memory between a peer and the server.
 #[derive(Drop)]
 pub(crate) struct Wire {
@@ -79,10 +119,10 @@ pub(crate) struct Wire {
     /// How many packets were written.
     packets: AtomicU64,
     fault: Mutex<Option<SoupFault>>,
-    /// The peer takes nothing that is written.
-    held: AtomicBool,
-    /// A write waits until the peer takes something.
-    waits: AtomicBool,
+    /// While it is down the peer takes nothing that is written.
+    pub(crate) taking: Bar,
+    /// While it is down the peer's requests wait at the door.
+    pub(crate) asking: Bar,
     /// How often the threads of the connection have looked at the clock.
     pub(crate) looks: Looks,
     /// The connection was begun.
@@ -141,8 +181,8 @@ impl Wire {
             }),
             written: Mutex::new(Vec::new(alloc)),
             packets: AtomicU64::new(0),
-            held: AtomicBool::new(false),
-            waits: AtomicBool::new(false),
+            taking: Bar::new(),
+            asking: Bar::new(),
             fault: Mutex::new(None),
             looks: Looks::new(),
             begun: Flag::new(),
@@ -179,9 +219,9 @@ impl Wire {
         self.begun.is_raised() && !self.cut.is_raised() && !self.over.is_raised()
     }
 
-    /// Whether the server has read all, and a read waits for more.
+    /// Whether the server has read all, and a read waits for more; or has come to a request that waits at the door.
     pub(crate) fn is_read<R: Wait>(&self, rt: &R) -> bool {
-        self.inbox.lock(rt).awaited
+        self.asking.is_waited_at() || self.inbox.lock(rt).awaited
     }
 
     /// A read of the server takes what is there; a line that was hung up has ended.
@@ -192,16 +232,15 @@ impl Wire {
         self.inbox.lock(rt).take(buf)
     }
 
-    /// The peer takes what is written from now on, or nothing of it.
-    pub(crate) fn hold(&self, held: bool) {
-        self.held.store(held, Ordering::SeqCst);
-    }
-
-    /// Whether a write has to wait.
-    pub(crate) fn keeps_waiting(&self) -> bool {
-        let held = self.held.load(Ordering::SeqCst);
-        self.waits.store(held, Ordering::SeqCst);
-        held
+    /// Waits while a bar is down, unless the line was hung up.
+    pub(crate) fn wait_at<R: Wait + Clock>(&self, rt: &R, bar: &Bar) {
+        for _ in rt.forever() {
+            if self.cut.is_raised() || !bar.stops() {
+                return;
+            }
+            thread::sleep(rt, Duration::from_micros(NAP));
+        }
+        unreachable!()
     }
 
     /// Whether the server writes no more, and waits for the peer's end by now, or has hung up.
@@ -212,9 +251,7 @@ impl Wire {
 
     /// Whether the server is about to do nothing at this connection but to wait for its peer.
     pub(crate) fn is_stuck(&self) -> bool {
-        self.finished.is_raised()
-            || self.cut.is_raised()
-            || self.waits.load(Ordering::SeqCst) && self.held.load(Ordering::SeqCst)
+        self.finished.is_raised() || self.cut.is_raised() || self.taking.is_waited_at()
     }
 
     /// The server writes these bytes.

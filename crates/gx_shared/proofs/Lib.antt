@@ -1,5 +1,4 @@
 pub mod Idling
-pub mod LoggedOut
 pub mod Meetings
 pub mod Noted
 pub mod Refusals

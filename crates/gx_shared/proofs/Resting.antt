@@ -8,7 +8,7 @@ use Rattle.gx_history.specs.declared.record.RecordData.{RecordData}
 use Rattle.gx_answers.specs.Gates.{GateData}
 use Rattle.gx_door.specs.Acts.{gate_at}
 use Rattle.gx_pass.proofs.Fronts.{prefix_length, prefix_trans}
-use Rattle.gx_shared.specs.Logouts.{AddsLogouts, NobodyIsOn}
+use Rattle.gx_leaving.specs.Logouts.{AddsLogouts, NobodyIsOn}
 use Rattle.gx_journal.specs.declared.fault.JournalFault.{JournalFault}
 use Rattle.gx_journal.specs.Journals.{added, is_broken, journal_bytes, IsGrown, IsKept, JournalData, TapeData}
 use Rattle.gx_journal.proofs.Keeping.{earlier_begin, sound_of}
@@ -51,9 +51,6 @@ all_kept begun count earlier j records after kept begins put sound none =
 -- they begin with the earlier ones
 pub earlier_kept : (begun : Option (List ℕ)) (count : ℕ) (earlier : List RecordData) (j : JournalData) (records : List RecordData) → IsKept begun count earlier j → IsPrefix j.met.front records → IsPrefix earlier records
 earlier_kept begun count earlier j records kept begins = prefix_trans earlier j.met.front records (earlier_begin earlier j.met.front kept.begins) begins
-
-pub longer : (handed : ℕ) (before after : List RecordData) → AddsLogouts handed before after → length before ≤ length after
-longer handed before after logouts = prefix_length before after (logouts.added, sym logouts.grown)
 
 -- a day goes on with logouts
 pub day_goes_on : (policy : PolicyData) (records : List RecordData) (gate : GateData) (later : List RecordData) → gate.policy ≡ policy → AddsLogouts 0 records gate.records → NobodyIsOn gate → IsPrefix gate.records later → GoesOn policy records later

@@ -4,7 +4,7 @@ use mathlib.Core.List.{IsPrefix}
 use Rattle.gx_policy.specs.declared.policy.PolicyData.{PolicyData}
 use Rattle.gx_history.specs.declared.record.RecordData.{RecordData}
 use Rattle.gx_door.specs.Acts.{gate_at}
-use Rattle.gx_shared.specs.Logouts.{AddsLogouts, NobodyIsOn}
+use Rattle.gx_leaving.specs.Logouts.{AddsLogouts, NobodyIsOn}
 
 -- the later day begins with these records, and behind them with the logouts of all who were on, at the moment of the last
 -- of these records

@@ -4,22 +4,20 @@ ghost use Rattle.std.specs.Prelude.{◌≡◌, ◌≤◌, drop, length, IfOk, No
 ghost use mathlib.Core.List.{IsPrefix};
 ghost use Rattle.gx_history.specs.Verdicts.{IsLegal};
 ghost use Rattle.gx_shared.specs.Permits.{all_parts};
-ghost use Rattle.gx_shared.specs.Logouts.{AddsLogouts, NobodyIsOn};
 ghost use Rattle.gx_journal.specs.Journals.{journal_bytes, IsGrown};
 ghost use Rattle.gx_shared.specs.GoingOn.{GoesOn};
 
 use crate::entrance::Entrance;
-use crate::leaving::log_out_all;
 use crate::permit::{Permits, blank_ledger};
 use crate::rest::put_rest;
 use crate::shared::SharedGate;
 use crate::ticket::Ticket;
 use gx_answers::AccessGate;
 use gx_journal::{Journal, JournalFault, JournalName, Journaled};
+use gx_leaving::log_out_at_last;
 use gx_lobby::Lobby;
 use gx_pass::{Blank, GateName, PassFault};
 use gx_serve::{Ending, serve_door};
-use gx_units::Moment;
 use std::alloc::Global;
 use std::io::Write;
 use std::marker::Brand;
@@ -28,9 +26,6 @@ use std::sync::ledger::Total;
 use std::sync::{Wait, ledger};
 use std::thread::Threads;
 use std::time::Clock;
-
-/// Before each other one: a record's moment is then that of the record before it.
-const NO_MOMENT: Moment = 0;
 
 /// What is left of a day that was kept. Its gate is closed, and never dropped.
 pub struct Kept<G, W> {
@@ -178,17 +173,6 @@ fn serve_named<
     }
 }
 
-/// Logs out whoever is logged in by the gate's records: no connection is left that made them.
-#[tactic(auto, using(crate::proofs::Resting::longer))]
-fn log_out<G: AccessGate>(gate: &mut G)
-    ensures policy { (G.seen gate.new).policy ≡ (G.seen gate.old).policy }
-    ensures added { AddsLogouts 0 (G.seen gate.old).records (G.seen gate.new).records }
-    ensures longer { length (G.seen gate.old).records ≤ length (G.seen gate.new).records }
-    ensures nobody_on { NobodyIsOn (G.seen gate.new) }
-{
-    log_out_all(gate, NO_MOMENT);
-}
-
 /// Serves connections on a gate that has records, as [`serve`](crate::serve) does, and keeps its records on this device,
 /// on which there are the first `count` of them: each is written before anything that comes of it is sent. Whoever is
 /// logged in by the records is logged out before. Gives what is left of the day, and how the server ended.
@@ -227,7 +211,8 @@ pub fn serve_journaled<
         gate.close();
         return Err(PassFault::OutOfMemory);
     };
-    log_out(&mut gate);
+    // no connection is left that made the records
+    log_out_at_last(&mut gate);
     serve_named::<G, Brand, Brand, W, R>(
         rt,
         alloc,

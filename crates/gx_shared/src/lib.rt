@@ -16,7 +16,6 @@
 //! - `ticket`: a pass, and how many records were added with it;
 //! - `counting`: the keeper, and the book of a ledger in which each record is counted;
 //! - `steps`: each step is one call of the gate, and the keeper notes its record before the lock is let go;
-//! - `leaving`: logouts of all who are logged in, where no connection is left;
 //! - `resuming`: the keeper of a history that was there before it, which it reads a portion at a time;
 //! - `serving`: a server whose day begins with it, and the gate that was served;
 //! - `keeping`: a server whose day is kept in a journal, on whatever device that lies, and may go on from records that
@@ -28,7 +27,6 @@ mod counting;
 mod desk;
 mod entrance;
 mod keeping;
-mod leaving;
 mod permit;
 mod rest;
 mod resuming;
@@ -39,7 +37,6 @@ mod ticket;
 
 pub use entrance::Entrance;
 pub use keeping::{Kept, close_kept, serve_journaled};
-pub use leaving::log_out_all;
 pub use permit::{Permits, blank_ledger};
 pub use serving::{Served, serve};
 pub use shared::SharedGate;

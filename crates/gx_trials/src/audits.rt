@@ -1,36 +1,35 @@
 //! Audits: how their bytes are told, and how they are changed.
 
-use crate::texts::{halves, put, put_bytes, put_hex};
+use crate::texts::{Told, halves, put_hex};
 use gx_audit_bytes::RECORD_SIZE;
-use gx_units::OutOfMemory;
 use std::alloc::Global;
-use std::fmt::{Display, Write};
+use std::fmt::Display;
 
 /// Puts how the writing of an audit, or of its records' lines, ended.
-pub fn put_ended<E: Display + Drop>(out: &mut String, fault: Option<E>) -> Result<(), OutOfMemory> {
+pub fn put_ended<E: Display + Drop>(out: &mut Told, fault: Option<E>) {
+    out.put("audit: ");
     match fault {
-        Some(fault) => writeln!(out, "audit: {fault}")?,
-        None => put(out, "audit: done\n")?,
+        Some(fault) => out.put_shown(&fault),
+        None => out.put("done"),
     }
-    Ok(())
+    out.put("\n");
 }
 
 /// Puts the bytes of an audit in hex, a line for each header and each record.
-pub fn put_audit(alloc: Global, out: &mut String, audit: &[u8]) -> Result<(), OutOfMemory> {
+pub fn put_audit(alloc: Global, out: &mut Told, audit: &[u8]) {
     for bytes in audit.chunks(RECORD_SIZE) {
-        put_hex(alloc, out, bytes)?;
+        put_hex(alloc, out, bytes);
     }
-    Ok(())
 }
 
 /// Puts what was written of an audit, and how that ended.
 pub fn put_written<E: Display + Drop>(
     alloc: Global,
-    out: &mut String,
+    out: &mut Told,
     written: &[u8],
     fault: Option<E>,
-) -> Result<(), OutOfMemory> {
-    put_audit(alloc, out, written)?;
+) {
+    put_audit(alloc, out, written);
     put_ended(out, fault)
 }
 
@@ -66,11 +65,7 @@ pub fn chosen_by(words: &str) -> (Option<&str>, Option<&str>) {
 }
 
 /// Puts what was shown, and how that ended.
-pub fn put_shown<E: Display + Drop>(
-    out: &mut String,
-    shown: &[u8],
-    fault: Option<E>,
-) -> Result<(), OutOfMemory> {
-    put_bytes(out, shown)?;
+pub fn put_shown<E: Display + Drop>(out: &mut Told, shown: &[u8], fault: Option<E>) {
+    out.put_bytes(shown);
     put_ended(out, fault)
 }

@@ -1,9 +1,8 @@
 //! A reader whose input does not end, and what is told of its run.
 
-use crate::texts::put_hex;
-use gx_units::OutOfMemory;
+use crate::texts::{Told, put_hex};
 use std::alloc::Global;
-use std::fmt::{Display, Write};
+use std::fmt::Display;
 use std::io;
 use std::io::Read;
 
@@ -44,14 +43,10 @@ impl Read for Endless<'_> {
 }
 
 /// Puts what was written, in hex, how the run ended, and how often it read.
-pub fn put_endless<E: Display>(
-    alloc: Global,
-    out: &mut String,
-    written: &[u8],
-    end: &E,
-    reads: u64,
-) -> Result<(), OutOfMemory> {
-    put_hex(alloc, out, written)?;
-    writeln!(out, "{end}, {reads} reads")?;
-    Ok(())
+pub fn put_endless<E: Display>(alloc: Global, out: &mut Told, written: &[u8], end: &E, reads: u64) {
+    put_hex(alloc, out, written);
+    out.put_shown(end);
+    out.put(", ");
+    out.put_number(reads);
+    out.put(" reads\n");
 }

@@ -19,5 +19,5 @@ pub use patience::{Asks, Hears, Turn, put_waited, tell_in_turn};
 pub use policies::{changed_sample, put_rules, put_title};
 pub use runs::{Ended, Kind, RunsAlone, put_records};
 pub use sessions::tell_session;
-pub use texts::{bytes_of, halves, put, put_both, put_bytes, put_hex, text_of};
+pub use texts::{Told, bytes_of, halves, put_both, put_hex, spelled_by, text_of};
 pub use trials::tell_varied;

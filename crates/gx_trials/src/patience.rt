@@ -4,11 +4,10 @@ ghost use Rattle.std.specs.Prelude.{◌≤◌, length};
 
 use crate::devices::Limits;
 use crate::runs::{Kind, RunsAlone};
-use crate::texts::bytes_of;
-use gx_units::OutOfMemory;
+use crate::texts::{Told, bytes_of};
 use std::alloc::Global;
 use std::cell::Cell;
-use std::fmt::{Display, Write as _};
+use std::fmt::Display;
 use std::io;
 use std::io::{Read, Write};
 
@@ -147,78 +146,92 @@ fn first_of(kind: Kind, bytes: &[u8]) -> usize
 }
 
 /// Puts how a run ended whose peer waits, and how many turns there were.
-pub fn put_waited<E: Display>(out: &mut String, end: &E, turns: usize) -> Result<(), OutOfMemory> {
-    writeln!(out, "{end}; {turns} turns")?;
-    Ok(())
+pub fn put_waited<E: Display>(out: &mut Told, end: &E, turns: usize) {
+    out.put_shown(end);
+    out.put("; ");
+    out.put_number(turns as u64);
+    out.put(" turns\n");
 }
 
 /// Puts the turn last that begins behind so many bytes of the input, and answers where it ends. All up to it is given at
 /// once to a gate of its own, which shows how many bytes the answer has.
 fn put_turn<R: RunsAlone>(
+    out: &mut Told,
     runner: &R,
     kind: Kind,
     limits: Limits,
     input: &[u8],
     begin: usize,
     turns: &mut Vec<Turn>,
-) -> Result<usize, OutOfMemory> {
+) -> usize {
     let (_, rest) = input.split_at(begin.min(input.len()));
     let asked = first_of(kind, rest);
     let end = begin.saturating_add(asked).min(input.len());
-    let answered = runner.written(kind, limits, &input[..end])?.len();
-    turns.push(Turn { asked, answered })?;
-    Ok(end)
+    let answered = runner.written(out, kind, limits, &input[..end]).len();
+    if turns.push(Turn { asked, answered }).is_err() {
+        out.give_up();
+    }
+    end
 }
 
 /// Puts the turns of the input last.
 fn put_turns<R: RunsAlone>(
+    out: &mut Told,
     runner: &R,
     kind: Kind,
     limits: Limits,
     input: &[u8],
     turns: &mut Vec<Turn>,
-) -> Result<(), OutOfMemory> {
+) {
     let mut end = 0usize;
     for _ in 0..MOST {
         if end >= input.len() {
             break;
         }
-        end = put_turn(runner, kind, limits, input, end, turns)?;
+        end = put_turn(out, runner, kind, limits, input, end, turns);
     }
-    Ok(())
 }
 
 /// Runs an input whose peer waits for each answer, and tells how it ended.
 fn tell_patience<R: RunsAlone>(
     alloc: Global,
-    out: &mut String,
+    out: &mut Told,
     runner: &R,
     kind: Kind,
     limits: Limits,
     input: &[u8],
-) -> Result<(), OutOfMemory> {
+) {
     let mut turns = Vec::new(alloc);
-    put_turns(runner, kind, limits, input, &mut turns)?;
+    put_turns(out, runner, kind, limits, input, &mut turns);
     runner.put_waited(out, kind, limits, input, turns.as_slice())
 }
 
 /// Runs a connection in hex, or a script, whose peer waits for each answer, and tells how it ended.
 pub fn tell_in_turn<R: RunsAlone>(
     alloc: Global,
-    out: &mut String,
+    out: &mut Told,
     runner: &R,
     kind: &str,
     limits: Limits,
     text: &str,
-) -> Result<(), OutOfMemory> {
+) {
     match kind {
         "pipe-in-turn" => {
-            let input = bytes_of(alloc, text)?;
+            let input = bytes_of(alloc, out, text);
             tell_patience(alloc, out, runner, Kind::Pipe, limits, input.as_slice())
         }
         _ => {
-            let lines = format!(in alloc; "{text}\n")?;
-            tell_patience(alloc, out, runner, Kind::Script, limits, lines.as_bytes())
+            let mut lines = Told::new(alloc);
+            lines.put_line(text);
+            out.take_over(&lines);
+            tell_patience(
+                alloc,
+                out,
+                runner,
+                Kind::Script,
+                limits,
+                lines.as_str().as_bytes(),
+            )
         }
     }
 }

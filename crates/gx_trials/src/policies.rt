@@ -1,11 +1,10 @@
 //! What a case begins with: its title and its policy.
 
-use crate::texts::{halves, put, text_of};
+use crate::texts::{Told, halves, text_of};
 use gx_policy::{Count, FileRule, Policy, RuleKind, Scope};
 use gx_policyfile::SAMPLE;
 use gx_units::{AccountName, OutOfMemory, Symbol};
 use std::alloc::Global;
-use std::fmt::Write;
 
 fn kind_text(kind: &RuleKind) -> &'static str {
     match kind {
@@ -33,39 +32,37 @@ fn count_text(count: Count) -> &'static str {
 }
 
 /// Puts a name behind a space.
-fn put_name(out: &mut String, name: &[u8]) -> Result<(), OutOfMemory> {
-    put(out, " ")?;
-    put(out, text_of(name))
+fn put_name(out: &mut Told, name: &[u8]) {
+    out.put(" ");
+    out.put(text_of(name))
 }
 
-fn put_stocks(out: &mut String, stocks: &[Symbol]) -> Result<(), OutOfMemory> {
+fn put_stocks(out: &mut Told, stocks: &[Symbol]) {
     for stock in stocks {
-        put_name(out, &stock.bytes)?;
+        put_name(out, &stock.bytes);
     }
-    Ok(())
 }
 
-fn put_limit(out: &mut String, limit: u64) -> Result<(), OutOfMemory> {
-    write!(out, " {limit}")?;
-    Ok(())
+fn put_limit(out: &mut Told, limit: u64) {
+    out.put(" ");
+    out.put_number(limit);
 }
 
 /// Puts a limit, and what it counts.
-fn put_figure(out: &mut String, limit: u64, count: Count) -> Result<(), OutOfMemory> {
-    let count = count_text(count);
-    write!(out, " {limit} {count}")?;
-    Ok(())
+fn put_figure(out: &mut Told, limit: u64, count: Count) {
+    put_limit(out, limit);
+    out.put(" ");
+    out.put(count_text(count));
 }
 
 /// Puts a limit, how many orders or how much time it looks at, and what it counts.
-fn put_counted(out: &mut String, limit: u64, over: u64, count: Count) -> Result<(), OutOfMemory> {
-    let count = count_text(count);
-    write!(out, " {limit} {over} {count}")?;
-    Ok(())
+fn put_counted(out: &mut Told, limit: u64, over: u64, count: Count) {
+    put_limit(out, limit);
+    put_figure(out, over, count);
 }
 
 /// Puts what a rule of this kind says beside its kind.
-fn put_settings(out: &mut String, kind: &RuleKind) -> Result<(), OutOfMemory> {
+fn put_settings(out: &mut Told, kind: &RuleKind) {
     match kind {
         RuleKind::Halt(stocks) | RuleKind::Restricted(stocks) => put_stocks(out, stocks.as_slice()),
         RuleKind::OrderShares(limit) | RuleKind::OrderValue(limit) | RuleKind::Collar(limit) => {
@@ -76,46 +73,44 @@ fn put_settings(out: &mut String, kind: &RuleKind) -> Result<(), OutOfMemory> {
         | RuleKind::NetShares(limit, count) => put_figure(out, *limit, *count),
         RuleKind::Rate(rate, count) => put_counted(out, rate.limit, rate.window, *count),
         RuleKind::Repeat(repeat, count) => put_counted(out, repeat.limit, repeat.span, *count),
-        RuleKind::NoShort | RuleKind::NoIso | RuleKind::OddLot => Ok(()),
+        RuleKind::NoShort | RuleKind::NoIso | RuleKind::OddLot => {}
     }
 }
 
-fn put_accounts(out: &mut String, accounts: &[AccountName]) -> Result<(), OutOfMemory> {
-    put(out, " for")?;
+fn put_accounts(out: &mut Told, accounts: &[AccountName]) {
+    out.put(" for");
     for account in accounts {
-        put_name(out, &account.bytes)?;
+        put_name(out, &account.bytes);
     }
-    Ok(())
 }
 
 /// Puts the accounts that a rule is for, where it is not for all.
-fn put_scope(out: &mut String, scope: &Scope) -> Result<(), OutOfMemory> {
+fn put_scope(out: &mut Told, scope: &Scope) {
     match scope {
         Scope::Only(accounts) => put_accounts(out, accounts.as_slice()),
-        Scope::All => Ok(()),
+        Scope::All => {}
     }
 }
 
 /// Puts the name of a rule and its kind.
-fn put_kind(out: &mut String, rule: &FileRule) -> Result<(), OutOfMemory> {
-    put(out, text_of(&rule.name.bytes))?;
-    put(out, ": ")?;
-    put(out, kind_text(&rule.kind))
+fn put_kind(out: &mut Told, rule: &FileRule) {
+    out.put(text_of(&rule.name.bytes));
+    out.put(": ");
+    out.put(kind_text(&rule.kind))
 }
 
-fn put_rule(out: &mut String, rule: &FileRule) -> Result<(), OutOfMemory> {
-    put_kind(out, rule)?;
-    put_settings(out, &rule.kind)?;
-    put_scope(out, &rule.scope)?;
-    put(out, "\n")
+fn put_rule(out: &mut Told, rule: &FileRule) {
+    put_kind(out, rule);
+    put_settings(out, &rule.kind);
+    put_scope(out, &rule.scope);
+    out.put("\n")
 }
 
 /// Puts the rules of a policy, a line each.
-pub fn put_rules(out: &mut String, policy: &Policy) -> Result<(), OutOfMemory> {
+pub fn put_rules(out: &mut Told, policy: &Policy) {
     for rule in policy.rules() {
-        put_rule(out, rule)?;
+        put_rule(out, rule);
     }
-    Ok(())
 }
 
 /// The sample policy's file with a text replaced, as the lines `old:` and `new:` say.
@@ -126,8 +121,8 @@ pub fn changed_sample(alloc: Global, change: &str) -> Result<String, OutOfMemory
 }
 
 /// Puts the title of a case.
-pub fn put_title(out: &mut String, title: &str) -> Result<(), OutOfMemory> {
-    put(out, "== ")?;
-    put(out, title.strip_prefix("== ").unwrap_or(title))?;
-    put(out, "\n")
+pub fn put_title(out: &mut Told, title: &str) {
+    out.put("== ");
+    out.put(title.strip_prefix("== ").unwrap_or(title));
+    out.put("\n")
 }

@@ -1,6 +1,6 @@
 //! Sessions alone: what happens to one, and what it sends and what follows.
 
-use crate::texts::{bytes_of, halves, put};
+use crate::texts::{Told, halves, spelled_by};
 use gx_answers::{LoginAnswer, StepFault};
 use gx_session::{Control, Event, Next, Reply, Session};
 use gx_soup::{ClientPacket, LoginRequest, Payload};
@@ -13,7 +13,7 @@ const BLANK: SessionName = SessionName {
 
 /// What a packet carries whose bytes are in hex.
 fn payload_of(alloc: Global, hex: &str) -> Result<Payload, OutOfMemory> {
-    let bytes = bytes_of(alloc, hex)?;
+    let bytes = spelled_by(alloc, hex)?;
     Ok(Payload::new(alloc, bytes.as_slice())?)
 }
 
@@ -81,55 +81,44 @@ fn next_text(next: Next) -> &'static str {
     }
 }
 
-fn put_reply(out: &mut String, reply: Reply) -> Result<(), OutOfMemory> {
-    put(out, sent_text(reply.send))?;
-    put(out, next_text(reply.next))
+fn put_reply(out: &mut Told, reply: Reply) {
+    out.put(sent_text(reply.send));
+    out.put(next_text(reply.next))
+}
+
+/// Tells what follows the event that a word names that is no packet.
+fn tell_other(out: &mut Told, session: &mut Session, moment: u64, word: &str, count: &str) {
+    match event_of(word, count) {
+        Some(event) => put_reply(out, session.on(event, moment)),
+        None => out.put("no such event\n"),
+    }
 }
 
 /// Tells what follows the event that a word names.
-fn tell_event(
-    alloc: Global,
-    out: &mut String,
-    session: &mut Session,
-    moment: u64,
-    words: &str,
-) -> Result<(), OutOfMemory> {
+fn tell_event(alloc: Global, out: &mut Told, session: &mut Session, moment: u64, words: &str) {
     let (word, rest) = halves(words, " ");
-    if let Some(packet) = packet_of(alloc, word, rest)? {
-        return put_reply(out, session.on(Event::Packet(&packet), moment));
-    }
-    match event_of(word, rest) {
-        Some(event) => put_reply(out, session.on(event, moment)),
-        None => put(out, "no such event\n"),
+    match packet_of(alloc, word, rest) {
+        Ok(Some(packet)) => put_reply(out, session.on(Event::Packet(&packet), moment)),
+        Ok(None) => tell_other(out, session, moment, word, rest),
+        Err(_) => out.give_up(),
     }
 }
 
 /// Tells what follows the event of a line, which begins with its moment.
-fn tell_line(
-    alloc: Global,
-    out: &mut String,
-    session: &mut Session,
-    line: &str,
-) -> Result<(), OutOfMemory> {
-    put(out, line)?;
-    put(out, ": ")?;
+fn tell_line(alloc: Global, out: &mut Told, session: &mut Session, line: &str) {
+    out.put(line);
+    out.put(": ");
     let (moment, words) = halves(line, " ");
     match moment.parse() {
         Ok(moment) => tell_event(alloc, out, session, moment, words),
-        Err(_) => put(out, "no moment\n"),
+        Err(_) => out.put("no moment\n"),
     }
 }
 
 /// Tells what follows each event of a session that begins at this moment.
-pub fn tell_session(
-    alloc: Global,
-    out: &mut String,
-    begin: &str,
-    lines: &str,
-) -> Result<(), OutOfMemory> {
+pub fn tell_session(alloc: Global, out: &mut Told, begin: &str, lines: &str) {
     let mut session = Session::new(begin.parse().unwrap_or(0));
     for line in lines.lines() {
-        tell_line(alloc, out, &mut session, line)?;
+        tell_line(alloc, out, &mut session, line);
     }
-    Ok(())
 }

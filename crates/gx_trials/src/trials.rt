@@ -2,10 +2,8 @@
 
 use crate::devices::{LARGE, Limits};
 use crate::runs::{Kind, RunsAlone};
-use crate::texts::{bytes_of, put, put_hex};
-use gx_units::OutOfMemory;
+use crate::texts::{Told, bytes_of, put_hex};
 use std::alloc::Global;
-use std::fmt::Write;
 
 /// So many runs there are at most.
 const MOST: usize = 1_000;
@@ -41,7 +39,7 @@ struct Alike {
     least: usize,
     most: usize,
     is_done: bool,
-    text: String,
+    text: Told,
 }
 
 impl Alike {
@@ -56,33 +54,34 @@ impl Alike {
         goes_on && self.text.as_str() == next.text.as_str()
     }
 
-    fn put(&self, out: &mut String, varied: Varied) -> Result<(), OutOfMemory> {
+    fn put(&self, out: &mut Told, varied: Varied) {
         let what = match varied {
             Varied::Reads => "reads",
             Varied::Writes => "writes",
             Varied::Lengths => "lengths",
         };
-        put(out, what)?;
-        self.put_ranges(out)?;
-        put(out, self.text.as_str())
+        out.put(what);
+        self.put_ranges(out);
+        out.put(self.text.as_str());
+        out.take_over(&self.text);
     }
 
     /// Puts which runs these are, and how many bytes they wrote.
-    fn put_ranges(&self, out: &mut String) -> Result<(), OutOfMemory> {
-        put_range(out, self.first, self.last)?;
-        put(out, ":")?;
-        put_range(out, self.least, self.most)?;
-        put(out, " bytes\n")
+    fn put_ranges(&self, out: &mut Told) {
+        put_range(out, self.first, self.last);
+        out.put(":");
+        put_range(out, self.least, self.most);
+        out.put(" bytes\n")
     }
 }
 
-fn put_range(out: &mut String, first: usize, last: usize) -> Result<(), OutOfMemory> {
-    if first == last {
-        write!(out, " {first}")?;
-    } else {
-        write!(out, " {first} to {last}")?;
+fn put_range(out: &mut Told, first: usize, last: usize) {
+    out.put(" ");
+    out.put_number(first as u64);
+    if first != last {
+        out.put(" to ");
+        out.put_number(last as u64);
     }
-    Ok(())
 }
 
 /// The devices and the input of the run of this count.
@@ -119,18 +118,18 @@ fn tried<R: RunsAlone>(
     trial: Trial<'_>,
     count: usize,
     whole: &[u8],
-) -> Result<Alike, OutOfMemory> {
-    let mut text = String::new(alloc);
+) -> Alike {
+    let mut text = Told::new(alloc);
     let (limits, input) = varied_by(trial, count);
-    let (written, is_done) = runner.put_left(&mut text, limits, input, whole)?;
-    Ok(Alike {
+    let (written, is_done) = runner.put_left(&mut text, limits, input, whole);
+    Alike {
         first: count,
         last: count,
         least: written,
         most: written,
         is_done,
         text,
-    })
+    }
 }
 
 /// Whether no run comes behind this one.
@@ -142,78 +141,66 @@ fn is_last(trial: Trial<'_>, run: &Alike) -> bool {
 }
 
 /// Takes a run to those that end alike, or tells of these and begins anew with the run.
-fn take(
-    out: &mut String,
-    varied: Varied,
-    alike: &mut Alike,
-    next: Alike,
-) -> Result<(), OutOfMemory> {
+fn take(out: &mut Told, varied: Varied, alike: &mut Alike, next: Alike) {
     if alike.has(&next) {
         alike.last = next.last;
         alike.most = next.most;
         alike.is_done = next.is_done;
-        return Ok(());
+        return;
     }
-    alike.put(out, varied)?;
+    alike.put(out, varied);
     *alike = next;
-    Ok(())
 }
 
 /// Makes the run of this count, and takes it to those that end alike.
 fn take_next<R: RunsAlone>(
     alloc: Global,
-    out: &mut String,
+    out: &mut Told,
     runner: &R,
     trial: Trial<'_>,
     count: usize,
     whole: &[u8],
     alike: &mut Alike,
-) -> Result<(), OutOfMemory> {
-    let next = tried(alloc, runner, trial, count, whole)?;
+) {
+    let next = tried(alloc, runner, trial, count, whole);
     take(out, trial.varied, alike, next)
 }
 
 /// Makes the runs behind the first, and tells of them but for the last that end alike.
 fn go_on<R: RunsAlone>(
     alloc: Global,
-    out: &mut String,
+    out: &mut Told,
     runner: &R,
     trial: Trial<'_>,
     whole: &[u8],
     alike: &mut Alike,
-) -> Result<(), OutOfMemory> {
+) {
     for count in 1..MOST {
         if is_last(trial, alike) {
             break;
         }
-        take_next(alloc, out, runner, trial, count, whole, alike)?;
+        take_next(alloc, out, runner, trial, count, whole, alike);
     }
-    Ok(())
 }
 
 /// Makes the runs and tells of them.
 fn put_runs<R: RunsAlone>(
     alloc: Global,
-    out: &mut String,
+    out: &mut Told,
     runner: &R,
     trial: Trial<'_>,
     whole: &[u8],
-) -> Result<(), OutOfMemory> {
-    let mut alike = tried(alloc, runner, trial, 0, whole)?;
-    go_on(alloc, out, runner, trial, whole, &mut alike)?;
+) {
+    let mut alike = tried(alloc, runner, trial, 0, whole);
+    go_on(alloc, out, runner, trial, whole, &mut alike);
     alike.put(out, trial.varied)
 }
 
 /// Tries a connection, and tells of it: the answer to the whole, and the runs.
-fn tell_trials<R: RunsAlone>(
-    alloc: Global,
-    out: &mut String,
-    runner: &R,
-    trial: Trial<'_>,
-) -> Result<(), OutOfMemory> {
+fn tell_trials<R: RunsAlone>(alloc: Global, out: &mut Told, runner: &R, trial: Trial<'_>) {
     let (limits, _) = varied_by(trial, usize::MAX);
-    let whole = runner.written(Kind::Pipe, limits, trial.input)?;
-    put_hex(alloc, out, whole.as_slice())?;
+    let whole = runner.written(out, Kind::Pipe, limits, trial.input);
+    put_hex(alloc, out, whole.as_slice());
     put_runs(alloc, out, runner, trial, whole.as_slice())
 }
 
@@ -230,17 +217,17 @@ fn varied_in(kind: &str) -> Option<Varied> {
 /// Tries a connection in hex again and again, as the part's kind and words say, each time on a gate of its own.
 pub fn tell_varied<R: RunsAlone>(
     alloc: Global,
-    out: &mut String,
+    out: &mut Told,
     runner: &R,
     kind: &str,
     words: &str,
     text: &str,
-) -> Result<(), OutOfMemory> {
+) {
     let (piece, sip) = words.split_once(' ').unwrap_or((words, words));
     let (Some(varied), Ok(piece), Ok(sip)) = (varied_in(kind), piece.parse(), sip.parse()) else {
-        return put(out, "no such part\n");
+        return out.put("no such part\n");
     };
-    let input = bytes_of(alloc, text)?;
+    let input = bytes_of(alloc, out, text);
     let trial = Trial {
         varied,
         piece,

@@ -1,0 +1,100 @@
+-- A user who is logged in on a line is logged out there.
+use Rattle.std.proofs.Common.{◌≡◌, ℕ, ◌+◌, ◌<◌, ◌≤◌, true, false, List, [], ◌∷◌, ◌++◌, length, take, get_or, Some, None, Result, Ok, Err, IfOk, is_ok, refl, sym, ap, ◌∙◌, subst, append_assoc, arith, length-append}
+use Rattle.std.specs.List.{AllByRecursion}
+use Rattle.std.proofs.lemmas.List.{take_more}
+use Rattle.gx_units.specs.Spelling.{folded_user}
+use Rattle.gx_units.specs.declared.names.UserName.{UserName}
+use Rattle.gx_policy.specs.declared.policy.PolicyData.{PolicyData}
+use Rattle.gx_policy.specs.declared.policy.User.{User}
+use Rattle.gx_history.specs.declared.record.Asked.{Asked}
+use Rattle.gx_history.specs.declared.record.RecordData.{RecordData}
+use Rattle.gx_history.specs.declared.record.Request.TheVariants as requests
+use Rattle.gx_history.specs.declared.record.Verdict.TheVariants as verdicts
+use Rattle.gx_history.specs.Effects.{ChangesLine}
+use Rattle.gx_history.specs.InForce.{line_of}
+use Rattle.gx_history.specs.Verdicts.{verdict}
+use Rattle.gx_history_laws.proofs.Logouts.{logouts_are_granted}
+use Rattle.gx_history_laws.proofs.Pushing.{all_next}
+use Rattle.gx_effects.proofs.Lines.{logout_takes_effect}
+use Rattle.gx_places.specs.Places.{has_kept_places}
+use Rattle.gx_answers.specs.declared.outcome.Outcome.{Outcome}
+use Rattle.gx_answers.specs.declared.outcome.StepFault.{StepFault}
+use Rattle.gx_answers.specs.Gates.{GateData, left_by}
+use Rattle.gx_answers.specs.Steps.{has_its_places, next_of, verdict_of, with_record}
+use Rattle.gx_door.specs.Acts.{asked_on}
+use Rattle.gx_leaving.specs.Logouts.{AddsLogouts, IsGrantedLogout, IsOff}
+
+-- No rule forbids the Logout of a user who is on his line.
+logout_is_granted : (policy : PolicyData) (history : List RecordData) (line : ℕ) (user : UserName) (moment : ℕ) → line_of history (folded_user user) ≡ Some line
+    → verdict policy history (asked_on line user requests.Logout moment) ≡ verdicts.Granted
+logout_is_granted policy history line user moment on = logouts_are_granted policy history line (folded_user user) moment on
+
+-- its step
+record LogsOut (handed : ℕ) (old new : GateData) (user : UserName) : Type 0 where
+  added : AddsLogouts handed old.records new.records
+  left : ChangesLine old.policy old.records new.records user None
+
+by_step : (old new : GateData) (a : Asked) (r : Result Outcome StepFault) → a.request ≡ requests.Logout → verdict_of old a ≡ verdicts.Granted
+    → (has_its_places old a ≡ true → is_ok r ≡ true) → IfOk r (λ o. next_of old a ≡ Some (left_by a o)) → IfOk r (λ o. o.verdict ≡ verdict_of old a)
+    → IfOk r (λ o. new.records ≡ with_record old a o) → LogsOut a.handed old new a.user
+by_step old new a (Ok o) asks grants sure next given grown = record {
+  added = record {
+    added = left_by a o ∷ [];
+    logouts = (record { asked = a; step_is = refl; request_is = asks; handed_is = refl; granted = given ∙ grants }, tt);
+    grown = grown;
+  };
+  left = subst (λ (records : List RecordData). ChangesLine old.policy old.records records a.user None) (sym grown)
+      (logout_takes_effect old.policy old.records a (left_by a o) next asks (given ∙ grants));
+}
+by_step old new a (Err e) asks grants sure next given grown =
+    let places : has_its_places old a ≡ true = λ i. has_kept_places (asks i) (grants i) in
+    let clash : false ≡ true = sure places in cc
+
+logs_out : (old new : GateData) (line : ℕ) (user : UserName) (moment : ℕ) (asked : Asked) (r : Result Outcome StepFault) → line_of old.records (folded_user user) ≡ Some line
+    → asked ≡ asked_on line user requests.Logout moment → (has_its_places old asked ≡ true → is_ok r ≡ true) → IfOk r (λ o. next_of old asked ≡ Some (left_by asked o))
+    → IfOk r (λ o. o.verdict ≡ verdict_of old asked) → IfOk r (λ o. new.records ≡ with_record old asked o) → LogsOut moment old new (folded_user user)
+logs_out old new line user moment asked r on is sure next given grown =
+    let request_is : asked.request ≡ requests.Logout = ap (λ (a : Asked). a.request) is in
+    let grants : verdict_of old asked ≡ verdicts.Granted = ap (verdict_of old) is ∙ logout_is_granted old.policy old.records line user moment on in
+    subst (λ (a : Asked). LogsOut a.handed old new a.user) is (by_step old new asked r request_is grants sure next given grown)
+
+pub adds_logout : (old new : GateData) (line : ℕ) (user : UserName) (moment : ℕ) (asked : Asked) (r : Result Outcome StepFault) → line_of old.records (folded_user user) ≡ Some line
+    → asked ≡ asked_on line user requests.Logout moment → (has_its_places old asked ≡ true → is_ok r ≡ true) → IfOk r (λ o. next_of old asked ≡ Some (left_by asked o))
+    → IfOk r (λ o. o.verdict ≡ verdict_of old asked) → IfOk r (λ o. new.records ≡ with_record old asked o) → AddsLogouts moment old.records new.records
+adds_logout old new line user moment asked r on is sure next given grown = (logs_out old new line user moment asked r on is sure next given grown).added
+
+pub leaves_line : (old new : GateData) (line : ℕ) (user : UserName) (moment : ℕ) (asked : Asked) (r : Result Outcome StepFault) → line_of old.records (folded_user user) ≡ Some line
+    → asked ≡ asked_on line user requests.Logout moment → (has_its_places old asked ≡ true → is_ok r ≡ true) → IfOk r (λ o. next_of old asked ≡ Some (left_by asked o))
+    → IfOk r (λ o. o.verdict ≡ verdict_of old asked) → IfOk r (λ o. new.records ≡ with_record old asked o) → ChangesLine old.policy old.records new.records (folded_user user) None
+leaves_line old new line user moment asked r on is sure next given grown = (logs_out old new line user moment asked r on is sure next given grown).left
+
+-- What was added.
+
+all_joined : {X : Type 0} (P : X → Type 0) (xs ys : List X) → AllByRecursion P xs → AllByRecursion P ys → AllByRecursion P (xs ++ ys)
+all_joined P [] ys h k = k
+all_joined P (x ∷ xs) ys h k = (h.0, all_joined P xs ys h.1 k)
+
+pub adds_more : (handed : ℕ) (a b c : List RecordData) → AddsLogouts handed a b → AddsLogouts handed b c → AddsLogouts handed a c
+adds_more handed a b c first then = record {
+  added = first.added ++ then.added;
+  logouts = all_joined (IsGrantedLogout handed) first.added then.added first.logouts then.logouts;
+  grown = then.grown ∙ ap (λ (records : List RecordData). records ++ then.added) first.grown ∙ append_assoc a first.added then.added;
+}
+
+pub longer : (handed : ℕ) (before after : List RecordData) → AddsLogouts handed before after → length before ≤ length after
+longer handed before after logouts = omega (arith, ap length logouts.grown, length-append before logouts.added)
+
+-- Each of the users so far is off.
+
+abbrev Off : List RecordData → User → Type 0
+Off records u = IsOff records (folded_user u.name)
+
+still : {X : Type 0} (P Q : X → Type 0) (xs : List X) → ((x : X) → P x → Q x) → AllByRecursion P xs → AllByRecursion Q xs
+still P Q [] keep h = tt
+still P Q (x ∷ xs) keep h = (keep x h.0, still P Q xs keep h.1)
+
+pub one_more_off : (before after : List RecordData) (users : List User) (i : ℕ) (u d : User) → i < length users → u ≡ get_or users i d → AllByRecursion (Off before) (take i users)
+    → ((other : UserName) → IsOff before other → IsOff after other) → IsOff after (folded_user u.name) → AllByRecursion (Off after) (take (i + 1) users)
+one_more_off before after users i u d within is so_far keep off =
+    subst (AllByRecursion (Off after)) (sym (take_more users i d within ∙ ap (λ (x : User). take i users ++ x ∷ []) (sym is)))
+    (all_next (Off after) (take i users) u (still (Off before) (Off after) (take i users) (λ x h. keep (folded_user x.name) h) so_far) off)

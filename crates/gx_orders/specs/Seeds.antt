@@ -1,0 +1,32 @@
+-- How a seed hashes what a trader chooses.
+use Rattle.std.specs.Prelude.{ℕ, ◌+◌, ◌-◌, ◌*◌, ◌/◌, ◌%◌, ◌^◌, List, [], ◌∷◌, length, fold, bit_and, bit_or, bit_xor, nat_lt, slice_index, if◌then◌else◌}
+use Rattle.std.specs.Int.{w64, from_le_bytes}
+use Rattle.gx_orders.specs.declared.seed.Seed.{Seed}
+
+-- the two halves of the product, joined
+abbrev pub folded : ℕ → ℕ → ℕ
+folded a b = bit_xor (bit_and (a * b) (2 ^ 64 - 1)) (a * b / 2 ^ 64)
+
+-- the eight bytes from this place on
+abbrev pub word_at : List ℕ → ℕ → ℕ
+word_at bs i = from_le_bytes w64 (slice_index bs i ∷ slice_index bs (i + 1) ∷ slice_index bs (i + 2) ∷ slice_index bs (i + 3) ∷ slice_index bs (i + 4) ∷ slice_index bs (i + 5) ∷ slice_index bs (i + 6) ∷ slice_index bs (i + 7) ∷ [])
+
+-- one byte more
+abbrev pub with_byte : ℕ → ℕ → ℕ
+with_byte word b = bit_or (word * 2 ^ 8 % 2 ^ 64) b
+
+-- fewer than eight bytes
+abbrev pub short_word : List ℕ → ℕ
+short_word bs = fold with_byte 0 bs
+
+-- the first eight bytes, or all of fewer
+abbrev pub first_word : List ℕ → ℕ
+first_word bs = if nat_lt (length bs) 8 then short_word bs else word_at bs 0
+
+-- the last eight bytes, or nothing of fewer
+abbrev pub last_word : List ℕ → ℕ
+last_word bs = if nat_lt (length bs) 8 then 0 else word_at bs (length bs - 8)
+
+-- the state behind the bytes of a field
+unfoldable pub hashed : Seed → List ℕ → Seed
+hashed seed bs = record { state = folded (bit_xor (first_word bs) seed.state) (bit_xor (last_word bs) seed.factor); factor = seed.factor }

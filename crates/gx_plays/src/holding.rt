@@ -1,0 +1,121 @@
+//! A door at which a peer's requests wait while the play says so.
+
+use crate::wire::Wire;
+use gx_answers::{LoginAnswer, Outcome, Pulled, StepFault};
+use gx_door::{Dial, Door, PullFault};
+use gx_history::record::{Record, Request};
+use gx_units::{Moment, OutOfMemory, Password, SessionName, UserName};
+use std::sync::Wait;
+use std::time::Clock;
+
+/// A door for the connection over this line.
+pub(crate) struct Holds<'x, D, C> {
+    clock: &'x C,
+    door: &'x D,
+    wire: &'x Wire,
+}
+
+impl<'x, D, C> Holds<'x, D, C> {
+    /// Before this door.
+    pub(crate) fn new(clock: &'x C, door: &'x D, wire: &'x Wire) -> Holds<'x, D, C> {
+        Holds { clock, door, wire }
+    }
+}
+
+impl<D, C> Drop for Holds<'_, D, C> {
+    fn drop(self) {
+        let Holds {
+            clock: _,
+            door: _,
+            wire: _,
+        } = self;
+    }
+}
+
+impl<D: Door, C: Wait + Clock> Door for Holds<'_, D, C> {
+    type Ticket = D::Ticket;
+
+    ghost policy = { D.policy };
+
+    ghost held = { D.held };
+
+    ghost added = { D.added };
+
+    fn login<R: Wait + Dial>(
+        &self,
+        rt: &R,
+        pass: D::Ticket,
+        user: UserName,
+        password: Password,
+        session: SessionName,
+        wanted: u64,
+        moment: Moment,
+    ) -> (D::Ticket, Result<LoginAnswer, StepFault>) {
+        self.door
+            .login(rt, pass, user, password, session, wanted, moment)
+    }
+
+    fn act<R: Wait + Dial>(
+        &self,
+        rt: &R,
+        pass: D::Ticket,
+        user: UserName,
+        request: Request,
+        moment: Moment,
+    ) -> (D::Ticket, Result<Outcome, StepFault>) {
+        self.wire.wait_at(self.clock, &self.wire.asking);
+        self.door.act(rt, pass, user, request, moment)
+    }
+
+    fn match_one<R: Wait + Dial>(
+        &self,
+        rt: &R,
+        pass: D::Ticket,
+        moment: Moment,
+    ) -> (D::Ticket, Result<Option<Outcome>, StepFault>) {
+        self.door.match_one(rt, pass, moment)
+    }
+
+    fn pull<R: Wait>(
+        &self,
+        rt: &R,
+        pass: D::Ticket,
+        user: UserName,
+        from: u64,
+        most: u64,
+    ) -> (D::Ticket, Result<Pulled, PullFault>) {
+        self.door.pull(rt, pass, user, from, most)
+    }
+
+    fn logout<R: Wait + Dial>(
+        &self,
+        rt: &R,
+        pass: D::Ticket,
+        user: UserName,
+        moment: Moment,
+    ) -> (D::Ticket, Result<Outcome, StepFault>) {
+        self.door.logout(rt, pass, user, moment)
+    }
+
+    fn records<R: Wait>(
+        &self,
+        rt: &R,
+        pass: D::Ticket,
+        from: u64,
+        most: u64,
+    ) -> (D::Ticket, Result<Vec<Record>, OutOfMemory>) {
+        self.door.records(rt, pass, from, most)
+    }
+
+    fn keep<R: Wait>(&self, rt: &R) -> bool {
+        self.door.keep(rt)
+    }
+
+    fn meet<R: Wait>(&self, rt: &R, one: D::Ticket, other: D::Ticket) -> (D::Ticket, D::Ticket) {
+        self.door.meet(rt, one, other)
+    }
+
+    fn length(&self, pass: &mut D::Ticket) -> u64 {
+        self.door.length(pass)
+    }
+}
