@@ -6,7 +6,7 @@ ghost use Rattle.std.specs.Prelude.{◌≡◌, []};
 use crate::audits::{audit_in, tell_shown};
 use crate::shown::{Shown, show};
 use gx_answers::AccessGate;
-use gx_audit::{Resumed, check_audit, resume};
+use gx_audit::{AuditFault, Resumed, check_audit, resume};
 use gx_audit_bytes::AuditVersion::Two;
 use gx_audit_bytes::write_header;
 use gx_core::Gate;
@@ -52,6 +52,7 @@ pub(crate) fn put_legal(alloc: Global, out: &mut Told, gate: &Gate, policy: &Pol
             out.put_number(count);
             out.put("\n");
         }
+        Err(AuditFault::OutOfMemory) => out.give_up(),
         Err(_) => out.put("not legal\n"),
     }
 }
