@@ -5,6 +5,7 @@ ghost use Rattle.std.specs.Prelude.{◌-◌, ◌^◌, ◌<◌};
 
 mod ending;
 mod keeping;
+mod limits;
 
 use clap::Error;
 use clap::error::ErrorKind as UsageFault;
@@ -26,6 +27,7 @@ use gx_server::{Noted, ProgramFault, migrated_policy, open_gate, policy_for, tol
 use gx_shared::{Kept, Served, serve, serve_journaled};
 use gx_units::OutOfMemory;
 use keeping::{Day, JournalDevice, take_up, tell_cut};
+use limits::places_for;
 use std::alloc::Global;
 use std::fs::File;
 use std::io::{ErrorKind, Read, Write};
@@ -220,7 +222,10 @@ where
     R: Net<Listener = TcpListener, Stream = TcpStream> + Threads + Wait + Clock + Eprint + Sync,
 {
     let listener = listen(rt, serving.port)?;
-    let Ok(lobby) = Arc::new(host.alloc(), Lobby::new(serving.at_once)) else {
+    let alloc = host.alloc();
+    let places = places_for(host, serving.at_once);
+    let lobby = Lobby::new(alloc, places, u64::from(serving.login_within));
+    let Ok(lobby) = Arc::new(alloc, lobby) else {
         return Err(OutOfMemory.into());
     };
     if let Until::InputEnds = serving.until {

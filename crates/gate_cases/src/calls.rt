@@ -480,10 +480,10 @@ impl Act {
 }
 
 /// Three passes, each of a line of its own; `None` where there are no more.
-fn three_passes<I: Issuer, R: Wait>(
+fn three_passes<D: Door, I: Issuer<D>, R: Wait>(
     rt: &R,
     issuer: &mut I,
-) -> Option<(I::Ticket, I::Ticket, I::Ticket)> {
+) -> Option<(D::Ticket, D::Ticket, D::Ticket)> {
     let one = issuer.issue(rt).ok()?;
     let two = issuer.issue(rt).ok()?;
     let three = issuer.issue(rt).ok()?;
@@ -500,7 +500,7 @@ fn put_act<N: GateName + Send + Sync, R: Threads + Wait + Clock + Dial + Sync>(
     act: Act,
 ) {
     let mut entrance = Entrance::new(shared, permits);
-    let Some(passes) = three_passes(rt, &mut entrance) else {
+    let Some(passes) = three_passes::<SharedGate<Gate, N>, _, _>(rt, &mut entrance) else {
         return out.give_up();
     };
     match act {

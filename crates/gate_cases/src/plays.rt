@@ -10,10 +10,9 @@ use gx_audit::{AuditFault, Resumed, check_audit, resume};
 use gx_audit_bytes::AuditVersion::Two;
 use gx_audit_bytes::write_header;
 use gx_core::Gate;
-use gx_door::{Door, Issuer};
 use gx_journal::Journaled;
 use gx_pass::GateName;
-use gx_plays::{House, Script, Stage, Vain, are_owed, play, tell_owed, tell_packets, tell_vain};
+use gx_plays::{Script, Vain, are_owed, play, tell_owed, tell_packets, tell_vain};
 use gx_policy::Policy;
 use gx_shared::{Entrance, Kept, Permits, SharedGate, Ticket, close_kept};
 use gx_trials::{LARGE, Limits, Sips, Told, limits_of};
@@ -164,18 +163,6 @@ fn tell<R: Wait>(
     }
 }
 
-/// Performs a play at this door. Answers what was waited for in vain; `None` where no thread could be made.
-fn perform<
-    T: Drop + Send,
-    D: Door<Ticket = T> + Sync,
-    I: Issuer<Ticket = T> + Drop,
-    R: Threads + Wait + Clock + Sync,
->(rt: &R, alloc: Global, door: &D, issuer: I, script: &Script<'_>) -> Option<Vain> {
-    let house = House::new(rt, alloc, door);
-    let stage = Stage::new(&house, script);
-    play(&stage, issuer)
-}
-
 /// Performs a play at a gate whose records are kept with this pass, and tells of it.
 pub(crate) fn play_at<N: GateName + Send + Sync, R: Threads + Wait + Clock + Sync>(
     rt: &R,
@@ -194,7 +181,7 @@ pub(crate) fn play_at<N: GateName + Send + Sync, R: Threads + Wait + Clock + Syn
     let door: Journaled<'_, SharedGate<Gate, N>, Sips, Brand> = Journaled::new(
         alloc, &shared, pass, 0, device,
     );
-    let vain = perform(
+    let vain = play(
         rt,
         alloc,
         &door,

@@ -52,8 +52,8 @@ enum Kind {
     Text,
     /// An option with a number from 1 to 65,535, which has to be there.
     Port,
-    /// An option with a number from 1 to 65,534, and the one that holds without it.
-    Count(&'static [&'static str]),
+    /// An option with a number from 1 to the most, and the one that holds without it.
+    Count(i64, &'static [&'static str]),
     /// An option with nothing, which stands beside the option of this name.
     FlagBeside(&'static str),
     /// An option with nothing, which stands in place of the option of this name.
@@ -133,7 +133,7 @@ const SERVE: Subcommand = Subcommand {
         Argument {
             name: "connections",
             value: "N",
-            kind: Kind::Count(&["64"]),
+            kind: Kind::Count(65_534, &["64"]),
             help: "End once N connections were taken and have ended",
         },
         Argument {
@@ -145,8 +145,15 @@ const SERVE: Subcommand = Subcommand {
         Argument {
             name: "connections-at-once",
             value: "N",
-            kind: Kind::Count(&["1024"]),
-            help: "How many connections to serve at once; further ones wait",
+            kind: Kind::Count(65_534, &["1000"]),
+            help: "How many connections to serve at once; where all places are taken, \
+                   the oldest connection that has not logged in is hung up on for the next",
+        },
+        Argument {
+            name: "login-within",
+            value: "S",
+            kind: Kind::Count(15, &["10"]),
+            help: "Hang up on a connection that has not logged in S seconds after it came",
         },
         Argument {
             name: "journal",
@@ -237,7 +244,7 @@ fn build_argument<'a>(alloc: Global, asked: &Argument) -> Result<Arg<'a>, AllocE
         Kind::Word => Ok(made.value_name(asked.value).required(true)),
         Kind::Text => Ok(made.long(asked.name).value_name(asked.value)),
         Kind::Port => Ok(number(made.required(true), asked, 65_535)),
-        Kind::Count(default) => Ok(number(made.default_values(default), asked, 65_534)),
+        Kind::Count(most, default) => Ok(number(made.default_values(default), asked, most)),
         Kind::FlagBeside(other) => flag(made, asked).requires_arg(other),
         Kind::FlagInPlaceOf(other) => flag(made, asked).conflicts_with(other),
     }

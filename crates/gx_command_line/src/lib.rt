@@ -38,6 +38,8 @@ pub struct Serving<'a> {
     pub until: Until,
     /// How many connections to serve at once.
     pub at_once: u16,
+    /// How many seconds a connection has for its login.
+    pub login_within: u16,
     /// The journal of the day, if one is kept.
     pub journal: Option<JournalFile<'a>>,
 }
@@ -103,6 +105,7 @@ fn server_options<'a>(given: &ArgMatches<'a>) -> Option<Serving<'a>> {
         port: given.get_one::<u16>("port")?,
         until: end_of_server(given)?,
         at_once: given.get_one::<u16>("connections-at-once")?,
+        login_within: given.get_one::<u16>("login-within")?,
         journal: journal_file(given),
     })
 }

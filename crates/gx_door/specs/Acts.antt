@@ -1,5 +1,5 @@
 -- What calls of a shared gate do to the pass, and what they answer.
-use Rattle.std.specs.Prelude.{◌≡◌, ◌↔◌, ℕ, ◌+◌, ◌≤◌, max, min, List, [], ◌∷◌, ◌++◌, length, IsFalse}
+use Rattle.std.specs.Prelude.{◌≡◌, ◌↔◌, ℕ, ◌+◌, ◌≤◌, max, min, List, [], ◌∷◌, ◌++◌, length, IsFalse, Option, Some, None}
 use mathlib.Core.List.{IsPrefix}
 use Rattle.gx_units.specs.declared.names.Password.{Password}
 use Rattle.gx_units.specs.declared.names.SessionName.{SessionName}
@@ -22,7 +22,12 @@ use Rattle.gx_answers.specs.Logins.{login_answered}
 use Rattle.gx_answers.specs.Steps.{IsFull, has_its_places}
 use Rattle.gx_answers.specs.Told.{ends_before, stream_of}
 use Rattle.gx_pass.specs.declared.view.Holds.{Holds}
-use Rattle.gx_pass.specs.Views.{mine}
+use Rattle.gx_pass.specs.Views.{holds, mine}
+
+-- what a pass has met that may be away for the time of a call
+abbrev pub met : {T : Type 0} → (T → Holds) → Option T → Holds
+met held None = holds 0 [] 0
+met held (Some pass) = held pass
 
 -- a gate with these records
 abbrev pub gate_at : PolicyData → List RecordData → GateData

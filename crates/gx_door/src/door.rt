@@ -12,8 +12,10 @@ ghost use Rattle.gx_answers.specs.Matches.{matching_of};
 ghost use Rattle.gx_pass.specs.Views.{mine, retold};
 ghost use Rattle.gx_door.specs.declared.fault.PullFault.TheVariants as pull_faults;
 ghost use Rattle.gx_door.specs.Acts.{asked_on, gate_met, login_on};
+ghost use Rattle.gx_door.specs.Callers.{caller_of};
 ghost use Rattle.gx_door.specs.Acts.{AddsOwn, EndsWith, IsLater, IsPulled, IsToldFull, LogsIn, MayBeRefused};
 
+use crate::caller::Caller;
 use crate::dial::Dial;
 use crate::fault::PullFault;
 use gx_answers::{LoginAnswer, Outcome, Pulled, StepFault};
@@ -44,6 +46,14 @@ pub trait Door {
 
     // How many records were added with the pass.
     ghost added: { Self.Ticket → ℕ };
+
+    /// The number of the connection that holds the pass.
+    fn line_of(&self, pass: &Self::Ticket) -> u16
+        ensures { result ≡ (held pass.now).line };
+
+    /// Who asks to log in so. No step is made.
+    fn caller<R: Wait>(&self, rt: &R, user: UserName, password: Password) -> Caller
+        ensures { result ≡ caller_of policy user password };
 
     /// A login on the pass's line, and what it is told.
     fn login<R: Wait + Dial>(

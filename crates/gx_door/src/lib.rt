@@ -2,11 +2,13 @@
 //! the gate behind it.
 #![tactic(auto)]
 
+mod caller;
 mod dial;
 mod door;
 mod fault;
 mod issuer;
 
+pub use caller::Caller;
 pub use dial::Dial;
 pub use door::Door;
 pub use fault::PullFault;

@@ -5,7 +5,7 @@ ghost use Rattle.std.specs.Prelude.{◌≡◌, ◌≤◌, length};
 use crate::journal::Journal;
 use crate::name::JournalName;
 use gx_answers::{LoginAnswer, Outcome, Pulled, StepFault};
-use gx_door::{Dial, Door, PullFault};
+use gx_door::{Caller, Dial, Door, PullFault};
 use gx_history::record::{Record, Request};
 use gx_units::{Moment, OutOfMemory, Password, SessionName, UserName};
 use std::alloc::Global;
@@ -57,6 +57,14 @@ impl<D: Door, W: Write, J: JournalName> Door for Journaled<'_, D, W, J> {
     ghost held = { D.held };
 
     ghost added = { D.added };
+
+    fn line_of(&self, pass: &D::Ticket) -> u16 {
+        self.door.line_of(pass)
+    }
+
+    fn caller<R: Wait>(&self, rt: &R, user: UserName, password: Password) -> Caller {
+        self.door.caller(rt, user, password)
+    }
 
     fn login<R: Wait + Dial>(
         &self,

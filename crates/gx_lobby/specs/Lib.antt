@@ -1,1 +1,2 @@
+pub mod Newcomers
 pub mod Watches

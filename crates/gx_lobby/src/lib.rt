@@ -5,6 +5,7 @@
 mod bell;
 mod clock;
 mod lobby;
+mod newcomers;
 mod peer;
 mod places;
 mod stop;
@@ -13,6 +14,7 @@ mod watch;
 pub use bell::{Bell, Rung};
 pub use clock::now;
 pub use lobby::Lobby;
+pub use newcomers::Newcomers;
 pub use peer::Peer;
 pub use places::{Place, Places};
 pub use stop::{Asked, Stop};

@@ -1,26 +1,32 @@
 //! What the threads of a server share beside its gate.
 
 use crate::bell::Bell;
+use crate::newcomers::Newcomers;
 use crate::places::Places;
 use crate::stop::Stop;
+use std::alloc::Global;
 
-/// What the threads of a server share beside its gate: the matcher's bell, the places for connections,
-/// and whether the server is to end.
+/// What the threads of a server share beside its gate: the matcher's bell, the places for connections, who has not logged
+/// in, and whether the server is to end.
 #[derive(Drop)]
 pub struct Lobby {
     /// Wakes the matcher.
     pub bell: Bell,
     /// One is taken for each connection that is served.
     pub places: Places,
+    /// Who is connected and has not logged in.
+    pub newcomers: Newcomers,
     pub stop: Stop,
 }
 
 impl Lobby {
-    /// The lobby of one run of a server, with so many places for connections at once.
-    pub fn new(at_once: u16) -> Lobby {
+    /// The lobby of one run of a server, with so many places for connections at once, each of which has so many seconds
+    /// for its login.
+    pub fn new(alloc: Global, at_once: u16, login_within: u64) -> Lobby {
         Lobby {
             bell: Bell::new(),
             places: Places::new(at_once),
+            newcomers: Newcomers::new(alloc, login_within),
             stop: Stop::new(),
         }
     }

@@ -2,7 +2,7 @@
 
 use gx_soup::SoupFault;
 use std::alloc::Global;
-use std::net::{SocketAddr, TcpStream};
+use std::net::{Shutdown, SocketAddr, TcpStream};
 
 /// A connection that was taken.
 #[derive(Drop)]
@@ -23,6 +23,11 @@ fn words_of(fault: SoupFault) -> &'static str {
 }
 
 impl Peer {
+    /// Hangs up on him: a read that waits for him ends.
+    pub fn hang_up(&self) {
+        let _ = self.stream.shutdown(Shutdown::Both);
+    }
+
     /// Tells that the connection ended since its bytes are no packets: a line, in one call, so that those of several
     /// connections stay apart; nothing where there is no memory for it.
     pub fn tell<R: Eprint>(&self, rt: &R, alloc: Global, fault: SoupFault) {

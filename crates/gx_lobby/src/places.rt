@@ -3,6 +3,7 @@
 ghost use Rattle.std.specs.Prelude.{◌≡◌, ◌≤◌, ◌+◌, ◌-◌, IsFalse, IsTrue};
 
 use std::sync::{Condvar, Mutex, Wait};
+use std::time::{Clock, Duration};
 
 /// How many places are taken, never more than there are.
 #[derive(Drop)]
@@ -52,16 +53,18 @@ impl Places {
         }
     }
 
-    /// Waits until a place is free, and takes it.
-    pub fn take<'x, R: Wait>(&'x self, rt: &'x R) -> Place<'x, R> {
-        let mut taken = self.taken.lock(rt);
-        for _ in rt.forever() {
-            if taken.take() {
-                return Place { rt, places: self };
-            }
-            taken = self.news.wait(rt, taken);
+    /// Takes a place, if one is free.
+    pub fn take<'x, R: Wait>(&'x self, rt: &'x R) -> Option<Place<'x, R>> {
+        if self.taken.lock(rt).take() {
+            Some(Place { rt, places: self })
+        } else {
+            None
         }
-        unreachable!()
+    }
+
+    /// Waits until a place is given back, or so long.
+    pub fn await_one<R: Wait + Clock>(&self, rt: &R, patience: Duration) {
+        let _ = self.news.wait_timeout(rt, self.taken.lock(rt), patience);
     }
 
     fn give<R: Wait>(&self, rt: &R) {

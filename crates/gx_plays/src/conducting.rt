@@ -4,23 +4,36 @@ use crate::clock::Timed;
 use crate::devices::{WireReader, WireWriter};
 use crate::directing::{Director, Guest, Vain};
 use crate::holding::Holds;
-use crate::house::{House, Stage};
-use gx_door::{Door, Issuer};
-use gx_serve::{Link, converse, match_on};
+use crate::house::{House, Script, Stage};
+use crate::wire::Wire;
+use gx_devices::Counted;
+use gx_door::{Dial, Door, Issuer};
+use gx_reception::{Admits, Opening, Reception};
+use gx_serve::{Gone, HangUp, Link, Received, converse, let_go_of, match_on, receive};
+use gx_soup::SoupFault;
+use std::alloc::Global;
 use std::sync::Wait;
 use std::thread;
 use std::thread::Threads;
 use std::time::Clock;
 
-/// Serves a peer to his end.
-fn attend<'x, T: Drop + Send, D: Door<Ticket = T> + Sync, R: Threads + Wait + Clock + Sync>(
-    guest: Guest<'x, T, D, R>,
-) {
-    let Guest { house, wire, pass } = guest;
-    let rt = &Timed::new(house.rt, &house.clock, &wire.looks);
+/// Serves a user who has a line to his end. Answers why it ended where his bytes are no packets.
+fn attend_user<
+    D: Door + Sync,
+    A,
+    R: Threads + Wait + Clock + Sync,
+    C: Threads + Wait + Clock + Dial + Sync,
+>(
+    rt: &C,
+    house: &House<'_, D, A, R>,
+    wire: &Wire,
+    pass: D::Ticket,
+    opening: Opening,
+) -> Option<SoupFault>
+where
+    D::Ticket: Send,
+{
     let link = Link::new(rt, pass);
-    let reader = WireReader::new(house.rt, wire);
-    let writer = WireWriter::new(house.rt, wire);
     let door = &Holds::new(house.rt, house.door, wire);
     let (_hung_up, listening) = converse(
         rt,
@@ -29,11 +42,57 @@ fn attend<'x, T: Drop + Send, D: Door<Ticket = T> + Sync, R: Threads + Wait + Cl
         &house.bell,
         &house.stop,
         &link,
-        reader,
-        writer,
+        opening,
+        Counted::new(WireReader::new(house.rt, wire)),
+        WireWriter::new(house.rt, wire),
         wire,
     );
-    wire.leave(house.rt, listening.fault());
+    listening.fault()
+}
+
+/// Serves a peer to his end. Answers why it ended where his bytes are no packets.
+fn attend_peer<D: Door + Sync, A: Admits<D>, R: Threads + Wait + Clock + Sync>(
+    house: &House<'_, D, A, R>,
+    wire: &Wire,
+) -> Option<SoupFault>
+where
+    D::Ticket: Send,
+{
+    let rt = &Timed::new(house.rt, &house.clock, &wire.looks);
+    let mut reader = Counted::new(WireReader::new(house.rt, wire));
+    let received = receive(
+        rt,
+        house.alloc,
+        house.door,
+        &house.stop,
+        house.reception,
+        &mut reader,
+        &mut Counted::new(WireWriter::new(house.rt, wire)),
+    );
+    match received {
+        Received::Admitted(pass, opening) => {
+            wire.admitted.raise();
+            attend_user(rt, house, wire, pass, opening)
+        }
+        Received::Gone(gone) => {
+            wire.finish();
+            let_go_of(house.rt, &mut reader);
+            match gone {
+                Gone::Broken(fault) => Some(fault),
+                Gone::NoLine(_) | Gone::Denied | Gone::Quietly => None,
+            }
+        }
+    }
+}
+
+/// Serves a peer to his end.
+fn attend<D: Door + Sync, A: Admits<D>, R: Threads + Wait + Clock + Sync>(guest: Guest<'_, D, A, R>)
+where
+    D::Ticket: Send,
+{
+    let Guest { house, wire } = guest;
+    let fault = attend_peer(house, wire);
+    wire.leave(house.rt, fault);
 }
 
 /// Performs the cues, each connection in a thread of its own, and waits until all have ended. Answers what was waited for
@@ -42,9 +101,9 @@ fn conduct<
     'x,
     T: Drop + Send,
     D: Door<Ticket = T> + Sync,
-    I: Issuer<Ticket = T> + Drop,
+    A: Admits<D> + Sync,
     R: Threads + Wait + Clock + Sync,
->(stage: &'x Stage<'x, D, R>, director: Director<T, I>) -> Vain {
+>(stage: &'x Stage<'x, D, A, R>, director: Director<T>) -> Vain {
     thread::scope(thread::scope_env(), stage.house.rt, |scope| {
         let mut director = director;
         for _ in &stage.script.peers {
@@ -58,10 +117,13 @@ fn conduct<
 }
 
 /// Makes matching steps until the bell is closed. Gives the pass back.
-fn make_matches<'x, T: Drop + Send, D: Door<Ticket = T> + Sync, R: Threads + Wait + Clock + Sync>(
-    house: &'x House<'x, D, R>,
-    pass: T,
-) -> T {
+fn make_matches<
+    'x,
+    T: Drop + Send,
+    D: Door<Ticket = T> + Sync,
+    A: Sync,
+    R: Threads + Wait + Clock + Sync,
+>(house: &'x House<'x, D, A, R>, pass: T) -> T {
     let rt = &Timed::new(house.rt, &house.clock, &house.looks);
     match_on(rt, house.door, &house.bell, pass)
 }
@@ -72,9 +134,9 @@ fn play_with<
     'x,
     T: Drop + Send,
     D: Door<Ticket = T> + Sync,
-    I: Issuer<Ticket = T> + Drop,
+    A: Admits<D> + Sync,
     R: Threads + Wait + Clock + Sync,
->(stage: &'x Stage<'x, D, R>, director: Director<T, I>, pass: T) -> Option<Vain> {
+>(stage: &'x Stage<'x, D, A, R>, director: Director<T>, pass: T) -> Option<Vain> {
     thread::scope(thread::scope_env(), stage.house.rt, |scope| {
         let house = stage.house;
         let Ok(matcher) = (&*scope).spawn(move || make_matches(house, pass)) else {
@@ -87,21 +149,37 @@ fn play_with<
     })
 }
 
-/// Performs a play beside a matcher, whose pass is the first that is issued. Answers what was waited for in vain; `None`
-/// where no thread could be made, or there was no pass.
-pub fn play<
-    'x,
+/// Performs a play at this door, where users are given lines so, with these passes for the matcher and for who performs it.
+fn play_at<
     T: Drop + Send,
     D: Door<Ticket = T> + Sync,
-    I: Issuer<Ticket = T> + Drop,
+    A: Admits<D> + Sync,
     R: Threads + Wait + Clock + Sync,
->(stage: &'x Stage<'x, D, R>, issuer: I) -> Option<Vain> {
+>(
+    rt: &R,
+    alloc: Global,
+    door: &D,
+    reception: &A,
+    script: &Script<'_>,
+    pass: T,
+    own: T,
+) -> Option<Vain> {
+    let house = House::new(rt, alloc, door, reception);
+    play_with(&Stage::new(&house, script), Director::new(own), pass)
+}
+
+/// Performs a play at this door, beside a matcher. Line 1 is that of the matcher, 2 that of who performs the play, 3 that
+/// of strangers; those who log in are given the next. Answers what was waited for in vain; `None` where no thread could be
+/// made, or there was no pass.
+pub fn play<
+    T: Drop + Send,
+    D: Door<Ticket = T> + Sync,
+    I: Issuer<D> + Drop + Send,
+    R: Threads + Wait + Clock + Sync,
+>(rt: &R, alloc: Global, door: &D, issuer: I, script: &Script<'_>) -> Option<Vain> {
     let mut issuer = issuer;
-    let Ok(pass) = issuer.issue(stage.house.rt) else {
-        return None;
-    };
-    match issuer.issue(stage.house.rt) {
-        Ok(own) => play_with(stage, Director::new(own, issuer), pass),
-        Err(_) => None,
-    }
+    let pass = issuer.issue(rt).ok()?;
+    let own = issuer.issue(rt).ok()?;
+    let reception = Reception::open(rt, door, issuer).ok()?;
+    play_at(rt, alloc, door, &reception, script, pass, own)
 }

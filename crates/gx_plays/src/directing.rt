@@ -3,7 +3,7 @@
 use crate::cue::Cue;
 use crate::house::{House, Stage};
 use crate::wire::Wire;
-use gx_door::{Door, Issuer};
+use gx_door::Door;
 use std::sync::Wait;
 use std::time::Clock;
 
@@ -18,11 +18,10 @@ pub enum Vain {
     EndOf(usize),
 }
 
-/// Who performs a play, with a pass of his own, and what issues those of peers.
+/// Who performs a play, with a pass of his own.
 #[derive(Drop)]
-pub(crate) struct Director<T: Drop, I: Drop> {
+pub(crate) struct Director<T: Drop> {
     pass: T,
-    issuer: I,
     /// The place of the next cue.
     next: usize,
     /// Whether the last cue opened a connection.
@@ -30,12 +29,11 @@ pub(crate) struct Director<T: Drop, I: Drop> {
     vain: Vain,
 }
 
-impl<T: Drop, I: Drop> Director<T, I> {
+impl<T: Drop> Director<T> {
     /// Before the first cue.
-    pub(crate) fn new(pass: T, issuer: I) -> Director<T, I> {
+    pub(crate) fn new(pass: T) -> Director<T> {
         Director {
             pass,
-            issuer,
             next: 0,
             opened: false,
             vain: Vain::Nothing,
@@ -53,53 +51,42 @@ impl<T: Drop, I: Drop> Director<T, I> {
     }
 }
 
-/// The line of a peer who connects, the pass that his steps are made with, and what threads share.
+/// The line of a peer who connects, and what threads share.
 #[derive(Drop)]
-pub(crate) struct Guest<'x, T: Drop, D, R> {
-    pub(crate) house: &'x House<'x, D, R>,
+pub(crate) struct Guest<'x, D, A, R> {
+    pub(crate) house: &'x House<'x, D, A, R>,
     pub(crate) wire: &'x Wire,
-    pub(crate) pass: T,
 }
 
-impl<'x, T: Drop, D: Door<Ticket = T>, R: Wait + Clock> Stage<'x, D, R> {
-    /// The peer of this name connects; `None` where there is none, or no pass.
-    fn guest<I: Issuer<Ticket = T>>(
-        &self,
-        issuer: &mut I,
-        name: &str,
-    ) -> Option<Guest<'x, T, D, R>> {
+impl<'x, T: Drop, D: Door<Ticket = T>, A, R: Wait + Clock> Stage<'x, D, A, R> {
+    /// The peer of this name connects; `None` where there is none.
+    fn guest(&self, name: &str) -> Option<Guest<'x, D, A, R>> {
         let house = self.house;
         let wire = self.begin(name)?;
-        match issuer.issue(house.rt) {
-            Ok(pass) => Some(Guest { house, wire, pass }),
-            Err(_) => None,
-        }
+        Some(Guest { house, wire })
     }
 
     /// Waits until the server reads from each connection, where one was opened just now.
-    fn await_opened<I: Drop>(&self, director: &mut Director<T, I>) -> bool {
+    fn await_opened(&self, director: &mut Director<T>) -> bool {
         let opened = director.opened;
         director.opened = false;
         !opened || self.all_read(&mut director.pass)
     }
 
     /// Performs a cue that opens no connection. Answers whether what it waits for came.
-    fn perform_next<I: Drop>(&self, director: &mut Director<T, I>, cue: &Cue<'_>) -> bool {
+    fn perform_next(&self, director: &mut Director<T>, cue: &Cue<'_>) -> bool {
         self.await_opened(director) && self.perform(&mut director.pass, cue)
     }
 
     /// Performs the cues up to the next one that opens a connection, or to the end.
-    pub(crate) fn next_guest<I: Issuer<Ticket = T> + Drop>(
-        &self,
-        director: &mut Director<T, I>,
-    ) -> Option<Guest<'x, T, D, R>> {
+    pub(crate) fn next_guest(&self, director: &mut Director<T>) -> Option<Guest<'x, D, A, R>> {
         for _ in 0..u64::MAX {
             let place = director.next_place()?;
             let line = *self.script.lines.get(place)?;
             match Cue::read(line) {
                 Some(Cue::Open(name)) if self.await_opened(director) => {
                     director.opened = true;
-                    return self.guest(&mut director.issuer, name);
+                    return self.guest(name);
                 }
                 Some(cue) if self.perform_next(director, &cue) => {}
                 _ => director.vain = Vain::Cue(place),
@@ -109,7 +96,7 @@ impl<'x, T: Drop, D: Door<Ticket = T>, R: Wait + Clock> Stage<'x, D, R> {
     }
 
     /// Ends all connections, and lets all threads end.
-    fn end_each<I: Drop>(&self, director: &mut Director<T, I>) {
+    fn end_each(&self, director: &mut Director<T>) {
         if let Vain::Nothing = director.vain
             && let Some(place) = self.end_all(&mut director.pass)
         {
@@ -122,7 +109,7 @@ impl<'x, T: Drop, D: Door<Ticket = T>, R: Wait + Clock> Stage<'x, D, R> {
     }
 
     /// Performs the last cues, and ends all connections. Answers what was waited for in vain.
-    pub(crate) fn end<I: Issuer<Ticket = T> + Drop>(&self, director: Director<T, I>) -> Vain {
+    pub(crate) fn end(&self, director: Director<T>) -> Vain {
         let mut director = director;
         let _none = self.next_guest(&mut director);
         self.end_each(&mut director);

@@ -2,7 +2,7 @@
 
 use crate::wire::Wire;
 use gx_answers::{LoginAnswer, Outcome, Pulled, StepFault};
-use gx_door::{Dial, Door, PullFault};
+use gx_door::{Caller, Dial, Door, PullFault};
 use gx_history::record::{Record, Request};
 use gx_units::{Moment, OutOfMemory, Password, SessionName, UserName};
 use std::sync::Wait;
@@ -40,6 +40,14 @@ impl<D: Door, C: Wait + Clock> Door for Holds<'_, D, C> {
     ghost held = { D.held };
 
     ghost added = { D.added };
+
+    fn line_of(&self, pass: &D::Ticket) -> u16 {
+        self.door.line_of(pass)
+    }
+
+    fn caller<R: Wait>(&self, rt: &R, user: UserName, password: Password) -> Caller {
+        self.door.caller(rt, user, password)
+    }
 
     fn login<R: Wait + Dial>(
         &self,

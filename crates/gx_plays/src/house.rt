@@ -5,12 +5,14 @@ use crate::peer::Peer;
 use gx_lobby::{Bell, Stop};
 use std::alloc::Global;
 
-/// What the threads of a play share: the door, the clock, the matcher's bell, and whether the server is to end.
+/// What the threads of a play share: the door, who is given a line, the clock, the matcher's bell, and whether the server
+/// is to end.
 #[derive(Drop)]
-pub struct House<'x, D, R> {
+pub(crate) struct House<'x, D, A, R> {
     pub(crate) rt: &'x R,
     pub(crate) alloc: Global,
     pub(crate) door: &'x D,
+    pub(crate) reception: &'x A,
     pub(crate) clock: PlayClock,
     /// How often the matcher has looked at the clock.
     pub(crate) looks: Looks,
@@ -18,13 +20,19 @@ pub struct House<'x, D, R> {
     pub(crate) stop: Stop,
 }
 
-impl<'x, D, R> House<'x, D, R> {
+impl<'x, D, A, R> House<'x, D, A, R> {
     /// A play that was not begun, at this door.
-    pub fn new(rt: &'x R, alloc: Global, door: &'x D) -> House<'x, D, R> {
+    pub(crate) fn new(
+        rt: &'x R,
+        alloc: Global,
+        door: &'x D,
+        reception: &'x A,
+    ) -> House<'x, D, A, R> {
         House {
             rt,
             alloc,
             door,
+            reception,
             clock: PlayClock::new(),
             looks: Looks::new(),
             bell: Bell::new(),
@@ -34,19 +42,19 @@ impl<'x, D, R> House<'x, D, R> {
 }
 
 /// A play as it is performed: its cues, its peers, and what its threads share.
-pub struct Stage<'x, D, R> {
-    pub(crate) house: &'x House<'x, D, R>,
+pub(crate) struct Stage<'x, D, A, R> {
+    pub(crate) house: &'x House<'x, D, A, R>,
     pub(crate) script: &'x Script<'x>,
 }
 
-impl<'x, D, R> Stage<'x, D, R> {
+impl<'x, D, A, R> Stage<'x, D, A, R> {
     /// A play that was not begun.
-    pub fn new(house: &'x House<'x, D, R>, script: &'x Script<'x>) -> Stage<'x, D, R> {
+    pub(crate) fn new(house: &'x House<'x, D, A, R>, script: &'x Script<'x>) -> Stage<'x, D, A, R> {
         Stage { house, script }
     }
 }
 
-impl<D, R> Drop for Stage<'_, D, R> {
+impl<D, A, R> Drop for Stage<'_, D, A, R> {
     fn drop(self) {
         let Stage {
             house: _,

@@ -19,5 +19,5 @@ pub use clock::{Looks, PlayClock, Timed};
 pub use comparing::{are_owed, tell_owed};
 pub use conducting::play;
 pub use directing::Vain;
-pub use house::{House, Script, Stage};
+pub use house::Script;
 pub use telling::{tell_packets, tell_vain};

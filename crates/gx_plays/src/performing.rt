@@ -59,7 +59,7 @@ fn numbered(alloc: Global, hex: &str, number: u64) -> Result<String, OutOfMemory
     Ok(hex.replacen(alloc, "######", digits.as_str(), 1)?)
 }
 
-impl<'x, D: Door, R: Wait + Clock> Stage<'x, D, R> {
+impl<'x, D: Door, A, R: Wait + Clock> Stage<'x, D, A, R> {
     /// The line of the peer of this name, which is begun.
     pub(crate) fn begin(&self, name: &str) -> Option<&'x Wire> {
         let script: &'x Script<'x> = self.script;

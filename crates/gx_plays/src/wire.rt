@@ -127,6 +127,8 @@ pub(crate) struct Wire {
     pub(crate) looks: Looks,
     /// The connection was begun.
     pub(crate) begun: Flag,
+    /// Its user has a line: the connection's threads look at the clock.
+    pub(crate) admitted: Flag,
     /// The server writes no more.
     finished: Flag,
     /// How often the threads of the connection had looked at the clock to measure a wait when it was finished.
@@ -186,6 +188,7 @@ impl Wire {
             fault: Mutex::new(None),
             looks: Looks::new(),
             begun: Flag::new(),
+            admitted: Flag::new(),
             finished: Flag::new(),
             measured: AtomicU64::new(0),
             cut: Flag::new(),
@@ -246,12 +249,14 @@ impl Wire {
     /// Whether the server writes no more, and waits for the peer's end by now, or has hung up.
     pub(crate) fn is_finished(&self) -> bool {
         let measured = self.measured.load(Ordering::SeqCst);
-        self.cut.is_raised() || self.finished.is_raised() && self.looks.waits() > measured
+        let waits = !self.admitted.is_raised() || self.looks.waits() > measured;
+        self.cut.is_raised() || self.finished.is_raised() && waits
     }
 
     /// Whether the server is about to do nothing at this connection but to wait for its peer.
     pub(crate) fn is_stuck(&self) -> bool {
-        self.finished.is_raised() || self.cut.is_raised() || self.taking.is_waited_at()
+        let waits = !self.admitted.is_raised() || self.taking.is_waited_at();
+        waits || self.finished.is_raised() || self.cut.is_raised()
     }
 
     /// The server writes these bytes.

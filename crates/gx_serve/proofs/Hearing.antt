@@ -1,7 +1,7 @@
 -- What a reader has heard, piece by piece.
 use Rattle.std.proofs.Common.{◌≡◌, ◌<◌, ℕ, inl, inr, ◌⊎◌, List, [], ◌++◌, Option, Some, None, refl, sym, ap, ◌∙◌, subst, append-nil, append_assoc, arith}
-use Rattle.std.specs.Io.KnownBytes.{Consumes, IsAtEnd, Keeps}
-use Rattle.std.proofs.KnownBytes.{Consumes-nil, Consumes-trans, Consumes-kept}
+use Rattle.std.specs.Io.KnownBytes.{Consumes, IsAtEnd}
+use Rattle.std.proofs.KnownBytes.{Consumes-nil, Consumes-trans}
 use Rattle.gx_devices.specs.Devices.{one_more}
 use Rattle.gx_soup.specs.declared.packet.SoupFault.{SoupFault}
 use Rattle.gx_soup.specs.Feeding.{Held, HasRead}
@@ -9,7 +9,9 @@ use Rattle.gx_soup.specs.Packets.{packets_of}
 use Rattle.gx_session.specs.Happenings.{Happening}
 use Rattle.gx_serve.specs.declared.reading.Left.{Left}
 use Rattle.gx_serve.specs.declared.reading.Left.TheVariants as lefts
-use Rattle.gx_serve.specs.Readings.{HasEnded, IfOpen, IsBroken, IsLeft, Leaves, Stands, WasHeard}
+use Rattle.gx_reception.specs.Arrivals.{HasEnded}
+use Rattle.gx_reception.specs.Openings.{IsOpening, OpeningData}
+use Rattle.gx_serve.specs.Readings.{IfOpen, IsBroken, IsLeft, Leaves, Stands, WasHeard}
 
 -- a piece was taken
 pub opened : (feeder feeder' : Held) (piece : List ℕ) (result : Left) → ((before : List ℕ) → HasRead feeder before → IsLeft (packets_of (before ++ piece)).fault result)
@@ -38,33 +40,47 @@ still_broken found told before piece b = record {
   told = b.told;
 }
 
--- a read at the end
-pub at_end : (was is : Option (List ℕ)) (failed failed' : ℕ) → Consumes was is [] → IsAtEnd is → HasEnded was is failed failed'
-at_end was is failed failed' took end = (took, inl end)
-
--- a read that failed
-pub has_failed : (was is : Option (List ℕ)) (failed failed' : ℕ) → Keeps was is → failed' ≡ one_more failed → HasEnded was is failed failed'
-has_failed was is failed failed' kept count = (Consumes-kept was was is [] (Consumes-nil was) kept, inr count)
-
--- of what was read so far
-pub record Hears (input left : Option (List ℕ)) (feeder : Held) (state : Left) : Type 0 where
+-- of what was read so far, behind the bytes that the connection began with
+pub record Hears (before : List ℕ) (input left : Option (List ℕ)) (feeder : Held) (state : Left) : Type 0 where
   pub bytes : List ℕ
   pub consumed : Consumes input left bytes
-  pub stands : Stands state feeder bytes
+  pub stands : Stands state feeder (before ++ bytes)
 
-nothing_wrong : (packets_of []).fault ≡ None
-unfolding packets_of
-nothing_wrong = refl
+-- what the bytes that a connection began with leave
+begun : (before : List ℕ) (o : OpeningData) (state : Left) → IsOpening before o → IsLeft o.fault state → Leaves before state
+begun before o lefts.Open opening left = opening.fault ∙ left
+begun before o (lefts.Over over) opening left = tt
+begun before o (lefts.Refused told) opening left = left
+begun before o (lefts.Broken found told) opening left = record {
+  front = before;
+  rest = [];
+  whole = sym (append-nil before);
+  fault = opening.fault ∙ left.0;
+  told = left.1;
+}
 
-pub hears_nothing : (input : Option (List ℕ)) (feeder : Held) → HasRead feeder [] → Hears input input feeder lefts.Open
-hears_nothing input feeder read = record { bytes = []; consumed = Consumes-nil input; stands = (read, nothing_wrong) }
+has_begun : (before : List ℕ) (o : OpeningData) (state : Left) → IsOpening before o → IfOpen state (HasRead o.feeder before)
+has_begun before o lefts.Open opening = opening.reads
+has_begun before o (lefts.Over over) opening = tt
+has_begun before o (lefts.Refused told) opening = tt
+has_begun before o (lefts.Broken found told) opening = tt
 
-pub hears_more : (input mid left : Option (List ℕ)) (feeder feeder' : Held) (state state' : Left) (piece : List ℕ) → Hears input mid feeder state → Consumes mid left piece
-    → ((before : List ℕ) → Stands state feeder before → Stands state' feeder' (before ++ piece)) → Hears input left feeder' state'
-hears_more input mid left feeder feeder' state state' piece h took goes = record {
+pub hears_nothing : (before : List ℕ) (input : Option (List ℕ)) (o : OpeningData) (state : Left) → IsOpening before o → IsLeft o.fault state → Hears before input input o.feeder state
+hears_nothing before input o state opening left = record {
+  bytes = [];
+  consumed = Consumes-nil input;
+  stands = subst (Stands state o.feeder) (sym (append-nil before)) (has_begun before o state opening, begun before o state opening left);
+}
+
+pub hears_first : (before : List ℕ) (input : Option (List ℕ)) (o : OpeningData) (feeder : Held) (state : Left) → feeder ≡ o.feeder → IsOpening before o → IsLeft o.fault state → Hears before input input feeder state
+hears_first before input o feeder state is opening left = subst (λ f. Hears before input input f state) (sym is) (hears_nothing before input o state opening left)
+
+pub hears_more : (before : List ℕ) (input mid left : Option (List ℕ)) (feeder feeder' : Held) (state state' : Left) (piece : List ℕ) → Hears before input mid feeder state → Consumes mid left piece
+    → ((bytes : List ℕ) → Stands state feeder bytes → Stands state' feeder' (bytes ++ piece)) → Hears before input left feeder' state'
+hears_more before input mid left feeder feeder' state state' piece h took goes = record {
   bytes = h.bytes ++ piece;
   consumed = Consumes-trans input mid left h.bytes piece h.consumed took;
-  stands = goes h.bytes h.stands;
+  stands = subst (Stands state' feeder') (append_assoc before h.bytes piece) (goes (before ++ h.bytes) h.stands);
 }
 
 some_failed : (failed failed' : ℕ) → failed' ≡ one_more failed → 0 < failed'
@@ -74,8 +90,8 @@ ended_so : (left : Option (List ℕ)) (failed failed' : ℕ) → IsAtEnd left �
 ended_so left failed failed' (inl end) = inl end
 ended_so left failed failed' (inr count) = inr (some_failed failed failed' count)
 
-pub heard : (input mid left : Option (List ℕ)) (feeder : Held) (state : Left) (failed failed' : ℕ) → Hears input mid feeder state → HasEnded mid left failed failed' → WasHeard input left failed' state
-heard input mid left feeder state failed failed' h end = record {
+pub heard : (before : List ℕ) (input mid left : Option (List ℕ)) (feeder : Held) (state : Left) (failed failed' : ℕ) → Hears before input mid feeder state → HasEnded mid left failed failed' → WasHeard before input left failed' state
+heard before input mid left feeder state failed failed' h end = record {
   bytes = h.bytes;
   consumed = subst (Consumes input left) (append-nil h.bytes) (Consumes-trans input mid left h.bytes [] h.consumed end.0);
   leaves = h.stands.1;

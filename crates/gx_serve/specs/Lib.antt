@@ -1,8 +1,9 @@
 pub mod Breaks
 pub mod Endings
 pub mod Marks
+pub mod Readings
+pub mod Receptions
 pub mod Seats
 pub mod Seeking
 pub mod Speech
 pub mod Tellings
-pub mod Readings

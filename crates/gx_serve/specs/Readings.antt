@@ -1,7 +1,6 @@
 -- What a piece of a connection's bytes leaves of its session.
 use Rattle.std.specs.Prelude.{◌≡◌, ◌<◌, ℕ, ◌⊎◌, List, [], ◌++◌, Option, Some, None}
 use Rattle.std.specs.Io.KnownBytes.{Consumes, IsAtEnd}
-use Rattle.gx_devices.specs.Devices.{one_more}
 use Rattle.gx_soup.specs.Feeding.{Held, HasRead}
 use Rattle.gx_soup.specs.Packets.{packets_of}
 use Rattle.gx_answers.specs.declared.outcome.StepFault.TheVariants as faults
@@ -58,13 +57,10 @@ Leaves bytes (lefts.Broken found told) = IsBroken found told bytes
 abbrev pub Stands : Left → Held → List ℕ → Type 0
 Stands left feeder bytes = IfOpen left (HasRead feeder bytes) × Leaves bytes left
 
--- the input has ended, or a call of its reader has failed; no byte of it was taken
-abbrev pub HasEnded : Option (List ℕ) → Option (List ℕ) → ℕ → ℕ → Type 0
-HasEnded was is failed failed' = Consumes was is [] × (IsAtEnd is ⊎ (failed' ≡ one_more failed))
-
--- a connection was read to its end, or until its reader failed, and this is what its bytes leave of the session
-pub record WasHeard (input left : Option (List ℕ)) (failed : ℕ) (heard : Left) : Type 0 where
+-- a connection that began with these bytes was read to its end, or until its reader failed, and this is what its bytes leave
+-- of the session
+pub record WasHeard (before : List ℕ) (input left : Option (List ℕ)) (failed : ℕ) (heard : Left) : Type 0 where
   pub bytes : List ℕ
   pub consumed : Consumes input left bytes
-  pub leaves : Leaves bytes heard
+  pub leaves : Leaves (before ++ bytes) heard
   pub ended : IsAtEnd left ⊎ (0 < failed)

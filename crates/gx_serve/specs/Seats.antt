@@ -14,7 +14,7 @@ use Rattle.gx_soup.specs.declared.packet.ClientPacket.{ClientPacket}
 use Rattle.gx_soup.specs.declared.packet.ClientPacket.TheVariants as client
 use Rattle.gx_soup.specs.declared.packet.LoginRequest.{LoginRequest}
 use Rattle.gx_pass.specs.declared.view.Holds.{Holds}
-use Rattle.gx_pass.specs.Views.{holds, mine}
+use Rattle.gx_pass.specs.Views.{mine}
 use Rattle.gx_door.specs.Acts.{asked_on, gate_met, login_on, AddsOwn, IsLater, IsToldFull, LogsIn, MayBeRefused}
 use Rattle.gx_session.specs.declared.event.Control.{Control}
 use Rattle.gx_session.specs.declared.event.Control.TheVariants as controls
@@ -51,11 +51,6 @@ is_on Waiting = false
 is_on On = true
 is_on Abandoned = false
 is_on Done = false
-
--- what the pass in the seat has met
-abbrev pub met : {T : Type 0} → (T → Holds) → Option T → Holds
-met held None = holds 0 [] 0
-met held (Some pass) = held pass
 
 -- the step was made: its record is one more of the pass's own, behind all that had been met
 pub record WasMade (policy : PolicyData) (a : Asked) (was is : Holds) : Type 0 where

@@ -7,6 +7,7 @@ use crate::writing::write_on;
 use gx_devices::Counted;
 use gx_door::{Dial, Door};
 use gx_lobby::{Bell, Stop};
+use gx_reception::Opening;
 use gx_soup::SoupFault;
 use std::alloc::Global;
 use std::io::{Read, Write};
@@ -89,17 +90,18 @@ impl Listening {
 /// Reads to the end.
 fn listen<D: Door, I: Read + Drop, R: Wait + Clock + Dial>(
     rt: &R,
-    alloc: Global,
     door: &D,
     bell: &Bell,
     link: &Link<D::Ticket>,
-    reader: I,
+    opening: Opening,
+    reader: Counted<I>,
 ) -> Heard {
-    read_on(rt, alloc, door, bell, link, &mut Counted::new(reader))
+    let mut reader = reader;
+    read_on(rt, door, bell, link, opening, &mut reader)
 }
 
-/// Runs a connection's reader and its writer, each in a thread of its own, until both have ended and the line was hung
-/// up.
+/// Runs the reader and the writer of a connection that begins with a login, each in a thread of its own, until both have
+/// ended and the line was hung up.
 pub fn converse<
     'x,
     T: Drop + Send,
@@ -115,12 +117,13 @@ pub fn converse<
     bell: &'x Bell,
     stop: &'x Stop,
     link: &'x Link<T>,
-    reader: I,
+    opening: Opening,
+    reader: Counted<I>,
     writer: O,
     line: &'x H,
 ) -> (HungUp<'x, H>, Listening) {
     thread::scope(thread::scope_env(), rt, |scope| {
-        let Ok(listening) = (&*scope).spawn(move || listen(rt, alloc, door, bell, link, reader))
+        let Ok(listening) = (&*scope).spawn(move || listen(rt, door, bell, link, opening, reader))
         else {
             let told = link.break_off(rt, door, Break::Fault);
             return (HungUp::new(line), Listening::Unheard(told));

@@ -1,10 +1,10 @@
 //! The reader of a connection.
 
-ghost use Rattle.std.specs.Prelude.{◌≡◌, ◌≤◌, ◌<◌, ℕ, List, ◌++◌, length, take, IfNone, IfSome};
-ghost use Rattle.std.specs.Io.KnownBytes.{Consumes};
+ghost use Rattle.std.specs.Prelude.{◌≡◌, ℕ, List, ◌++◌};
 ghost use Rattle.gx_soup.specs.Feeding.{HasRead};
 ghost use Rattle.gx_soup.specs.Packets.{packets_of};
-ghost use Rattle.gx_serve.specs.Readings.{fault_in, HasEnded, IfOpen, IsCut, IsLeft, Stands, WasHeard};
+ghost use Rattle.gx_reception.specs.Openings.{IsOpening};
+ghost use Rattle.gx_serve.specs.Readings.{fault_in, IfOpen, IsCut, IsLeft, Stands, WasHeard};
 
 use crate::link::Link;
 use crate::seat::{Break, BrokenOff, Ended, Over};
@@ -12,8 +12,8 @@ use gx_answers::StepFault;
 use gx_devices::Counted;
 use gx_door::{Dial, Door};
 use gx_lobby::Bell;
-use gx_soup::{Feeder, SoupFault};
-use std::alloc::Global;
+use gx_reception::{Opening, read_piece};
+use gx_soup::{ClientPacket, Feeder, SoupFault};
 use std::io::Read;
 use std::marker::Model;
 use std::sync::Wait;
@@ -77,6 +77,40 @@ fn break_off<D: Door, R: Wait + Clock + Dial>(
     }
 }
 
+/// Takes packets until the session is over, if it is then.
+fn take_packets<D: Door, R: Wait + Clock + Dial>(
+    rt: &R,
+    door: &D,
+    bell: &Bell,
+    link: &Link<D::Ticket>,
+    packets: &[ClientPacket],
+) -> Option<Over> {
+    for packet in packets {
+        let told = link.take(rt, door, packet);
+        if let Some(over) = told.over(bell.ring(rt)) {
+            return Some(over);
+        }
+    }
+    None
+}
+
+/// Takes packets, and tells the session of the fault behind them, unless it is over. Answers what this leaves of it.
+fn take_all<D: Door, R: Wait + Clock + Dial>(
+    rt: &R,
+    door: &D,
+    bell: &Bell,
+    link: &Link<D::Ticket>,
+    packets: &[ClientPacket],
+    fault: Option<SoupFault>,
+) -> Left
+    ensures { IsLeft fault result }
+{
+    match take_packets(rt, door, bell, link, packets) {
+        Some(over) => Left::Over(over),
+        None => break_off(rt, door, link, fault),
+    }
+}
+
 /// Takes the packets of a piece. Answers what it leaves of the session.
 fn take_piece<D: Door, R: Wait + Clock + Dial>(
     rt: &R,
@@ -95,13 +129,7 @@ fn take_piece<D: Door, R: Wait + Clock + Dial>(
         let told = link.break_off(rt, door, Break::Refused(StepFault::OutOfMemory));
         return Left::Refused(told);
     };
-    for packet in &fed.packets {
-        let told = link.take(rt, door, packet);
-        if let Some(over) = told.over(bell.ring(rt)) {
-            return Left::Over(over);
-        }
-    }
-    break_off(rt, door, link, fed.fault)
+    take_all(rt, door, bell, link, &fed.packets, fed.fault)
 }
 
 /// Takes the packets of a piece, unless the session is over, or was told that it ends.
@@ -126,46 +154,44 @@ fn hear_piece<D: Door, R: Wait + Clock + Dial>(
     }
 }
 
-/// Reads the next piece: how many bytes it has, at least one; `None` at the end of the input, or where the reader fails.
-#[tactic(auto, using(crate::proofs::Hearing::at_end, crate::proofs::Hearing::has_failed))]
-fn read_piece<I: Read>(reader: &mut Counted<I>, buffer: &mut [u8; 4096]) -> Option<usize>
-    ensures some { IfSome result (λ n. (0 < n) × (n ≤ length buffer.new)) }
-    ensures read { IfSome result (λ n. Consumes (I.remaining reader.old.device)
-        (I.remaining reader.new.device) (take n buffer.new)) }
-    ensures ended { IfNone result (HasEnded (I.remaining reader.old.device)
-        (I.remaining reader.new.device) reader.old.failed reader.new.failed) }
-{
-    match reader.read(buffer) {
-        Ok(0) => None,
-        Ok(n) => Some(n),
-        Err(_) => None,
-    }
-}
-
-/// Reads a connection's packets and takes each, until its input ends or fails. Once the session is
-/// over, what comes is let go.
-pub fn read_on<D: Door, I: Read, R: Wait + Clock + Dial>(
+/// Takes the packets that a connection begins with, its login first.
+fn take_opening<D: Door, R: Wait + Clock + Dial>(
     rt: &R,
-    alloc: Global,
     door: &D,
     bell: &Bell,
     link: &Link<D::Ticket>,
+    opening: &Opening,
+) -> Left
+    ensures { IsLeft opening.now.fault result }
+{
+    take_all(rt, door, bell, link, opening.packets(), opening.fault())
+}
+
+/// Takes the packets that a connection begins with, its login first, then reads on and takes each that comes, until its
+/// input ends or fails. Once the session is over, what comes is let go.
+pub fn read_on<D: Door, I: Read, R: Wait + Clock + Dial>(
+    rt: &R,
+    door: &D,
+    bell: &Bell,
+    link: &Link<D::Ticket>,
+    opening: Opening,
     reader: &mut Counted<I>,
 ) -> Heard
-    ensures { WasHeard (I.remaining reader.old.device) (I.remaining reader.new.device)
+    ensures { (before : List ℕ) → IsOpening before opening
+        → WasHeard before (I.remaining reader.old.device) (I.remaining reader.new.device)
         reader.new.failed result }
 {
-    let mut feeder = Feeder::new(alloc);
     let mut buffer = [0u8; 4096];
-    let mut left = Left::Open;
+    let mut left = take_opening(rt, door, bell, link, &opening);
+    let mut feeder = opening.into_feeder();
     for _ in rt.forever() {
         let Some(n) = read_piece(reader, &mut buffer) else {
-            break;
+            return Heard {
+                left,
+                _ended: link.end(rt, door),
+            };
         };
         left = hear_piece(rt, door, bell, link, &mut feeder, left, &buffer[..n]);
     }
-    Heard {
-        left,
-        _ended: link.end(rt, door),
-    }
+    unreachable!()
 }

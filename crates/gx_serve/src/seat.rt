@@ -9,7 +9,8 @@ ghost use Rattle.gx_session.specs.Happenings.{happening};
 ghost use Rattle.gx_session.specs.Happenings as happens;
 ghost use Rattle.gx_session.specs.Table.{turn, new_session};
 ghost use Rattle.gx_door.specs.Acts.{asked_on};
-ghost use Rattle.gx_serve.specs.Seats.{answer_after, is_on, met, sign_after, user_after};
+ghost use Rattle.gx_serve.specs.Seats.{answer_after, is_on, sign_after, user_after};
+ghost use Rattle.gx_door.specs.Acts.{met};
 ghost use Rattle.gx_serve.specs.Breaks.{break_of};
 ghost use Rattle.gx_serve.specs.Seats.{Follows, Heeds, WasAnswered, WasLoggedOut, WasMade, WasRefused, WasTaken, WasTold, WasToldRefusal};
 

@@ -3,19 +3,22 @@
 ghost use Rattle.std.specs.Prelude.{IfErr};
 ghost use Rattle.gx_serve.specs.Endings.{IsHalted};
 
-use crate::connection::converse;
+use crate::connection::{HangUp, converse};
 use crate::dated::Dated;
 use crate::ending::{Ending, Halt, Unserved};
 use crate::fault::ServeFault;
 use crate::link::Link;
 use crate::matching::match_on;
+use crate::receiving::{Gone, Received, let_go_of, receive};
+use gx_devices::Counted;
 use gx_door::{Door, Issuer};
-use gx_lobby::{Lobby, Peer, Place, Stop};
+use gx_lobby::{Lobby, Peer, Place};
+use gx_reception::{Admits, Opening, Reception};
 use gx_soup::SoupFault;
 use std::alloc::Global;
 use std::io::ErrorKind;
 use std::net::{TcpListener, TcpStream};
-use std::sync::Wait;
+use std::sync::{Arc, Wait};
 use std::thread::Threads;
 use std::time::{Clock, Duration};
 use std::{io, thread};
@@ -29,14 +32,41 @@ const PAUSE: u64 = 100;
 /// After so many milliseconds the server looks for a new peer, and whether it is to end.
 const POLL: u64 = 5;
 
+/// What the system answers where descriptors or memory are wanting: ENFILE, EMFILE, ENOBUFS, ENOMEM.
+const WANTS: [i32; 4] = [23, 24, 105, 12];
+
 /// A write of which a peer takes nothing for so many milliseconds fails.
 const WRITE_PATIENCE: u64 = 5_000;
 
+/// Whether an accept failed for want of descriptors or memory: it is tried again for as long as it takes.
+fn is_want(error: &io::Error) -> bool {
+    match error.raw_os_error() {
+        Some(code) => WANTS.contains(&code),
+        None => false,
+    }
+}
+
+/// Waits behind an accept that failed: for a want that ends once somebody is hung up on, and else longer. Answers whether
+/// the failure counts.
+fn wait_behind<R: Wait + Clock>(rt: &R, lobby: &Lobby, error: &io::Error) -> bool {
+    if error.kind() == ErrorKind::WouldBlock {
+        thread::sleep(rt, Duration::from_millis(POLL));
+        return false;
+    }
+    if is_want(error) {
+        lobby.newcomers.cut_first(rt);
+        thread::sleep(rt, Duration::from_millis(POLL));
+        return false;
+    }
+    thread::sleep(rt, Duration::from_millis(PAUSE));
+    true
+}
+
 /// Takes the connection of this number, or tells why none is taken any more. One that fails before it is taken is
-/// passed over, and so is a want of descriptors that ends soon.
+/// passed over. Where descriptors are wanting, the one who came first and has not logged in is hung up on.
 fn accept<R: Wait + Clock>(
     rt: &R,
-    stop: &Stop,
+    lobby: &Lobby,
     listener: &TcpListener,
     number: u64,
 ) -> Result<Peer, Halt>
@@ -44,7 +74,7 @@ fn accept<R: Wait + Clock>(
 {
     let mut left = FAILURES;
     for _ in rt.forever() {
-        let asked = stop.is_asked();
+        let asked = lobby.stop.is_asked();
         if asked.is_yes() {
             return Err(Halt::Asked(asked));
         }
@@ -56,17 +86,33 @@ fn accept<R: Wait + Clock>(
                     stream,
                 });
             }
-            Err(error) if error.kind() == ErrorKind::WouldBlock => {
-                thread::sleep(rt, Duration::from_millis(POLL));
-            }
             Err(error) => {
-                left = left.saturating_sub(1);
+                if wait_behind(rt, lobby, &error) {
+                    left = left.saturating_sub(1);
+                }
                 if left == 0 {
                     return Err(Halt::Fault(ServeFault::ListenFailed(error)));
                 }
-                thread::sleep(rt, Duration::from_millis(PAUSE));
             }
         }
+    }
+    unreachable!()
+}
+
+/// Takes a place. Where none is free, the one who came first and has not logged in is hung up on, until one is.
+fn take_place<'x, R: Wait + Clock>(rt: &'x R, lobby: &'x Lobby) -> Result<Place<'x, R>, Halt>
+    ensures { IfErr result IsHalted }
+{
+    for _ in rt.forever() {
+        let asked = lobby.stop.is_asked();
+        if asked.is_yes() {
+            return Err(Halt::Asked(asked));
+        }
+        if let Some(place) = lobby.places.take(rt) {
+            return Ok(place);
+        }
+        lobby.newcomers.cut_first(rt);
+        lobby.places.await_one(rt, Duration::from_millis(POLL));
     }
     unreachable!()
 }
@@ -77,102 +123,162 @@ fn set_up(stream: &TcpStream) -> io::Result<()> {
     stream.set_write_timeout(Some(Duration::from_millis(WRITE_PATIENCE)))
 }
 
-/// Serves a connection to its end, with this pass. Answers why it ended where its bytes are no packets.
-fn serve_stream<T: Drop + Send, D: Door<Ticket = T> + Sync, R: Threads + Wait + Clock + Sync>(
+/// What the threads of connections share.
+#[derive(Drop)]
+struct Hall<'x, D, A, R> {
+    rt: &'x R,
+    alloc: Global,
+    door: &'x D,
+    reception: &'x A,
+    lobby: &'x Lobby,
+}
+
+/// A peer, and the place that he has.
+#[derive(Drop)]
+struct Guest<'x, R: Wait> {
+    peer: Arc<Peer, Global>,
+    place: Place<'x, R>,
+}
+
+/// Serves a user who has a line to his end. Answers why it ended where his bytes are no packets.
+fn serve_user<T: Drop + Send, D: Door<Ticket = T> + Sync, R: Threads + Wait + Clock + Sync>(
     rt: &R,
     alloc: Global,
     door: &D,
     lobby: &Lobby,
     pass: T,
+    opening: Opening,
     stream: &TcpStream,
 ) -> Option<SoupFault> {
-    if set_up(stream).is_err() {
-        return None;
-    }
     let rt = &Dated::new(rt);
     let link = Link::new(rt, pass);
-    let bell = &lobby.bell;
-    let stop = &lobby.stop;
     let (_hung_up, listening) = converse(
-        rt, alloc, door, bell, stop, &link, stream, stream, stream,
+        rt,
+        alloc,
+        door,
+        &lobby.bell,
+        &lobby.stop,
+        &link,
+        opening,
+        Counted::new(stream),
+        stream,
+        stream,
     );
     listening.fault()
 }
-
-/// What the threads of connections share.
-#[derive(Drop)]
-struct Hall<'x, D, R> {
-    rt: &'x R,
-    alloc: Global,
-    door: &'x D,
-    lobby: &'x Lobby,
-}
-
-/// A peer, the pass that his steps are made with, and the place that he has.
-#[derive(Drop)]
-struct Guest<'x, T: Drop, R: Wait> {
-    pass: T,
-    peer: Peer,
-    place: Place<'x, R>,
-}
-
-/// Serves a peer to his end, and tells where his bytes are no packets. His place is given back.
-fn serve_peer<
-    T: Drop + Send,
-    D: Door<Ticket = T> + Sync,
-    R: Threads + Wait + Clock + Eprint + Sync,
->(hall: &Hall<'_, D, R>, guest: Guest<'_, T, R>) {
-    let Guest { pass, peer, place } = guest;
-    let fault = serve_stream(
-        hall.rt,
-        hall.alloc,
-        hall.door,
-        hall.lobby,
-        pass,
-        &peer.stream,
+/// Serves a peer to his end: why it ended, where that is told.
+fn serve_stream<D: Door + Sync, A: Admits<D>, R: Threads + Wait + Clock + Sync>(
+    hall: &Hall<'_, D, A, R>,
+    number: u64,
+    stream: &TcpStream,
+) -> Gone
+where
+    D::Ticket: Send,
+{
+    if set_up(stream).is_err() {
+        return Gone::Quietly;
+    }
+    let (rt, alloc, door, lobby) = (hall.rt, hall.alloc, hall.door, hall.lobby);
+    let mut reader = Counted::new(stream);
+    let received = receive(
+        &Dated::new(rt),
+        alloc,
+        door,
+        &lobby.stop,
+        hall.reception,
+        &mut reader,
+        &mut Counted::new(stream),
     );
-    if let Some(fault) = fault {
+    match received {
+        Received::Admitted(pass, opening) => {
+            lobby.newcomers.leave(rt, number);
+            match serve_user(rt, alloc, door, lobby, pass, opening, stream) {
+                Some(fault) => Gone::Broken(fault),
+                None => Gone::Quietly,
+            }
+        }
+        Received::Gone(gone) => {
+            stream.finish();
+            let_go_of(rt, &mut reader);
+            gone
+        }
+    }
+}
+
+/// Serves a peer to his end, and tells why it ended, where that is told. His place is given back.
+fn serve_peer<D: Door + Sync, A: Admits<D>, R: Threads + Wait + Clock + Eprint + Sync>(
+    hall: &Hall<'_, D, A, R>,
+    guest: Guest<'_, R>,
+)
+where
+    D::Ticket: Send,
+{
+    let Guest { peer, place } = guest;
+    let gone = serve_stream(hall, peer.number, &peer.stream);
+    hall.lobby.newcomers.leave(hall.rt, peer.number);
+    if let Gone::Broken(fault) = gone {
         peer.tell(hall.rt, hall.alloc, fault);
     }
     drop(peer);
     drop(place);
 }
 
-/// The peer of this number, once a place is free, with a pass; `None` where there is no pass for him. He is hung up on then.
+/// The peer of this number, with a place; `None` where there is no memory for him. He is hung up on then.
 fn next_guest<
     'x,
     T: Drop + Send,
     D: Door<Ticket = T> + Sync,
-    I: Issuer<Ticket = T>,
+    A,
     R: Threads + Wait + Clock + Eprint + Sync,
 >(
-    hall: &'x Hall<'x, D, R>,
-    issuer: &mut I,
+    hall: &'x Hall<'x, D, A, R>,
     listener: &TcpListener,
     number: u64,
-) -> Result<Option<Guest<'x, T, R>>, Halt>
+) -> Result<Option<Guest<'x, R>>, Halt>
     ensures { IfErr result IsHalted }
 {
-    let place = hall.lobby.places.take(hall.rt);
-    let peer = accept(hall.rt, &hall.lobby.stop, listener, number)?;
-    let Ok(pass) = issuer.issue(hall.rt) else {
+    let peer = accept(hall.rt, hall.lobby, listener, number)?;
+    let place = take_place(hall.rt, hall.lobby)?;
+    let Ok(peer) = Arc::new(hall.alloc, peer) else {
         return Ok(None);
     };
-    Ok(Some(Guest { pass, peer, place }))
+    let Ok(theirs) = Arc::try_clone(&peer) else {
+        return Ok(None);
+    };
+    match hall.lobby.newcomers.come(hall.rt, theirs) {
+        Ok(()) => Ok(Some(Guest { peer, place })),
+        Err(_) => Ok(None),
+    }
+}
+
+/// Hangs up on each who has not logged in in time, and on all of them once the end was asked for, until the newcomers'
+/// door is closed.
+fn watch_newcomers<R: Wait + Clock>(rt: &R, lobby: &Lobby) {
+    for _ in rt.forever() {
+        lobby.newcomers.cut_late(rt);
+        if lobby.stop.is_asked().is_yes() {
+            lobby.newcomers.cut_all(rt);
+        }
+        if lobby.newcomers.is_closed() {
+            return;
+        }
+        thread::sleep(rt, Duration::from_millis(POLL));
+    }
 }
 
 /// Takes connections, each in a thread of its own, and waits until all have ended: how this ended. One for which there is
-/// no pass or no thread is closed.
+/// no thread or no memory is closed.
 fn take_guests<
     'x,
     T: Drop + Send,
     D: Door<Ticket = T> + Sync,
-    I: Issuer<Ticket = T>,
+    A: Admits<D> + Sync,
     R: Threads + Wait + Clock + Eprint + Sync,
->(hall: &'x Hall<'x, D, R>, issuer: &mut I, listener: TcpListener, connections: u64) -> Ending {
-    thread::scope(thread::scope_env(), hall.rt, |scope| {
+>(hall: &'x Hall<'x, D, A, R>, listener: TcpListener, connections: u64) -> Ending {
+    let rt = hall.rt;
+    thread::scope(thread::scope_env(), rt, |scope| {
         for before in 0..connections {
-            match next_guest(hall, issuer, &listener, before + 1) {
+            match next_guest(hall, &listener, before + 1) {
                 Ok(Some(guest)) => {
                     let _ = (&*scope).spawn(move || serve_peer(hall, guest));
                 }
@@ -189,13 +295,13 @@ fn take_guests<
 fn take_connections<
     T: Drop + Send,
     D: Door<Ticket = T> + Sync,
-    I: Issuer<Ticket = T>,
+    A: Admits<D> + Sync,
     R: Threads + Wait + Clock + Eprint + Sync,
 >(
     rt: &R,
     alloc: Global,
     door: &D,
-    issuer: &mut I,
+    reception: &A,
     lobby: &Lobby,
     listener: TcpListener,
     connections: u64,
@@ -204,9 +310,10 @@ fn take_connections<
         rt,
         alloc,
         door,
+        reception,
         lobby,
     };
-    take_guests(&hall, issuer, listener, connections)
+    take_guests(&hall, listener, connections)
 }
 
 /// Runs the matcher beside the connections. Gives the matcher's pass, and how the server ended; `OutOfMemory` where no
@@ -215,13 +322,13 @@ fn run<
     'x,
     T: Drop + Send,
     D: Door<Ticket = T> + Sync,
-    I: Issuer<Ticket = T>,
+    A: Admits<D> + Sync,
     R: Threads + Wait + Clock + Eprint + Sync,
 >(
     rt: &'x R,
     alloc: Global,
     door: &'x D,
-    issuer: &mut I,
+    reception: &A,
     lobby: &'x Lobby,
     pass: T,
     listener: TcpListener,
@@ -236,7 +343,13 @@ fn run<
         )) else {
             return Err(Unserved::of_fault(ServeFault::OutOfMemory));
         };
-        let taken = take_connections(rt, alloc, door, issuer, lobby, listener, connections);
+        let Ok(_watching) = (&*scope).spawn(move || watch_newcomers(rt, lobby)) else {
+            lobby.bell.close(rt);
+            matcher.join(rt);
+            return Err(Unserved::of_fault(ServeFault::OutOfMemory));
+        };
+        let taken = take_connections(rt, alloc, door, reception, lobby, listener, connections);
+        lobby.newcomers.close();
         lobby.bell.close(rt);
         Ok((matcher.join(rt), taken))
     })
@@ -244,6 +357,8 @@ fn run<
 
 /// Serves at any door, with passes of its gate: takes connections, each in threads of its own, and makes matching steps,
 /// until so many were served, or the lobby was asked to end. All threads have ended then.
+///
+/// A connection has a line from its login on, if its user has the right password.
 ///
 /// Gives back a pass, and how the server ended.
 ///
@@ -254,19 +369,24 @@ fn run<
 pub fn serve_door<
     T: Drop + Send,
     D: Door<Ticket = T> + Sync,
-    I: Issuer<Ticket = T>,
+    I: Issuer<D> + Drop + Send,
     R: Threads + Wait + Clock + Eprint + Sync,
 >(
     rt: &R,
     alloc: Global,
     door: &D,
-    issuer: &mut I,
+    issuer: I,
     lobby: &Lobby,
     listener: TcpListener,
     connections: u64,
 ) -> Result<(T, Ending), Unserved> {
+    let mut issuer = issuer;
     let pass = match issuer.issue(rt) {
         Ok(pass) => pass,
+        Err(fault) => return Err(Unserved::of_fault(fault.into())),
+    };
+    let reception = match Reception::open(rt, door, issuer) {
+        Ok(reception) => reception,
         Err(fault) => return Err(Unserved::of_fault(fault.into())),
     };
     if let Err(error) = listener.set_nonblocking(true) {
@@ -274,5 +394,14 @@ pub fn serve_door<
         return Ok((pass, Ending::of_halt(halt)));
     }
     lobby.bell.open(rt);
-    run(rt, alloc, door, issuer, lobby, pass, listener, connections)
+    run(
+        rt,
+        alloc,
+        door,
+        &reception,
+        lobby,
+        pass,
+        listener,
+        connections,
+    )
 }

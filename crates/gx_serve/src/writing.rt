@@ -25,7 +25,7 @@ use std::time::Clock;
 
 /// Why nothing more is sent.
 #[derive(Clone, Copy)]
-enum Unsent {
+pub(crate) enum Unsent {
     /// A packet was not sent.
     Fault(SendFault),
     /// What was done is not kept, and so told to nobody.
@@ -115,7 +115,7 @@ fn send_kept<D: Door, O: Write, R: Wait>(
 
 /// Sends the answer to a login, once all that was done is kept.
 #[tactic(auto, using(crate::proofs::Speaking::nothing_sent))]
-fn send_answer<D: Door, O: Write, R: Wait>(
+pub(crate) fn send_answer<D: Door, O: Write, R: Wait>(
     rt: &R,
     alloc: Global,
     door: &D,

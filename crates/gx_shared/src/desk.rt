@@ -13,6 +13,7 @@ ghost use Rattle.gx_pass.specs.declared.pass.PassFault.TheVariants as pass_fault
 ghost use Rattle.gx_pass.specs.Views.{mine, of_line};
 ghost use Rattle.gx_door.specs.declared.fault.PullFault.TheVariants as pull_faults;
 ghost use Rattle.gx_door.specs.Acts.{asked_on, gate_at, gate_met, login_on};
+ghost use Rattle.gx_door.specs.Callers.{caller_of};
 ghost use Rattle.gx_shared.specs.Permits.{all_parts};
 ghost use Rattle.gx_door.specs.Acts.{AddsOwn, EndsWith, IsLater, IsPulled, IsToldFull, LogsIn, MayBeRefused};
 ghost use Rattle.gx_shared.specs.Lines.{highest_line};
@@ -22,7 +23,7 @@ use crate::permit::Permits;
 use crate::resuming::resume;
 use crate::steps::{asked_on, leave, match_one, pull, step};
 use gx_answers::{AccessGate, LoginAnswer, Outcome, Pulled, StepFault};
-use gx_door::PullFault;
+use gx_door::{Caller, PullFault};
 use gx_history::record::{Record, Request};
 use gx_pass::{Blank, GateName, Keeper, Pass, PassFault};
 use gx_policy::Policy;
@@ -103,6 +104,13 @@ impl<G: AccessGate, N: GateName> Desk<G, N> {
                 Err(fault)
             }
         }
+    }
+
+    /// Who asks to log in so, by the policy.
+    pub fn caller(&self, user: UserName, password: Password) -> Caller
+        ensures { result ≡ caller_of N.policy user password }
+    {
+        Caller::of(self.gate.policy(), user, password)
     }
 
     /// A pass of a new line, which has met all records.

@@ -9,7 +9,9 @@ use crate::shared::SharedGate;
 use crate::ticket::Ticket;
 use gx_answers::AccessGate;
 use gx_door::Issuer;
+use gx_journal::{JournalName, Journaled};
 use gx_pass::{GateName, PassFault};
+use std::io::Write;
 use std::sync::Wait;
 
 /// Issues the passes to a gate, for permits of its ledger.
@@ -26,15 +28,17 @@ impl<'x, G: AccessGate, N: GateName> Entrance<'x, G, N> {
     }
 }
 
-impl<G: AccessGate, N: GateName> Issuer for Entrance<'_, G, N> {
-    type Ticket = Ticket<N>;
+impl<G: AccessGate, N: GateName> Issuer<SharedGate<G, N>> for Entrance<'_, G, N> {
+    ghost left = { λ e. e.permits.left };
 
-    ghost policy = { N.policy };
+    fn issue<R: Wait>(&mut self, rt: &R) -> Result<Ticket<N>, PassFault> {
+        self.gate.issue(rt, &mut self.permits)
+    }
+}
 
-    ghost held = { λ p. p.held };
-
-    ghost added = { λ p. p.added };
-
+impl<G: AccessGate, N: GateName, W: Write, J: JournalName> Issuer<
+    Journaled<'_, SharedGate<G, N>, W, J>,
+> for Entrance<'_, G, N> {
     ghost left = { λ e. e.permits.left };
 
     fn issue<R: Wait>(&mut self, rt: &R) -> Result<Ticket<N>, PassFault> {

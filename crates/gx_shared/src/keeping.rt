@@ -99,17 +99,8 @@ fn serve_kept<
     let door: Journaled<'_, SharedGate<G, N>, W, J> = Journaled::new(
         alloc, &shared, pass, count, device,
     );
-    let mut entrance = Entrance::new(&shared, permits);
-    let served = serve_door(
-        rt,
-        alloc,
-        &door,
-        &mut entrance,
-        lobby,
-        listener,
-        connections,
-    );
-    drop(entrance);
+    let entrance = Entrance::new(&shared, permits);
+    let served = serve_door(rt, alloc, &door, entrance, lobby, listener, connections);
     let ended = match served {
         Ok((_pass, ended)) => ended,
         Err(unserved) => unserved.ending(),

@@ -56,17 +56,8 @@ fn serve_shared<
         (λ left. left.2.amount ≡ length (G.seen left.0.gate).records) }
 {
     let (door, permits) = SharedGate::<G, N>::new(alloc, policy, blank, ledger)?;
-    let mut entrance = Entrance::new(&door, permits);
-    let served = serve_door(
-        rt,
-        alloc,
-        &door,
-        &mut entrance,
-        lobby,
-        listener,
-        connections,
-    );
-    drop(entrance);
+    let entrance = Entrance::new(&door, permits);
+    let served = serve_door(rt, alloc, &door, entrance, lobby, listener, connections);
     match served {
         Ok((pass, ended)) => {
             let (gate, pass, total) = door.close(pass);

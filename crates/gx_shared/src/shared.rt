@@ -14,6 +14,7 @@ ghost use Rattle.gx_pass.specs.declared.pass.PassFault.TheVariants as pass_fault
 ghost use Rattle.gx_pass.specs.Views.{mine, of_line};
 ghost use Rattle.gx_door.specs.declared.fault.PullFault.TheVariants as pull_faults;
 ghost use Rattle.gx_door.specs.Acts.{asked_on, gate_met, login_on};
+ghost use Rattle.gx_door.specs.Callers.{caller_of};
 ghost use Rattle.gx_shared.specs.Permits.{all_parts};
 ghost use Rattle.gx_door.specs.Acts.{AddsOwn, EndsWith, IsLater, IsPulled, IsToldFull, LogsIn, MayBeRefused};
 ghost use Rattle.gx_shared.specs.Lines.{highest_line};
@@ -22,7 +23,7 @@ use crate::desk::Desk;
 use crate::permit::Permits;
 use crate::ticket::Ticket;
 use gx_answers::{AccessGate, LoginAnswer, Outcome, Pulled, StepFault};
-use gx_door::{Dial, Door, PullFault};
+use gx_door::{Caller, Dial, Door, PullFault};
 use gx_history::record::{Record, Request};
 use gx_pass::{Blank, GateName, PassFault};
 use gx_policy::Policy;
@@ -163,6 +164,14 @@ impl<G: AccessGate, N: GateName> Door for SharedGate<G, N> {
     ghost held = { λ p. p.held };
 
     ghost added = { λ p. p.added };
+
+    fn line_of(&self, pass: &Ticket<N>) -> u16 {
+        pass.line()
+    }
+
+    fn caller<R: Wait>(&self, rt: &R, user: UserName, password: Password) -> Caller {
+        self.desk.lock(rt).caller(user, password)
+    }
 
     fn login<R: Wait + Dial>(
         &self,

@@ -1,5 +1,8 @@
-use Rattle.gx_serve.proofs.Hearing.{hears_nothing}
+use Rattle.gx_serve.proofs.Hearing.{hears_first, heard}
 use Rattle.gx_serve.proofs.reading.read_on.Goals as goal
 
 pub loop-init : goal.loop-init
-loop-init g c = record { next = tt; finite = tt; hears = hears_nothing _ _ c.new-feeder.ensures }
+loop-init g c = record { next = tt; finite = tt; hears = λ before opening. hears_first before _ _ _ _ c.into_feeder-feeder.ensures opening c.take_opening-left.ensures }
+
+pub returns-in_default : goal.returns-in_default
+returns-in_default g c before opening = heard before _ _ _ _ _ _ _ (c.loop.invariant.hears before opening) c.in_default.ensures.ended

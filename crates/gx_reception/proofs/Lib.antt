@@ -1,0 +1,2 @@
+pub mod Denied
+pub mod Idling

@@ -1,0 +1,33 @@
+-- Logins that are denied for their password.
+use Rattle.std.specs.Prelude.{Bool, true, false, ◌&&◌, List}
+use Rattle.std.specs.List.{list_all}
+use Rattle.gx_policy.specs.declared.rule_name.RuleName.{RuleName}
+use Rattle.gx_policy.specs.declared.rule_name.RuleName.TheVariants as rules
+use Rattle.gx_history.specs.declared.record.RecordData.{RecordData}
+use Rattle.gx_history.specs.declared.record.Step.{Step}
+use Rattle.gx_history.specs.declared.record.Step.TheVariants as steps
+use Rattle.gx_history.specs.declared.record.Verdict.{Verdict}
+use Rattle.gx_history.specs.declared.record.Verdict.TheVariants as verdicts
+use Rattle.gx_history.specs.Requests.{is_login}
+
+-- a login is asked for
+abbrev pub is_login_step : Step → Bool
+is_login_step (steps.Asked a) = is_login a.request
+is_login_step (steps.Matching handed) = false
+
+-- the rule that asks for the password
+abbrev pub is_password_rule : RuleName → Bool
+is_password_rule rules.L1 = true
+is_password_rule other = false
+
+abbrev pub is_denied_by_password : Verdict → Bool
+is_denied_by_password (verdicts.Denied rule) = is_password_rule rule
+is_denied_by_password other = false
+
+-- a login that was denied, since no user has this password
+abbrev pub is_denied : RecordData → Bool
+is_denied r = is_login_step r.step && is_denied_by_password r.verdict
+
+-- all of these are
+abbrev pub are_denied : List RecordData → Bool
+are_denied records = list_all is_denied records

@@ -1,0 +1,4 @@
+pub mod Admissions
+pub mod Arrivals
+pub mod Denials
+pub mod Openings

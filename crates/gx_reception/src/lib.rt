@@ -1,0 +1,23 @@
+//! Who comes to a server, up to his login.
+//!
+//! - `opening`: what a connection's first packets come to; a login opens it;
+//! - `lines`: the day's lines, of which some are kept for officers and readers;
+//! - `strangers`: the line of those who have no password;
+//! - `reception`: who is given a line.
+//!
+//! A connection takes no line, and makes no step, before its login.
+#![tactic(auto)]
+
+mod arriving;
+mod laws;
+mod lines;
+mod opening;
+mod reception;
+mod strangers;
+
+pub use arriving::{await_login, read_piece};
+pub use laws::idle_packets_change_nothing;
+pub use lines::{LAST_TRADERS_LINE, Lines, NoLine};
+pub use opening::{Knock, Opening};
+pub use reception::{Admission, Admits, Reception};
+pub use strangers::{Denial, Strangers};
