@@ -2,9 +2,9 @@
 
 use gx_audit::AuditingFault;
 use gx_journal::JournalFault;
+use gx_listen::ServeFault;
 use gx_pass::PassFault;
 use gx_pipe::PipeFault;
-use gx_serve::ServeFault;
 use gx_server::{Device, ProgramFault};
 use gx_units::OutOfMemory;
 use std::process::ExitCode;

@@ -18,11 +18,11 @@ use gx_command_line::{
 use gx_core::Gate;
 use gx_devices::Counted;
 use gx_journal::JournalFault;
+use gx_listen::{Ending, ServeFault};
 use gx_lobby::Lobby;
 use gx_pipe::run_pipe;
 use gx_policy::Policy;
 use gx_scripting::run_script;
-use gx_serve::{Ending, ServeFault};
 use gx_server::{Noted, ProgramFault, migrated_policy, open_gate, policy_for, told_of_policy};
 use gx_shared::{Kept, Served, serve, serve_journaled};
 use gx_units::OutOfMemory;

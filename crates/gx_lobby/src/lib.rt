@@ -1,7 +1,9 @@
-//! What the threads of a server share beside its gate: the matcher's bell, the places for connections, and whether the
-//! server is to end. And what its threads look at: the clock, what a writer has seen of the records, who is connected.
+//! What the threads of a server share beside its gate: the matcher's bell, the places for connections, who has not logged
+//! in, how often wrong passwords were given, what went wrong at the door, and whether the server is to end. And what its
+//! threads look at: the clock, what a writer has seen of the records, who is connected.
 #![tactic(auto)]
 
+mod attempts;
 mod bell;
 mod clock;
 mod lobby;
@@ -9,13 +11,16 @@ mod newcomers;
 mod peer;
 mod places;
 mod stop;
+mod tally;
 mod watch;
 
+pub use attempts::Attempts;
 pub use bell::{Bell, Rung};
 pub use clock::now;
 pub use lobby::Lobby;
 pub use newcomers::Newcomers;
-pub use peer::Peer;
+pub use peer::{Peer, words_of};
 pub use places::{Place, Places};
 pub use stop::{Asked, Stop};
+pub use tally::{Mishap, Tally};
 pub use watch::Watch;

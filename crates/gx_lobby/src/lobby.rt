@@ -1,13 +1,14 @@
 //! What the threads of a server share beside its gate.
 
+use crate::attempts::Attempts;
 use crate::bell::Bell;
 use crate::newcomers::Newcomers;
 use crate::places::Places;
 use crate::stop::Stop;
+use crate::tally::Tally;
 use std::alloc::Global;
 
-/// What the threads of a server share beside its gate: the matcher's bell, the places for connections, who has not logged
-/// in, and whether the server is to end.
+/// What the threads of a server share beside its gate.
 #[derive(Drop)]
 pub struct Lobby {
     /// Wakes the matcher.
@@ -16,6 +17,11 @@ pub struct Lobby {
     pub places: Places,
     /// Who is connected and has not logged in.
     pub newcomers: Newcomers,
+    /// How often wrong passwords were given.
+    pub attempts: Attempts,
+    /// What went wrong at the door.
+    pub tally: Tally,
+    /// Whether the server is to end.
     pub stop: Stop,
 }
 
@@ -27,6 +33,8 @@ impl Lobby {
             bell: Bell::new(),
             places: Places::new(at_once),
             newcomers: Newcomers::new(alloc, login_within),
+            attempts: Attempts::new(alloc),
+            tally: Tally::new(),
             stop: Stop::new(),
         }
     }

@@ -4,12 +4,16 @@ ghost use Rattle.std.specs.Prelude.{◌≡◌, [], IfNone, IfSome, OnErr};
 ghost use Rattle.gx_lobby.specs.Newcomers.{IsFirst};
 
 use crate::peer::Peer;
+use crate::tally::{Mishap, Tally};
 use gx_units::OutOfMemory;
 use std::alloc::Global;
 use std::collections::BTreeMap;
 use std::sync::atomic::{AtomicBool, Ordering};
 use std::sync::{Arc, Mutex, Wait};
 use std::time::{Clock, Duration, Instant};
+
+/// Of so many who have not logged in one is hung up on, where places are wanted.
+const CROWD: usize = 16;
 
 /// Those who have not logged in, by the number of their connection, so that the one who came first is the first.
 #[derive(Drop)]
@@ -137,14 +141,33 @@ impl Newcomers {
         }
     }
 
-    /// Hangs up on each who had his time for a login.
-    pub fn cut_late<R: Wait + Clock>(&self, rt: &R) {
+    /// How many of them are hung up on together, where places are wanted: one, and of more than sixteen a sixteenth.
+    fn crowd<R: Wait>(&self, rt: &R) -> usize {
+        1 + self.queue.lock(rt).by_number.len() / CROWD
+    }
+
+    /// Hangs up on those who came first: on one, and of more than sixteen on a sixteenth, so that the next who come need
+    /// not wait. Answers on how many.
+    pub fn cut_oldest<R: Wait>(&self, rt: &R) -> u64 {
+        let mut count = 0u64;
+        for _ in 0..self.crowd(rt) {
+            if !self.cut_first(rt) {
+                break;
+            }
+            count = count.saturating_add(1);
+        }
+        count
+    }
+
+    /// Hangs up on each who had his time for a login, and counts him.
+    pub fn cut_late<R: Wait + Clock>(&self, rt: &R, tally: &Tally) {
         for _ in rt.forever() {
             let late = self.queue.lock(rt).take_late(rt, self.patience);
             match late {
                 Some(newcomer) => newcomer.peer.hang_up(),
                 None => return,
             }
+            tally.note(Mishap::Late, 1);
         }
     }
 

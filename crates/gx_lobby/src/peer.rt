@@ -14,7 +14,7 @@ pub struct Peer {
 }
 
 /// What is told of bytes that are no packets.
-fn words_of(fault: SoupFault) -> &'static str {
+pub fn words_of(fault: SoupFault) -> &'static str {
     match fault {
         SoupFault::ZeroLength => "a packet of length 0",
         SoupFault::UnknownType => "a packet of a type that no client sends",
@@ -28,14 +28,13 @@ impl Peer {
         let _ = self.stream.shutdown(Shutdown::Both);
     }
 
-    /// Tells that the connection ended since its bytes are no packets: a line, in one call, so that those of several
-    /// connections stay apart; nothing where there is no memory for it.
-    pub fn tell<R: Eprint>(&self, rt: &R, alloc: Global, fault: SoupFault) {
+    /// Tells why the connection ended: a line, in one call, so that those of several connections stay apart; nothing where
+    /// there is no memory for it.
+    pub fn tell<R: Eprint>(&self, rt: &R, alloc: Global, why: &str, words: &str) {
         let number = self.number;
         let address = self.address;
-        let words = words_of(fault);
         if let Ok(line) = format!(in alloc;
-            "connection {number} from {address}: no packets: {words}\n"
+            "connection {number} from {address}: {why}: {words}\n"
         ) {
             let _ = eprint!(rt; "{line}");
         }

@@ -7,17 +7,18 @@ use crate::holding::Holds;
 use crate::house::{House, Script, Stage};
 use crate::wire::Wire;
 use gx_devices::Counted;
-use gx_door::{Dial, Door, Issuer};
+use gx_door::{Caller, Dial, Door, Issuer};
 use gx_reception::{Admits, Opening, Reception};
-use gx_serve::{Gone, HangUp, Link, Received, converse, let_go_of, match_on, receive};
-use gx_soup::SoupFault;
+use gx_serve::{
+    Cut, Gone, HangUp, Link, Received, converse, let_go_of, match_on, receive, turn_away,
+};
 use std::alloc::Global;
 use std::sync::Wait;
 use std::thread;
 use std::thread::Threads;
 use std::time::Clock;
 
-/// Serves a user who has a line to his end. Answers why it ended where his bytes are no packets.
+/// Serves a user who has a line to his end. Answers why he was cut off, if he was.
 fn attend_user<
     D: Door + Sync,
     A,
@@ -28,12 +29,13 @@ fn attend_user<
     house: &House<'_, D, A, R>,
     wire: &Wire,
     pass: D::Ticket,
+    caller: Caller,
     opening: Opening,
-) -> Option<SoupFault>
+) -> Option<Cut>
 where
     D::Ticket: Send,
 {
-    let link = Link::new(rt, pass);
+    let link = Link::new(rt, pass, caller);
     let door = &Holds::new(house.rt, house.door, wire);
     let (_hung_up, listening) = converse(
         rt,
@@ -47,41 +49,44 @@ where
         WireWriter::new(house.rt, wire),
         wire,
     );
-    listening.fault()
+    listening.cut()
 }
 
-/// Serves a peer to his end. Answers why it ended where his bytes are no packets.
+/// Serves a peer to his end: why it ended.
 fn attend_peer<D: Door + Sync, A: Admits<D>, R: Threads + Wait + Clock + Sync>(
     house: &House<'_, D, A, R>,
     wire: &Wire,
-) -> Option<SoupFault>
+) -> Option<Cut>
 where
     D::Ticket: Send,
 {
     let rt = &Timed::new(house.rt, &house.clock, &wire.looks);
     let mut reader = Counted::new(WireReader::new(house.rt, wire));
-    let received = receive(
-        rt,
-        house.alloc,
-        house.door,
-        &house.stop,
-        house.reception,
-        &mut reader,
-        &mut Counted::new(WireWriter::new(house.rt, wire)),
-    );
-    match received {
-        Received::Admitted(pass, opening) => {
+    let (door, reception) = (house.door, house.reception);
+    let gone = match receive(rt, house.alloc, door, reception, &mut reader) {
+        Received::Admitted(pass, caller, opening) => {
             wire.admitted.raise();
-            attend_user(rt, house, wire, pass, opening)
+            return attend_user(rt, house, wire, pass, caller, opening);
         }
-        Received::Gone(gone) => {
-            wire.finish();
-            let_go_of(house.rt, &mut reader);
-            match gone {
-                Gone::Broken(fault) => Some(fault),
-                Gone::NoLine(_) | Gone::Denied | Gone::Quietly => None,
-            }
+        Received::Stranger(login) => {
+            let writer = &mut Counted::new(WireWriter::new(house.rt, wire));
+            turn_away(
+                rt,
+                house.alloc,
+                door,
+                &house.stop,
+                reception,
+                &login,
+                writer,
+            )
         }
+        Received::Gone(gone) => gone,
+    };
+    wire.finish();
+    let_go_of(house.rt, &mut reader);
+    match gone {
+        Gone::Cut(cut) => Some(cut),
+        Gone::NoLine(_) | Gone::Denied | Gone::Spared | Gone::Quietly => None,
     }
 }
 
@@ -91,8 +96,8 @@ where
     D::Ticket: Send,
 {
     let Guest { house, wire } = guest;
-    let fault = attend_peer(house, wire);
-    wire.leave(house.rt, fault);
+    let cut = attend_peer(house, wire);
+    wire.leave(house.rt, cut);
 }
 
 /// Performs the cues, each connection in a thread of its own, and waits until all have ended. Answers what was waited for

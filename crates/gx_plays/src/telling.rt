@@ -5,7 +5,8 @@ use crate::directing::Vain;
 use crate::house::Script;
 use crate::peer::Peer;
 use crate::wire::{first_packet, packets_in};
-use gx_soup::SoupFault;
+use gx_lobby::words_of;
+use gx_serve::{Cut, Exclusion};
 use gx_trials::{Told, put_hex};
 use gx_units::OutOfMemory;
 use std::alloc::Global;
@@ -27,21 +28,22 @@ impl Script<'_> {
     }
 }
 
-/// Why bytes are no packets, in words.
-fn words_of(fault: SoupFault) -> &'static str {
-    match fault {
-        SoupFault::ZeroLength => "a packet of length 0",
-        SoupFault::UnknownType => "a packet of a type that no client sends",
-        SoupFault::BadLogin => "a Login Request of another length, or that asks for no number",
+/// Why a peer was cut off, in words.
+fn why_of(cut: Cut) -> (&'static str, &'static str) {
+    match cut {
+        Cut::Broken(fault) => (": no packets: ", words_of(fault)),
+        Cut::Excluded(Exclusion::Silent) => (": put out: ", "1000 denials in silence"),
+        Cut::Excluded(Exclusion::Kept) => (": put out: ", "the last records are kept"),
     }
 }
 
-/// Puts why a peer's bytes are no packets, where they are none.
-fn put_fault(out: &mut Told, name: &str, fault: Option<SoupFault>) {
-    if let Some(fault) = fault {
+/// Puts why a peer was cut off, where he was.
+fn put_cut(out: &mut Told, name: &str, cut: Option<Cut>) {
+    if let Some(cut) = cut {
+        let (why, words) = why_of(cut);
         out.put(name);
-        out.put(": no packets: ");
-        out.put_line(words_of(fault));
+        out.put(why);
+        out.put_line(words);
     }
 }
 
@@ -85,7 +87,7 @@ fn put_peer<R: Wait>(rt: &R, alloc: Global, out: &mut Told, name: &str, peer: &P
         Ok(text) => put_packets(alloc, out, name, text.as_slice()),
         Err(_) => out.give_up(),
     }
-    put_fault(out, name, peer.wire.fault(rt))
+    put_cut(out, name, peer.wire.why(rt))
 }
 
 /// Puts what each peer was sent.

@@ -1,8 +1,7 @@
 //! A line in memory between a peer and the server.
 
 use crate::clock::Looks;
-use gx_serve::HangUp;
-use gx_soup::SoupFault;
+use gx_serve::{Cut, HangUp};
 use gx_units::OutOfMemory;
 use std::alloc::Global;
 use std::sync::atomic::{AtomicBool, AtomicU64, Ordering};
@@ -118,7 +117,7 @@ pub(crate) struct Wire {
     written: Mutex<Vec<u8>>,
     /// How many packets were written.
     packets: AtomicU64,
-    fault: Mutex<Option<SoupFault>>,
+    cut_for: Mutex<Option<Cut>>,
     /// While it is down the peer takes nothing that is written.
     pub(crate) taking: Bar,
     /// While it is down the peer's requests wait at the door.
@@ -185,7 +184,7 @@ impl Wire {
             packets: AtomicU64::new(0),
             taking: Bar::new(),
             asking: Bar::new(),
-            fault: Mutex::new(None),
+            cut_for: Mutex::new(None),
             looks: Looks::new(),
             begun: Flag::new(),
             admitted: Flag::new(),
@@ -279,15 +278,15 @@ impl Wire {
         Ok(Vec::from_slice(alloc, written.as_slice())?)
     }
 
-    /// The connection has ended; its bytes are no packets where there is a fault.
-    pub(crate) fn leave<R: Wait>(&self, rt: &R, fault: Option<SoupFault>) {
-        *self.fault.lock(rt) = fault;
+    /// The connection has ended, and why, where it was cut off.
+    pub(crate) fn leave<R: Wait>(&self, rt: &R, why: Option<Cut>) {
+        *self.cut_for.lock(rt) = why;
         self.over.raise();
     }
 
-    /// Why its bytes are no packets.
-    pub(crate) fn fault<R: Wait>(&self, rt: &R) -> Option<SoupFault> {
-        *self.fault.lock(rt)
+    /// Why it was cut off, if it was.
+    pub(crate) fn why<R: Wait>(&self, rt: &R) -> Option<Cut> {
+        *self.cut_for.lock(rt)
     }
 }
 

@@ -1,5 +1,5 @@
 -- The login of somebody who has no user's password.
-use Rattle.std.proofs.Common.{◌≡◌, ℕ, Bool, true, false, List, [], ◌∷◌, ◌++◌, Option, Some, None, if◌then◌else◌, refl, sym, ap, subst, ◌∙◌}
+use Rattle.std.proofs.Common.{◌≡◌, ℕ, ◌+◌, Bool, true, false, List, [], ◌∷◌, ◌++◌, length, length-append, Option, Some, None, if◌then◌else◌, refl, sym, ap, subst, ◌∙◌}
 use Rattle.std.specs.Prelude.{◌&&◌, is_some, option_map}
 use Rattle.std.specs.Option.{option_map_or}
 use Rattle.gx_units.specs.declared.names.LoginRejection.TheVariants as rejections
@@ -98,3 +98,8 @@ pub stranger_is_told : (policy : PolicyData) (was is : Holds) (user : UserName) 
     → IsLater policy was is → caller_of policy user given ≡ callers.Stranger → answer ≡ answers.Rejected rejections.NotAuthorized
 stranger_is_told policy was is user given session wanted moment answer l later stranger =
     l.told ∙ ap (login_answered policy is.front (folded_user user) wanted) (stranger_is_denied policy was is user given session wanted moment answer l later stranger)
+
+-- and it is one more
+pub one_more : (policy : PolicyData) (was is : Holds) (user : UserName) (given : Password) (session : SessionName) (wanted moment : ℕ) (answer : LoginAnswer) → LogsIn policy was is (login_on policy was.line user given session wanted moment) wanted answer
+    → length (mine is) ≡ length (mine was) + 1
+one_more policy was is user given session wanted moment answer l = ap length l.adds.own ∙ length-append (mine was) (left_by (login_on policy was.line user given session wanted moment) l.outcome ∷ [])

@@ -1,9 +1,7 @@
 -- Who is given a line.
 use Rattle.std.specs.Prelude.{◌≡◌, ◌≢◌, []}
-use Rattle.gx_units.specs.declared.names.LoginRejection.TheVariants as rejections
 use Rattle.gx_policy.specs.declared.policy.PolicyData.{PolicyData}
 use Rattle.gx_history.specs.Verdicts.{IsLegal}
-use Rattle.gx_answers.specs.declared.outcome.LoginAnswer.TheVariants as answers
 use Rattle.gx_soup.specs.declared.packet.LoginRequest.{LoginRequest}
 use Rattle.gx_pass.specs.declared.view.Holds.{Holds}
 use Rattle.gx_pass.specs.Views.{mine}
@@ -20,11 +18,9 @@ abbrev pub LacksLine : Caller → NoLine → Type 0
 LacksLine caller no_line.Kept = caller ≡ callers.Trader
 LacksLine caller (no_line.Unissued fault) = caller ≢ callers.Stranger
 
--- whoever has a user's password is given a new line, or is told that there is none; whoever has none is denied
+-- whoever has a user's password is given a new line, or is told that there is none
 abbrev pub IsAdmitted : {T : Type 0} → PolicyData → (T → Holds) → LoginRequest → Admission T → Type 0
-IsAdmitted policy held login (admissions.Line pass) =
-    (caller_of policy login.user login.password ≢ callers.Stranger) × (mine (held pass) ≡ []) × IsLegal policy (held pass).front
-IsAdmitted policy held login (admissions.Denied denial) =
-    (caller_of policy login.user login.password ≡ callers.Stranger) × (denial ≡ answers.Rejected rejections.NotAuthorized)
+IsAdmitted policy held login (admissions.Line pass caller) =
+    (caller ≡ caller_of policy login.user login.password) × (caller ≢ callers.Stranger) × (mine (held pass) ≡ []) × IsLegal policy (held pass).front
 IsAdmitted policy held login (admissions.NoLine why) = LacksLine (caller_of policy login.user login.password) why
-IsAdmitted policy held login (admissions.Refused fault) = caller_of policy login.user login.password ≡ callers.Stranger
+IsAdmitted policy held login admissions.Stranger = caller_of policy login.user login.password ≡ callers.Stranger

@@ -3,7 +3,8 @@
 //! - `opening`: what a connection's first packets come to; a login opens it;
 //! - `lines`: the day's lines, of which some are kept for officers and readers;
 //! - `strangers`: the line of those who have no password;
-//! - `reception`: who is given a line.
+//! - `reception`: who is given a line;
+//! - `reserve`: the lines and the records that are kept for officers and readers.
 //!
 //! A connection takes no line, and makes no step, before its login.
 #![tactic(auto)]
@@ -13,11 +14,13 @@ mod laws;
 mod lines;
 mod opening;
 mod reception;
+mod reserve;
 mod strangers;
 
 pub use arriving::{await_login, read_piece};
 pub use laws::idle_packets_change_nothing;
-pub use lines::{LAST_TRADERS_LINE, Lines, NoLine};
+pub use lines::{Lines, NoLine};
 pub use opening::{Knock, Opening};
 pub use reception::{Admission, Admits, Reception};
-pub use strangers::{Denial, Strangers};
+pub use reserve::{LAST_TRADERS_LINE, LAST_TRADERS_RECORD, MOST_DENIALS};
+pub use strangers::{Denial, Strangers, Undenied};

@@ -6,18 +6,16 @@ ghost use Rattle.gx_pass.specs.Views.{mine};
 ghost use Rattle.gx_door.specs.declared.caller.Caller.TheVariants as callers;
 ghost use Rattle.gx_reception.specs.declared.lines.NoLine.TheVariants as no_line;
 
+use crate::reserve::LAST_TRADERS_LINE;
 use gx_door::{Caller, Door, Issuer};
 use gx_pass::PassFault;
 use std::marker::Model;
 use std::sync::Wait;
 
-/// The last line that a trader is given: the 4,096 behind it are kept for officers and readers.
-pub const LAST_TRADERS_LINE: u16 = 61_439;
-
 /// Why somebody with a right password is given no line.
 #[derive(Clone, Copy, PartialEq, Eq, Debug)]
 pub enum NoLine {
-    /// He is a trader, and the lines that are left are kept for officers and readers.
+    /// He is a trader, and the lines or the records that are left are kept for officers and readers.
     Kept,
     /// No pass was issued.
     Unissued(PassFault),

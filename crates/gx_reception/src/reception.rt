@@ -1,13 +1,15 @@
 //! Who is given a line.
 
-ghost use Rattle.std.specs.Prelude.{◌≡◌, ◌≢◌};
+ghost use Rattle.std.specs.Prelude.{◌≡◌, ◌≢◌, IfOk};
+ghost use Rattle.gx_units.specs.declared.names.LoginRejection.TheVariants as rejections;
+ghost use Rattle.gx_answers.specs.declared.outcome.LoginAnswer.TheVariants as answers;
 ghost use Rattle.gx_door.specs.Callers.{caller_of};
 ghost use Rattle.gx_door.specs.declared.caller.Caller.TheVariants as callers;
 ghost use Rattle.gx_reception.specs.Admissions.{IsAdmitted};
 
 use crate::lines::{Lines, NoLine};
-use crate::strangers::{Denial, Strangers};
-use gx_answers::StepFault;
+use crate::reserve::LAST_TRADERS_RECORD;
+use crate::strangers::{Denial, Strangers, Undenied};
 use gx_door::{Caller, Dial, Door, Issuer};
 use gx_pass::PassFault;
 use gx_soup::LoginRequest;
@@ -16,21 +18,29 @@ use std::sync::{Mutex, Wait};
 /// What comes of a login, before its user has a line.
 #[derive(Drop)]
 pub enum Admission<T: Drop> {
-    /// He has a user's password: the pass of a line of his own.
-    Line(T),
-    /// He has none.
-    Denied(Denial),
+    /// He has a user's password: the pass of a line of his own, and who he is.
+    Line(T, Caller),
     /// He has a user's password, and there is no line for him.
     NoLine(NoLine),
-    /// He has none, and the step of his login was refused.
-    Refused(StepFault),
+    /// He has none.
+    Stranger,
 }
 
 /// Where those who come to a door of this kind are given lines, as whoever serves them sees it.
 pub trait Admits<D: Door> {
-    /// What comes of a login, before its user has a line. Only a login that is denied for its password has made its step.
-    fn admit<R: Wait + Dial>(&self, rt: &R, door: &D, login: &LoginRequest) -> Admission<D::Ticket>
+    /// What comes of a login, before its user has a line. No step is made.
+    fn admit<R: Wait>(&self, rt: &R, door: &D, login: &LoginRequest) -> Admission<D::Ticket>
         ensures { IsAdmitted D.policy D.held login.now result };
+
+    /// Makes the step of a login that is denied for its password. At `Err` none was made, and it is not answered.
+    fn deny<R: Wait + Dial>(
+        &self,
+        rt: &R,
+        door: &D,
+        login: &LoginRequest,
+    ) -> Result<Denial, Undenied>
+        requires stranger { caller_of D.policy login.now.user login.now.password ≡ callers.Stranger }
+        ensures rejected { IfOk result (λ d. d ≡ answers.Rejected rejections.NotAuthorized) };
 }
 
 /// Where those who ask to log in are given lines. Nobody else uses one up: whoever has no user's password is denied on a
@@ -53,18 +63,6 @@ impl<D: Door, I: Issuer<D> + Drop> Reception<D, I> {
         })
     }
 
-    /// Makes the step of a login that is denied for its password.
-    fn deny<R: Wait + Dial>(&self, rt: &R, door: &D, login: &LoginRequest) -> Admission<D::Ticket>
-        requires stranger { caller_of D.policy login.now.user login.now.password ≡ callers.Stranger }
-        ensures { IsAdmitted D.policy D.held login.now result }
-    {
-        let denied = self.strangers.lock(rt).deny(rt, door, login, rt.moment());
-        match denied {
-            Ok(denial) => Admission::Denied(denial),
-            Err(fault) => Admission::Refused(fault),
-        }
-    }
-
     /// Gives a line to somebody with a user's password.
     fn give<R: Wait>(
         &self,
@@ -79,23 +77,39 @@ impl<D: Door, I: Issuer<D> + Drop> Reception<D, I> {
     {
         let given = self.lines.lock(rt).give(rt, door, caller);
         match given {
-            Ok(pass) => Admission::Line(pass),
+            Ok(pass) => Admission::Line(pass, caller),
             Err(why) => Admission::NoLine(why),
         }
+    }
+
+    /// Gives a line to a trader, unless the records that are left are kept for others.
+    fn give_trader<R: Wait>(&self, rt: &R, door: &D, login: &LoginRequest) -> Admission<D::Ticket>
+        requires caller { caller_of D.policy login.now.user login.now.password ≡ callers.Trader }
+        ensures { IsAdmitted D.policy D.held login.now result }
+    {
+        let length = self.strangers.lock(rt).length(door);
+        if length >= LAST_TRADERS_RECORD {
+            return Admission::NoLine(NoLine::Kept);
+        }
+        self.give(rt, door, login, Caller::Trader)
     }
 }
 
 impl<D: Door, I: Issuer<D> + Drop> Admits<D> for Reception<D, I> {
-    fn admit<R: Wait + Dial>(
+    fn admit<R: Wait>(&self, rt: &R, door: &D, login: &LoginRequest) -> Admission<D::Ticket> {
+        match door.caller(rt, login.user, login.password) {
+            Caller::Trader => self.give_trader(rt, door, login),
+            Caller::Staff => self.give(rt, door, login, Caller::Staff),
+            Caller::Stranger => Admission::Stranger,
+        }
+    }
+
+    fn deny<R: Wait + Dial>(
         &self,
         rt: &R,
         door: &D,
         login: &LoginRequest,
-    ) -> Admission<D::Ticket> {
-        match door.caller(rt, login.user, login.password) {
-            Caller::Stranger => self.deny(rt, door, login),
-            Caller::Trader => self.give(rt, door, login, Caller::Trader),
-            Caller::Staff => self.give(rt, door, login, Caller::Staff),
-        }
+    ) -> Result<Denial, Undenied> {
+        self.strangers.lock(rt).deny(rt, door, login, rt.moment())
     }
 }

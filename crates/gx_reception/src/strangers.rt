@@ -1,6 +1,6 @@
 //! The line of those who have no password.
 
-ghost use Rattle.std.specs.Prelude.{◌≡◌, [], IfOk, IsTrue, is_some};
+ghost use Rattle.std.specs.Prelude.{◌≡◌, ◌≤◌, ◌<◌, ◌+◌, [], length, IfOk, IsTrue, OnErr, OnOk, is_some};
 ghost use Rattle.gx_units.specs.declared.names.LoginRejection.TheVariants as rejections;
 ghost use Rattle.gx_answers.specs.declared.outcome.LoginAnswer.TheVariants as answers;
 ghost use Rattle.gx_pass.specs.Views.{mine};
@@ -9,6 +9,7 @@ ghost use Rattle.gx_door.specs.Callers.{caller_of};
 ghost use Rattle.gx_door.specs.declared.caller.Caller.TheVariants as callers;
 ghost use Rattle.gx_reception.specs.Denials.{are_denied};
 
+use crate::reserve::{LAST_TRADERS_RECORD, MOST_DENIALS};
 use gx_answers::{LoginAnswer, StepFault};
 use gx_door::{Dial, Door};
 use gx_soup::LoginRequest;
@@ -39,36 +40,75 @@ impl Denial {
     }
 }
 
+/// Why the login of a stranger is not put on record, and not answered.
+#[derive(Clone, Copy, PartialEq, Eq, Debug)]
+pub enum Undenied {
+    /// So many are on record, or there are so many records, that the rest of the day's are for others.
+    Spared,
+    /// Its step was refused.
+    Refused(StepFault),
+}
+
 /// The pass of a line that nobody is ever logged in on: the logins of those who have no password are made on it. All records
-/// of the line are such logins, each denied.
+/// of the line are such logins, each denied, and they are never more than may be. Contracts see how many they are.
 #[derive(Drop)]
 pub struct Strangers<D: Door> {
     /// Taken out for each call of the gate.
     pass: Option<D::Ticket>,
+    count: u32,
     ghost has_pass: { IsTrue (is_some pass) },
     ghost denied: { IsTrue (are_denied (mine (met D.held pass))) },
+    ghost counted: { length (mine (met D.held pass)) ≡ count },
+    ghost few: { count ≤ 1048576 },
+}
+
+impl<D: Door> Model for Strangers<D> {
+    ghost use Rattle.std.specs.Prelude.{ℕ};
+
+    ghost Value = { ℕ };
+
+    ghost view = { λ s. s.count };
 }
 
 impl<D: Door> Strangers<D> {
     /// On a new line.
     pub fn new(pass: D::Ticket) -> Strangers<D>
         requires own { mine (D.held pass) ≡ [] }
+        ensures none { result ≡ 0 }
     {
-        Strangers { pass: Some(pass) }
+        Strangers {
+            pass: Some(pass),
+            count: 0,
+        }
     }
 
-    /// Makes a login's step, which is denied. At `Err` none was made.
-    #[tactic(auto, using(crate::proofs::Denied::more_denied, crate::proofs::Denied::stranger_is_told))]
-    pub fn deny<R: Wait + Dial>(
+    /// How many records there are, as the pass is told.
+    pub fn length(&mut self, door: &D) -> u64
+        ensures same { self.new ≡ self.old }
+    {
+        let Some(mut pass) = self.pass.take() else {
+            unreachable!()
+        };
+        let length = door.length(&mut pass);
+        self.pass = Some(pass);
+        length
+    }
+
+    /// Makes a login's step.
+    #[tactic(auto, using(crate::proofs::Denied::more_denied, crate::proofs::Denied::one_more, crate::proofs::Denied::stranger_is_told))]
+    fn log_in<R: Wait + Dial>(
         &mut self,
         rt: &R,
         door: &D,
         login: &LoginRequest,
         moment: Moment,
-    ) -> Result<Denial, StepFault>
+    ) -> Result<Denial, Undenied>
         requires clock { R.shown moment }
         requires stranger { caller_of D.policy login.now.user login.now.password ≡ callers.Stranger }
+        requires few { self.old < 1048576 }
         ensures rejected { IfOk result (λ d. d ≡ answers.Rejected rejections.NotAuthorized) }
+        ensures counted { OnOk result (self.new ≡ self.old + 1) }
+        ensures same { OnErr result (self.new ≡ self.old) }
     {
         let Some(pass) = self.pass.take() else {
             unreachable!()
@@ -84,8 +124,36 @@ impl<D: Door> Strangers<D> {
         );
         self.pass = Some(pass);
         match answer {
-            Ok(answer) => Ok(Denial { answer }),
-            Err(fault) => Err(fault),
+            Ok(answer) => {
+                self.count += 1;
+                Ok(Denial { answer })
+            }
+            Err(fault) => Err(Undenied::Refused(fault)),
         }
+    }
+
+    /// Makes a login's step, which is denied. At `Err` none was made.
+    ///
+    /// # Errors
+    ///
+    /// `Spared` where so many logins of strangers are on record, or there are so many records, that the rest is for others;
+    /// else what the step was refused for.
+    pub fn deny<R: Wait + Dial>(
+        &mut self,
+        rt: &R,
+        door: &D,
+        login: &LoginRequest,
+        moment: Moment,
+    ) -> Result<Denial, Undenied>
+        requires clock { R.shown moment }
+        requires stranger { caller_of D.policy login.now.user login.now.password ≡ callers.Stranger }
+        ensures rejected { IfOk result (λ d. d ≡ answers.Rejected rejections.NotAuthorized) }
+        ensures counted { OnOk result (self.new ≡ self.old + 1) }
+        ensures same { OnErr result (self.new ≡ self.old) }
+    {
+        if self.count >= MOST_DENIALS || self.length(door) >= LAST_TRADERS_RECORD {
+            return Err(Undenied::Spared);
+        }
+        self.log_in(rt, door, login, moment)
     }
 }

@@ -29,6 +29,7 @@ opened feeder feeder' piece (lefts.Broken found told) left read before stands = 
     told = l.1;
   },
 )
+opened feeder feeder' piece (lefts.Excluded why told) left read before stands = (tt, left before stands.0)
 
 -- what comes behind a fault is let go
 pub still_broken : (found : SoupFault) (told : Happening) (before piece : List ℕ) → IsBroken found told before → IsBroken found told (before ++ piece)
@@ -58,12 +59,14 @@ begun before o (lefts.Broken found told) opening left = record {
   fault = opening.fault ∙ left.0;
   told = left.1;
 }
+begun before o (lefts.Excluded why told) opening left = left
 
 has_begun : (before : List ℕ) (o : OpeningData) (state : Left) → IsOpening before o → IfOpen state (HasRead o.feeder before)
 has_begun before o lefts.Open opening = opening.reads
 has_begun before o (lefts.Over over) opening = tt
 has_begun before o (lefts.Refused told) opening = tt
 has_begun before o (lefts.Broken found told) opening = tt
+has_begun before o (lefts.Excluded why told) opening = tt
 
 pub hears_nothing : (before : List ℕ) (input : Option (List ℕ)) (o : OpeningData) (state : Left) → IsOpening before o → IsLeft o.fault state → Hears before input input o.feeder state
 hears_nothing before input o state opening left = record {

@@ -1,9 +1,10 @@
 pub mod Breaks
-pub mod Endings
+pub mod Conducts
 pub mod Marks
 pub mod Readings
 pub mod Receptions
 pub mod Seats
 pub mod Seeking
 pub mod Speech
+pub mod Takings
 pub mod Tellings

@@ -1,14 +1,13 @@
 //! A connection: its two threads.
 
 use crate::link::Link;
-use crate::reading::{Heard, read_on};
+use crate::reading::{Cut, Heard, read_on};
 use crate::seat::{Break, BrokenOff};
 use crate::writing::write_on;
 use gx_devices::Counted;
 use gx_door::{Dial, Door};
 use gx_lobby::{Bell, Stop};
 use gx_reception::Opening;
-use gx_soup::SoupFault;
 use std::alloc::Global;
 use std::io::{Read, Write};
 use std::net::{Shutdown, TcpStream};
@@ -78,10 +77,10 @@ pub enum Listening {
 }
 
 impl Listening {
-    /// Why the session ended, where its bytes are no packets.
-    pub fn fault(&self) -> Option<SoupFault> {
+    /// Why the session was cut off by what came of its peer, if it was.
+    pub fn cut(&self) -> Option<Cut> {
         match self {
-            Listening::Heard(heard) => heard.fault(),
+            Listening::Heard(heard) => heard.cut(),
             Listening::Unheard(_) => None,
         }
     }

@@ -2,13 +2,14 @@
 
 ghost use Rattle.std.specs.Prelude.{◌≡◌};
 ghost use Rattle.gx_serve.specs.Breaks.{break_of};
-ghost use Rattle.gx_session.specs.Happenings as happens;
+ghost use Rattle.gx_serve.specs.Takings.{IsTakenIn};
 ghost use Rattle.gx_serve.specs.Marks.{mark_sent};
 ghost use Rattle.gx_serve.specs.Speech.{IsDue};
 
 use crate::seat::outgoing::{Answered, Bookmark, Due, Fetched, Finished, Greeting};
-use crate::seat::{Break, BrokenOff, Ended, Seat, Told};
-use gx_door::{Dial, Door};
+use crate::seat::taking::Taken;
+use crate::seat::{Break, BrokenOff, Ended, Seat};
+use gx_door::{Caller, Dial, Door};
 use gx_lobby::Stop;
 use gx_soup::ClientPacket;
 use std::sync::{Condvar, Mutex, Wait};
@@ -46,10 +47,10 @@ pub struct Link<T: Drop> {
 }
 
 impl<T: Drop> Link<T> {
-    /// A new session, with the pass that its steps are made with.
-    pub fn new<R: Dial>(rt: &R, pass: T) -> Link<T> {
+    /// A new session, with the pass that its steps are made with, of somebody who is this.
+    pub fn new<R: Dial>(rt: &R, pass: T, caller: Caller) -> Link<T> {
         Link {
-            seat: Mutex::new(Seat::new(rt, pass, rt.moment())),
+            seat: Mutex::new(Seat::new(rt, pass, caller, rt.moment())),
             news: Condvar::new(),
         }
     }
@@ -69,21 +70,21 @@ impl<T: Drop> Link<T> {
         }
     }
 
-    /// Takes a packet, a logout only once the user was told of his steps.
+    /// Takes a packet, unless its user is put out; a logout only once the user was told of his steps.
     pub fn take<'a, D: Door<Ticket = T>, R: Wait + Clock + Dial>(
         &self,
         rt: &R,
         door: &D,
         packet: &'a ClientPacket,
-    ) -> Told<'a>
-        ensures { result.event ≡ happens.Packet packet.now }
+    ) -> Taken<'a>
+        ensures { IsTakenIn packet.now result }
     {
         if is_farewell(packet) {
             self.await_look(rt);
         }
-        let told = self.seat.lock(rt).take(rt, door, packet, rt.moment());
+        let taken = self.seat.lock(rt).take_in(rt, door, packet, rt.moment());
         self.news.notify_one();
-        told
+        taken
     }
 
     /// Tells the session of what breaks it off.

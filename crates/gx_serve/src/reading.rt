@@ -4,9 +4,11 @@ ghost use Rattle.std.specs.Prelude.{◌≡◌, ℕ, List, ◌++◌};
 ghost use Rattle.gx_soup.specs.Feeding.{HasRead};
 ghost use Rattle.gx_soup.specs.Packets.{packets_of};
 ghost use Rattle.gx_reception.specs.Openings.{IsOpening};
-ghost use Rattle.gx_serve.specs.Readings.{fault_in, IfOpen, IsCut, IsLeft, Stands, WasHeard};
+ghost use Rattle.gx_serve.specs.Readings.{cut_in, IfOpen, IsCut, IsKept, IsLeft, Stands, WasHeard};
 
+use crate::conduct::Exclusion;
 use crate::link::Link;
+use crate::seat::taking::Taken;
 use crate::seat::{Break, BrokenOff, Ended, Over};
 use gx_answers::StepFault;
 use gx_devices::Counted;
@@ -30,6 +32,17 @@ pub enum Left {
     Refused(BrokenOff),
     /// It was told that behind its packets comes what is none.
     Broken(SoupFault, BrokenOff),
+    /// It was told that it ends, since its user is put out.
+    Excluded(Exclusion, BrokenOff),
+}
+
+/// Why a session was cut off by its reader.
+#[derive(Clone, Copy)]
+pub enum Cut {
+    /// Its bytes are no packets.
+    Broken(SoupFault),
+    /// Its user was put out.
+    Excluded(Exclusion),
 }
 
 /// What a reader has come to. Contracts see what the bytes left of the session.
@@ -48,12 +61,13 @@ impl Model for Heard {
 }
 
 impl Heard {
-    /// Why the session ended, where its bytes are no packets.
-    pub fn fault(&self) -> Option<SoupFault>
-        ensures { result ≡ fault_in self.now }
+    /// Why the session was cut off, if it was.
+    pub fn cut(&self) -> Option<Cut>
+        ensures { result ≡ cut_in self.now }
     {
         match self.left {
-            Left::Broken(fault, _) => Some(fault),
+            Left::Broken(fault, _) => Some(Cut::Broken(fault)),
+            Left::Excluded(why, _) => Some(Cut::Excluded(why)),
             Left::Open | Left::Over(_) | Left::Refused(_) => None,
         }
     }
@@ -77,21 +91,30 @@ fn break_off<D: Door, R: Wait + Clock + Dial>(
     }
 }
 
-/// Takes packets until the session is over, if it is then.
+/// Takes packets until the session is over, or its user is put out.
 fn take_packets<D: Door, R: Wait + Clock + Dial>(
     rt: &R,
     door: &D,
     bell: &Bell,
     link: &Link<D::Ticket>,
     packets: &[ClientPacket],
-) -> Option<Over> {
+) -> Left
+    ensures { IsKept result }
+{
     for packet in packets {
-        let told = link.take(rt, door, packet);
-        if let Some(over) = told.over(bell.ring(rt)) {
-            return Some(over);
+        match link.take(rt, door, packet) {
+            Taken::Told(told) => {
+                if let Some(over) = told.over(bell.ring(rt)) {
+                    return Left::Over(over);
+                }
+            }
+            Taken::Excluded(why, told) => {
+                bell.ring(rt);
+                return Left::Excluded(why, told);
+            }
         }
     }
-    None
+    Left::Open
 }
 
 /// Takes packets, and tells the session of the fault behind them, unless it is over. Answers what this leaves of it.
@@ -106,8 +129,8 @@ fn take_all<D: Door, R: Wait + Clock + Dial>(
     ensures { IsLeft fault result }
 {
     match take_packets(rt, door, bell, link, packets) {
-        Some(over) => Left::Over(over),
-        None => break_off(rt, door, link, fault),
+        Left::Open => break_off(rt, door, link, fault),
+        left => left,
     }
 }
 
@@ -151,6 +174,7 @@ fn hear_piece<D: Door, R: Wait + Clock + Dial>(
         Left::Over(over) => Left::Over(over),
         Left::Refused(told) => Left::Refused(told),
         Left::Broken(fault, told) => Left::Broken(fault, told),
+        Left::Excluded(why, told) => Left::Excluded(why, told),
     }
 }
 

@@ -3,28 +3,32 @@
 ghost use Rattle.std.specs.Prelude.{◌≡◌, ◌-◌, ◌^◌, ◌<◌};
 ghost use Rattle.gx_units.specs.declared.names.LoginRejection.TheVariants as rejections;
 ghost use Rattle.gx_answers.specs.declared.outcome.LoginAnswer.TheVariants as answers;
-ghost use Rattle.gx_serve.specs.Receptions.{WasReceived, WasTurnedOff};
+ghost use Rattle.gx_door.specs.Callers.{caller_of};
+ghost use Rattle.gx_door.specs.declared.caller.Caller.TheVariants as callers;
+ghost use Rattle.gx_serve.specs.Receptions.{WasReceived, WasTurnedAway, WasTurnedOff};
 
+use crate::reading::Cut;
 use crate::writing::send_answer;
 use gx_devices::Counted;
-use gx_door::{Dial, Door};
+use gx_door::{Caller, Dial, Door};
 use gx_lobby::Stop;
-use gx_reception::{Admission, Admits, Denial, Knock, NoLine, Opening, await_login};
-use gx_soup::SoupFault;
+use gx_reception::{Admission, Admits, Denial, Knock, NoLine, Opening, Undenied, await_login};
+use gx_soup::LoginRequest;
 use std::alloc::Global;
 use std::io::{Read, Write};
 use std::sync::Wait;
-use std::time::Clock;
 
-/// Why nobody is logged in on a connection.
+/// Why a connection has ended.
 #[derive(Clone, Copy)]
 pub enum Gone {
-    /// It began with bytes that are no packets.
-    Broken(SoupFault),
+    /// It was cut off for what came of its peer.
+    Cut(Cut),
     /// There is no line for its user, who has the right password.
     NoLine(NoLine),
     /// Its login was denied for its password.
     Denied,
+    /// Its login has no user's password, and was not put on record.
+    Spared,
     /// It ended, or began with another packet, or there was no memory or no room in the day for it.
     Quietly,
 }
@@ -32,10 +36,47 @@ pub enum Gone {
 /// What comes of a connection's first packets.
 #[derive(Drop)]
 pub enum Received<T: Drop> {
-    /// A user with the right password, the pass of a line of his own, and what was read so far: his login is to be made.
-    Admitted(T, Opening),
+    /// A user with the right password, the pass of a line of his own, who he is, and what was read so far: his login is to
+    /// be made.
+    Admitted(T, Caller, Opening),
+    /// The login of somebody who has no user's password: it is to be denied.
+    Stranger(LoginRequest),
     /// The session is over.
     Gone(Gone),
+}
+
+/// Gives a login a line, if its user has the right password.
+fn admit<D: Door, A: Admits<D>, R: Wait>(
+    rt: &R,
+    door: &D,
+    reception: &A,
+    opening: Opening,
+) -> Received<D::Ticket>
+    ensures { WasReceived D.policy D.held result }
+{
+    let login = opening.login();
+    match reception.admit(rt, door, &login) {
+        Admission::Line(pass, caller) => Received::Admitted(pass, caller, opening),
+        Admission::NoLine(why) => Received::Gone(Gone::NoLine(why)),
+        Admission::Stranger => Received::Stranger(login),
+    }
+}
+
+/// Reads a connection up to its login, and gives it a line. Nothing is written.
+pub fn receive<D: Door, A: Admits<D>, N: Read, R: Wait>(
+    rt: &R,
+    alloc: Global,
+    door: &D,
+    reception: &A,
+    reader: &mut Counted<N>,
+) -> Received<D::Ticket>
+    ensures { WasReceived D.policy D.held result }
+{
+    match await_login(rt, alloc, reader) {
+        Knock::Login(opening) => admit(rt, door, reception, opening),
+        Knock::Broken(fault) => Received::Gone(Gone::Cut(Cut::Broken(fault))),
+        Knock::Other | Knock::Refused | Knock::Ended => Received::Gone(Gone::Quietly),
+    }
 }
 
 /// Answers a login that was denied, once the record of it is kept.
@@ -55,51 +96,28 @@ fn turn_off<D: Door, O: Write, R: Wait>(
     let _ = send_answer(rt, alloc, door, stop, denial.answer(), writer);
 }
 
-/// Gives a login a line, or answers it.
-fn admit<D: Door, A: Admits<D>, O: Write, R: Wait + Dial>(
+/// Denies the login of somebody who has no user's password, and answers it, once the record of it is kept. Nobody else writes
+/// meanwhile.
+pub fn turn_away<D: Door, A: Admits<D>, O: Write, R: Wait + Dial>(
     rt: &R,
     alloc: Global,
     door: &D,
     stop: &Stop,
     reception: &A,
-    opening: Opening,
+    login: &LoginRequest,
     writer: &mut Counted<O>,
-) -> Received<D::Ticket>
-    requires { writer.old.failed < 2 ^ 64 - 1 }
-    ensures { WasReceived D.policy D.held
-        (O.contents writer.old.device) (O.contents writer.new.device)
-        writer.old.failed writer.new.failed result }
+) -> Gone
+    requires writer { writer.old.failed < 2 ^ 64 - 1 }
+    requires stranger { caller_of D.policy login.now.user login.now.password ≡ callers.Stranger }
+    ensures { WasTurnedAway (O.contents writer.old.device) (O.contents writer.new.device) result }
 {
-    match reception.admit(rt, door, &opening.login()) {
-        Admission::Line(pass) => Received::Admitted(pass, opening),
-        Admission::Denied(denial) => {
+    match reception.deny(rt, door, login) {
+        Ok(denial) => {
             turn_off(rt, alloc, door, stop, denial, writer);
-            Received::Gone(Gone::Denied)
+            Gone::Denied
         }
-        Admission::NoLine(why) => Received::Gone(Gone::NoLine(why)),
-        Admission::Refused(_) => Received::Gone(Gone::Quietly),
-    }
-}
-
-/// Reads a connection up to its login, and gives it a line, or answers it. Nobody else writes to it meanwhile.
-pub fn receive<D: Door, A: Admits<D>, N: Read, O: Write, R: Wait + Clock + Dial>(
-    rt: &R,
-    alloc: Global,
-    door: &D,
-    stop: &Stop,
-    reception: &A,
-    reader: &mut Counted<N>,
-    writer: &mut Counted<O>,
-) -> Received<D::Ticket>
-    requires { writer.old.failed < 2 ^ 64 - 1 }
-    ensures { WasReceived D.policy D.held
-        (O.contents writer.old.device) (O.contents writer.new.device)
-        writer.old.failed writer.new.failed result }
-{
-    match await_login(rt, alloc, reader) {
-        Knock::Login(opening) => admit(rt, alloc, door, stop, reception, opening, writer),
-        Knock::Broken(fault) => Received::Gone(Gone::Broken(fault)),
-        Knock::Other | Knock::Refused | Knock::Ended => Received::Gone(Gone::Quietly),
+        Err(Undenied::Spared) => Gone::Spared,
+        Err(Undenied::Refused(_)) => Gone::Quietly,
     }
 }
 

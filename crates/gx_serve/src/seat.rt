@@ -15,9 +15,11 @@ ghost use Rattle.gx_serve.specs.Breaks.{break_of};
 ghost use Rattle.gx_serve.specs.Seats.{Follows, Heeds, WasAnswered, WasLoggedOut, WasMade, WasRefused, WasTaken, WasTold, WasToldRefusal};
 
 pub mod outgoing;
+pub mod taking;
 
+use crate::conduct::Conduct;
 use gx_answers::{LoginAnswer, StepFault};
-use gx_door::{Dial, Door};
+use gx_door::{Caller, Dial, Door};
 use gx_history::record::Request;
 use gx_lobby::{Asked, Rung, Watch};
 use gx_session::{Control, Event, Next, Phase, Session};
@@ -136,12 +138,13 @@ pub struct Seat<T: Drop> {
     looked: bool,
     /// What the writer has seen of the records.
     watch: Watch,
+    conduct: Conduct,
     ghost has_pass: { IsTrue (is_some pass) },
 }
 
 impl<T: Drop> Seat<T> {
-    /// A new session, with the pass that its steps are made with.
-    pub fn new<R: Dial>(_rt: &R, pass: T, moment: Moment) -> Seat<T>
+    /// A new session, with the pass that its steps are made with, of somebody who is this.
+    pub fn new<R: Dial>(_rt: &R, pass: T, caller: Caller, moment: Moment) -> Seat<T>
         requires clock { R.shown moment }
         ensures session { result.session ≡ new_session moment }
         ensures answer { result.answer ≡ None }
@@ -157,6 +160,7 @@ impl<T: Drop> Seat<T> {
             deaf: false,
             looked: false,
             watch: Watch::new(),
+            conduct: Conduct::new(caller),
         }
     }
 
@@ -220,7 +224,10 @@ impl<T: Drop> Seat<T> {
         self.pass = Some(pass);
         self.looked = false;
         match answer {
-            Ok(_) => Ok(()),
+            Ok(outcome) => {
+                self.conduct.note(&outcome.verdict);
+                Ok(())
+            }
             Err(fault) => Err(fault),
         }
     }

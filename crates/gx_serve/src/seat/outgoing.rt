@@ -248,7 +248,7 @@ impl<T: Drop> Seat<T> {
     }
 
     /// How many records there are.
-    fn length<D: Door<Ticket = T>>(&mut self, door: &D) -> u64
+    pub(super) fn length<D: Door<Ticket = T>>(&mut self, door: &D) -> u64
         ensures told { met D.held self.new.pass ≡ retold (met D.held self.old.pass) result }
         ensures user { self.new.user ≡ self.old.user }
         ensures session { self.new.session ≡ self.old.session }

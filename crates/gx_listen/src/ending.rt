@@ -1,7 +1,7 @@
 //! How a server ended.
 
 ghost use Rattle.std.specs.Prelude.{◌≡◌, None, Some};
-ghost use Rattle.gx_serve.specs.Endings.{fault_of, IsHalted};
+ghost use Rattle.gx_listen.specs.Endings.{fault_of, IsHalted};
 
 use crate::fault::ServeFault;
 use gx_lobby::Asked;
@@ -24,7 +24,7 @@ pub struct Ending {
 
 impl Model for Ending {
     ghost use Rattle.std.specs.Prelude.{Option};
-    ghost use Rattle.gx_serve.specs.declared.fault.ServeFault.{ServeFault};
+    ghost use Rattle.gx_listen.specs.declared.fault.ServeFault.{ServeFault};
 
     ghost Value = { Option ServeFault };
 
@@ -66,7 +66,7 @@ pub struct Unserved {
 }
 
 impl Model for Unserved {
-    ghost use Rattle.gx_serve.specs.declared.fault.ServeFault.{ServeFault};
+    ghost use Rattle.gx_listen.specs.declared.fault.ServeFault.{ServeFault};
 
     ghost Value = { ServeFault };
 

@@ -1,8 +1,8 @@
 -- Why servers end.
 use Rattle.std.specs.Prelude.{IsTrue, Option, None, Some}
-use Rattle.gx_serve.specs.declared.fault.ServeFault.{ServeFault}
-use Rattle.gx_serve.specs.declared.ending.Halt.{Halt}
-use Rattle.gx_serve.specs.declared.ending.Halt.TheVariants as halts
+use Rattle.gx_listen.specs.declared.fault.ServeFault.{ServeFault}
+use Rattle.gx_listen.specs.declared.ending.Halt.{Halt}
+use Rattle.gx_listen.specs.declared.ending.Halt.TheVariants as halts
 
 -- why a server that halts gave up, if it did
 abbrev pub fault_of : Halt → Option ServeFault

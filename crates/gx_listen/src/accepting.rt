@@ -1,0 +1,114 @@
+//! Connections are taken, and each has a place.
+
+ghost use Rattle.std.specs.Prelude.{IfErr};
+ghost use Rattle.gx_listen.specs.Endings.{IsHalted};
+
+use crate::ending::Halt;
+use crate::fault::ServeFault;
+use gx_lobby::{Lobby, Mishap, Peer, Place};
+use std::io::ErrorKind;
+use std::net::TcpListener;
+use std::sync::Wait;
+use std::time::{Clock, Duration};
+use std::{io, thread};
+
+/// So often an accept may fail in a row before the server gives up.
+const FAILURES: u32 = 50;
+
+/// So many milliseconds lie between a failed accept and the next.
+const PAUSE: u64 = 100;
+
+/// After so many milliseconds the server looks for a new peer, and whether it is to end.
+const POLL: u64 = 5;
+
+/// What the system answers where descriptors or memory are wanting: ENOMEM, ENFILE, EMFILE, ENOBUFS.
+const WANTS: [i32; 4] = [12, 23, 24, 105];
+
+/// Whether an accept failed for want of descriptors or memory: it is tried again for as long as it takes.
+fn is_want(error: &io::Error) -> bool {
+    match error.raw_os_error() {
+        Some(code) => WANTS.contains(&code),
+        None => false,
+    }
+}
+
+/// Hangs up on those who came first and have not logged in, and waits until one is gone, or a while has passed. Answers on
+/// how many.
+fn make_room<R: Wait + Clock>(rt: &R, lobby: &Lobby) -> u64 {
+    let count = lobby.newcomers.cut_oldest(rt);
+    lobby.places.await_one(rt, Duration::from_millis(POLL));
+    count
+}
+
+/// Waits behind an accept that failed: for a want that ends once somebody is hung up on, for the next connection, or longer
+/// for what is wrong. Answers whether the failure counts.
+fn wait_behind<R: Wait + Clock>(rt: &R, lobby: &Lobby, error: &io::Error) -> bool {
+    if is_want(error) {
+        lobby.tally.note(Mishap::Wanting, 1);
+        make_room(rt, lobby);
+        return false;
+    }
+    if error.kind() == ErrorKind::WouldBlock {
+        thread::sleep(rt, Duration::from_millis(POLL));
+        return false;
+    }
+    thread::sleep(rt, Duration::from_millis(PAUSE));
+    true
+}
+
+/// Takes the connection of this number, or tells why none is taken any more. One that fails before it is taken is
+/// passed over. Where descriptors are wanting, those who came first and have not logged in are hung up on.
+pub(crate) fn accept<R: Wait + Clock>(
+    rt: &R,
+    lobby: &Lobby,
+    listener: &TcpListener,
+    number: u64,
+) -> Result<Peer, Halt>
+    ensures { IfErr result IsHalted }
+{
+    let mut left = FAILURES;
+    for _ in rt.forever() {
+        let asked = lobby.stop.is_asked();
+        if asked.is_yes() {
+            return Err(Halt::Asked(asked));
+        }
+        match listener.accept() {
+            Ok((stream, address)) => {
+                return Ok(Peer {
+                    number,
+                    address,
+                    stream,
+                });
+            }
+            Err(error) => {
+                if wait_behind(rt, lobby, &error) {
+                    left = left.saturating_sub(1);
+                }
+                if left == 0 {
+                    return Err(Halt::Fault(ServeFault::ListenFailed(error)));
+                }
+            }
+        }
+    }
+    unreachable!()
+}
+
+/// Takes a place. Where none is free, those who came first and have not logged in are hung up on, until one is.
+pub(crate) fn take_place<'x, R: Wait + Clock>(
+    rt: &'x R,
+    lobby: &'x Lobby,
+) -> Result<Place<'x, R>, Halt>
+    ensures { IfErr result IsHalted }
+{
+    for _ in rt.forever() {
+        let asked = lobby.stop.is_asked();
+        if asked.is_yes() {
+            return Err(Halt::Asked(asked));
+        }
+        if let Some(place) = lobby.places.take(rt) {
+            return Ok(place);
+        }
+        lobby.tally.note(Mishap::Crowded, make_room(rt, lobby));
+    }
+    unreachable!()
+}

@@ -1,0 +1,20 @@
+//! A server on a port: it takes connections, each in threads of its own, and serves them at any [`Door`](gx_door::Door).
+//!
+//! - `accepting`: connections are taken, and each has a place;
+//! - `visiting`: a connection from its beginning to its end;
+//! - `serving`: the threads of a server;
+//! - `ending`, `fault`: how a server ended.
+//!
+//! Nobody keeps an officer out: whoever has not logged in is hung up on for the next who comes.
+#![tactic(auto)]
+
+mod accepting;
+mod dated;
+mod ending;
+mod fault;
+mod serving;
+mod visiting;
+
+pub use ending::{Ending, Unserved};
+pub use fault::ServeFault;
+pub use serving::serve_door;

@@ -1,0 +1,250 @@
+//! The threads of a server.
+
+ghost use Rattle.std.specs.Prelude.{IfErr};
+ghost use Rattle.gx_listen.specs.Endings.{IsHalted};
+
+use crate::accepting::{accept, take_place};
+use crate::dated::Dated;
+use crate::ending::{Ending, Halt, Unserved};
+use crate::fault::ServeFault;
+use crate::visiting::{Hall, serve_stream, tell_gone};
+use gx_door::{Door, Issuer};
+use gx_lobby::{Lobby, Mishap, Peer, Place};
+use gx_reception::{Admits, Reception};
+use gx_serve::match_on;
+use std::alloc::Global;
+use std::net::TcpListener;
+use std::sync::{Arc, Wait};
+use std::thread;
+use std::thread::Threads;
+use std::time::{Clock, Duration};
+
+/// After so many milliseconds a watcher looks after those who have not logged in.
+const LOOK: u64 = 50;
+
+/// After so many looks it tells what went wrong.
+const TURNS: u64 = 20;
+
+/// A peer, and the place that he has.
+#[derive(Drop)]
+struct Guest<'x, R: Wait> {
+    peer: Arc<Peer, Global>,
+    place: Place<'x, R>,
+}
+
+/// Serves a peer to his end, and tells why it ended, where that is told. His place is given back.
+fn serve_peer<D: Door + Sync, A: Admits<D>, R: Threads + Wait + Clock + Eprint + Sync>(
+    hall: &Hall<'_, D, A, R>,
+    guest: Guest<'_, R>,
+)
+where
+    D::Ticket: Send,
+{
+    let Guest { peer, place } = guest;
+    let gone = serve_stream(hall, &peer);
+    hall.lobby.newcomers.leave(hall.rt, peer.number);
+    tell_gone(hall.rt, hall.alloc, hall.lobby, &peer, gone);
+    drop(peer);
+    drop(place);
+}
+
+/// The peer of this number, with a place; `None` where there is no memory for him. He is hung up on then.
+fn next_guest<
+    'x,
+    T: Drop + Send,
+    D: Door<Ticket = T> + Sync,
+    A,
+    R: Threads + Wait + Clock + Eprint + Sync,
+>(
+    hall: &'x Hall<'x, D, A, R>,
+    listener: &TcpListener,
+    number: u64,
+) -> Result<Option<Guest<'x, R>>, Halt>
+    ensures { IfErr result IsHalted }
+{
+    let peer = accept(hall.rt, hall.lobby, listener, number)?;
+    let place = take_place(hall.rt, hall.lobby)?;
+    let Ok(peer) = Arc::new(hall.alloc, peer) else {
+        return Ok(None);
+    };
+    let Ok(theirs) = Arc::try_clone(&peer) else {
+        return Ok(None);
+    };
+    match hall.lobby.newcomers.come(hall.rt, theirs) {
+        Ok(()) => Ok(Some(Guest { peer, place })),
+        Err(_) => Ok(None),
+    }
+}
+
+/// What a watcher does each time that it looks: it hangs up on each who has not logged in in time, and on all of them once the
+/// end was asked for.
+fn look_after<R: Wait + Clock>(rt: &R, lobby: &Lobby) {
+    lobby.newcomers.cut_late(rt, &lobby.tally);
+    if lobby.stop.is_asked().is_yes() {
+        lobby.newcomers.cut_all(rt);
+    }
+}
+
+/// Looks after newcomers until their door is closed, and tells each second what went wrong.
+fn watch_newcomers<R: Wait + Clock + Eprint>(rt: &R, lobby: &Lobby) {
+    for turn in 0..u64::MAX {
+        look_after(rt, lobby);
+        if turn % TURNS == 0 || lobby.newcomers.is_closed() {
+            lobby.tally.tell(rt);
+        }
+        if lobby.newcomers.is_closed() {
+            return;
+        }
+        thread::sleep(rt, Duration::from_millis(LOOK));
+    }
+}
+
+/// There was no thread or no memory for the connection of this number: it is hung up on, and so is the one who came first
+/// and has not logged in.
+fn go_without<R: Wait>(rt: &R, lobby: &Lobby, number: u64) {
+    lobby.newcomers.leave(rt, number);
+    lobby.newcomers.cut_first(rt);
+    lobby.tally.note(Mishap::Unserved, 1);
+}
+
+/// Takes connections, each in a thread of its own, and waits until all have ended: how this ended. One for which there is
+/// no thread or no memory is closed.
+fn take_guests<
+    'x,
+    T: Drop + Send,
+    D: Door<Ticket = T> + Sync,
+    A: Admits<D> + Sync,
+    R: Threads + Wait + Clock + Eprint + Sync,
+>(hall: &'x Hall<'x, D, A, R>, listener: TcpListener, connections: u64) -> Ending {
+    let rt = hall.rt;
+    thread::scope(thread::scope_env(), rt, |scope| {
+        for before in 0..connections {
+            match next_guest(hall, &listener, before + 1) {
+                Ok(Some(guest)) => {
+                    if (&*scope).spawn(move || serve_peer(hall, guest)).is_err() {
+                        go_without(rt, hall.lobby, before + 1);
+                    }
+                }
+                Ok(None) => go_without(rt, hall.lobby, before + 1),
+                Err(halt) => return Ending::of_halt(halt),
+            }
+        }
+        drop(listener);
+        Ending::of_all_taken()
+    })
+}
+
+/// Takes connections at the door: how this ended.
+fn take_connections<
+    T: Drop + Send,
+    D: Door<Ticket = T> + Sync,
+    A: Admits<D> + Sync,
+    R: Threads + Wait + Clock + Eprint + Sync,
+>(
+    rt: &R,
+    alloc: Global,
+    door: &D,
+    reception: &A,
+    lobby: &Lobby,
+    listener: TcpListener,
+    connections: u64,
+) -> Ending {
+    let hall = Hall {
+        rt,
+        alloc,
+        door,
+        reception,
+        lobby,
+    };
+    take_guests(&hall, listener, connections)
+}
+
+/// Runs the matcher beside the connections. Gives the matcher's pass, and how the server ended; `OutOfMemory` where no
+/// thread could be made for the matcher.
+fn run<
+    'x,
+    T: Drop + Send,
+    D: Door<Ticket = T> + Sync,
+    A: Admits<D> + Sync,
+    R: Threads + Wait + Clock + Eprint + Sync,
+>(
+    rt: &'x R,
+    alloc: Global,
+    door: &'x D,
+    reception: &A,
+    lobby: &'x Lobby,
+    pass: T,
+    listener: TcpListener,
+    connections: u64,
+) -> Result<(T, Ending), Unserved> {
+    thread::scope(thread::scope_env(), rt, |scope| {
+        let Ok(matcher) = (&*scope).spawn(move || match_on(
+            &Dated::new(rt),
+            door,
+            &lobby.bell,
+            pass,
+        )) else {
+            return Err(Unserved::of_fault(ServeFault::OutOfMemory));
+        };
+        let Ok(_watching) = (&*scope).spawn(move || watch_newcomers(rt, lobby)) else {
+            lobby.bell.close(rt);
+            matcher.join(rt);
+            return Err(Unserved::of_fault(ServeFault::OutOfMemory));
+        };
+        let taken = take_connections(rt, alloc, door, reception, lobby, listener, connections);
+        lobby.newcomers.close();
+        lobby.bell.close(rt);
+        Ok((matcher.join(rt), taken))
+    })
+}
+
+/// Serves at any door, with passes of its gate: takes connections, each in threads of its own, and makes matching steps,
+/// until so many were served, or the lobby was asked to end. All threads have ended then.
+///
+/// A connection has a line from its login on, if its user has the right password.
+///
+/// Gives back a pass, and how the server ended.
+///
+/// # Errors
+///
+/// `NoLines` where no line was left, and `OutOfMemory` where memory or a thread was refused, before any connection was
+/// taken.
+pub fn serve_door<
+    T: Drop + Send,
+    D: Door<Ticket = T> + Sync,
+    I: Issuer<D> + Drop + Send,
+    R: Threads + Wait + Clock + Eprint + Sync,
+>(
+    rt: &R,
+    alloc: Global,
+    door: &D,
+    issuer: I,
+    lobby: &Lobby,
+    listener: TcpListener,
+    connections: u64,
+) -> Result<(T, Ending), Unserved> {
+    let mut issuer = issuer;
+    let pass = match issuer.issue(rt) {
+        Ok(pass) => pass,
+        Err(fault) => return Err(Unserved::of_fault(fault.into())),
+    };
+    let reception = match Reception::open(rt, door, issuer) {
+        Ok(reception) => reception,
+        Err(fault) => return Err(Unserved::of_fault(fault.into())),
+    };
+    if let Err(error) = listener.set_nonblocking(true) {
+        let halt = Halt::Fault(ServeFault::ListenFailed(error));
+        return Ok((pass, Ending::of_halt(halt)));
+    }
+    lobby.bell.open(rt);
+    run(
+        rt,
+        alloc,
+        door,
+        &reception,
+        lobby,
+        pass,
+        listener,
+        connections,
+    )
+}

@@ -1,0 +1,202 @@
+//! A connection from its beginning to its end.
+
+ghost use Rattle.std.specs.Prelude.{◌≡◌};
+ghost use Rattle.gx_door.specs.Callers.{caller_of};
+ghost use Rattle.gx_door.specs.declared.caller.Caller.TheVariants as callers;
+
+use crate::dated::Dated;
+use gx_devices::Counted;
+use gx_door::{Caller, Door};
+use gx_lobby::{Lobby, Mishap, Peer, words_of};
+use gx_reception::{Admits, NoLine, Opening};
+use gx_serve::{
+    Cut, Exclusion, Gone, HangUp, Link, Received, converse, let_go_of, receive, turn_away,
+};
+use gx_soup::LoginRequest;
+use std::alloc::Global;
+use std::io;
+use std::io::Read;
+use std::net::TcpStream;
+use std::sync::Wait;
+use std::thread::Threads;
+use std::time::{Clock, Duration, Instant};
+
+/// A write of which a peer takes nothing for so many milliseconds fails.
+const WRITE_PATIENCE: u64 = 5_000;
+
+/// A wrong password that is one too many is answered so many milliseconds later.
+const DELAY: u64 = 1_000;
+
+/// Sets a stream up: small packets go out at once, and a write ends in time.
+fn set_up(stream: &TcpStream) -> io::Result<()> {
+    stream.set_nodelay(true)?;
+    stream.set_write_timeout(Some(Duration::from_millis(WRITE_PATIENCE)))
+}
+
+/// What the threads of connections share.
+#[derive(Drop)]
+pub(crate) struct Hall<'x, D, A, R> {
+    pub(crate) rt: &'x R,
+    pub(crate) alloc: Global,
+    pub(crate) door: &'x D,
+    pub(crate) reception: &'x A,
+    pub(crate) lobby: &'x Lobby,
+}
+
+/// Whether the wait is over: so much time has passed, or the clock can't be read.
+fn has_waited<R: Clock>(rt: &R, began: &io::Result<Instant>) -> bool {
+    match began {
+        Ok(began) => match began.elapsed(rt) {
+            Ok(since) => since >= Duration::from_millis(DELAY),
+            Err(_) => true,
+        },
+        Err(_) => true,
+    }
+}
+
+/// Lets a second pass, and lets go of what comes meanwhile. Answers whether the peer is still there: he is not once he has
+/// ended, or was hung up on.
+fn stays<R: Wait + Clock>(rt: &R, stream: &TcpStream) -> bool {
+    let _ = stream.set_read_timeout(Some(Duration::from_millis(DELAY)));
+    let began = Instant::now(rt);
+    let mut reader = stream;
+    let mut buffer = [0u8; 4096];
+    for _ in rt.forever() {
+        match reader.read(&mut buffer) {
+            Ok(0) => return false,
+            _ if has_waited(rt, &began) => break,
+            _ => {}
+        }
+    }
+    stream.set_read_timeout(None).is_ok()
+}
+
+/// Turns a peer away who has no user's password, a second later where that was given too often.
+fn turn_stranger_away<D: Door, A: Admits<D>, R: Wait + Clock>(
+    hall: &Hall<'_, D, A, R>,
+    peer: &Peer,
+    login: &LoginRequest,
+) -> Gone
+    requires stranger { caller_of D.policy login.now.user login.now.password ≡ callers.Stranger }
+{
+    let stream = &peer.stream;
+    let attempts = &hall.lobby.attempts;
+    if attempts.is_one_too_many(hall.rt, login.user, peer.address.ip()) && !stays(hall.rt, stream) {
+        return Gone::Quietly;
+    }
+    turn_away(
+        &Dated::new(hall.rt),
+        hall.alloc,
+        hall.door,
+        &hall.lobby.stop,
+        hall.reception,
+        login,
+        &mut Counted::new(stream),
+    )
+}
+
+/// Serves a user who has a line to his end. Answers why it ended.
+fn serve_user<D: Door + Sync, A, R: Threads + Wait + Clock + Sync>(
+    hall: &Hall<'_, D, A, R>,
+    pass: D::Ticket,
+    caller: Caller,
+    opening: Opening,
+    stream: &TcpStream,
+) -> Gone
+where
+    D::Ticket: Send,
+{
+    let rt = &Dated::new(hall.rt);
+    let link = Link::new(rt, pass, caller);
+    let (_hung_up, listening) = converse(
+        rt,
+        hall.alloc,
+        hall.door,
+        &hall.lobby.bell,
+        &hall.lobby.stop,
+        &link,
+        opening,
+        Counted::new(stream),
+        stream,
+        stream,
+    );
+    match listening.cut() {
+        Some(cut) => Gone::Cut(cut),
+        None => Gone::Quietly,
+    }
+}
+
+/// Lets go of what comes, once nothing more is written, until the peer has ended or was hung up on.
+fn part<R: Wait>(rt: &R, stream: &TcpStream, gone: Gone) -> Gone {
+    stream.finish();
+    let_go_of(rt, &mut Counted::new(stream));
+    gone
+}
+
+/// Serves a peer to his end: why it ended.
+pub(crate) fn serve_stream<D: Door + Sync, A: Admits<D>, R: Threads + Wait + Clock + Sync>(
+    hall: &Hall<'_, D, A, R>,
+    peer: &Peer,
+) -> Gone
+where
+    D::Ticket: Send,
+{
+    let stream = &peer.stream;
+    if set_up(stream).is_err() {
+        return Gone::Quietly;
+    }
+    let mut reader = Counted::new(stream);
+    match receive(hall.rt, hall.alloc, hall.door, hall.reception, &mut reader) {
+        Received::Admitted(pass, caller, opening) => {
+            hall.lobby.newcomers.leave(hall.rt, peer.number);
+            serve_user(hall, pass, caller, opening, stream)
+        }
+        Received::Stranger(login) => {
+            let gone = turn_stranger_away(hall, peer, &login);
+            part(hall.rt, stream, gone)
+        }
+        Received::Gone(gone) => part(hall.rt, stream, gone),
+    }
+}
+
+/// What is told of a connection that was cut off.
+fn tell_cut<R: Eprint>(rt: &R, alloc: Global, peer: &Peer, cut: Cut) {
+    match cut {
+        Cut::Broken(fault) => peer.tell(rt, alloc, "no packets", words_of(fault)),
+        Cut::Excluded(Exclusion::Silent) => {
+            peer.tell(
+                rt,
+                alloc,
+                "put out",
+                "1000 requests in a row were denied in silence",
+            );
+        }
+        Cut::Excluded(Exclusion::Kept) => {
+            peer.tell(
+                rt,
+                alloc,
+                "put out",
+                "the day's last records are for officers and readers",
+            );
+        }
+    }
+}
+
+/// What is told of a connection whose user has no line.
+fn tell_no_line<R: Eprint>(rt: &R, alloc: Global, peer: &Peer, why: NoLine) {
+    let words = match why {
+        NoLine::Kept => "the day's last lines and records are for officers and readers",
+        NoLine::Unissued(_) => "the day has none left, or there is no memory for one",
+    };
+    peer.tell(rt, alloc, "no line", words);
+}
+
+/// Tells why a connection has ended, where that is told.
+pub(crate) fn tell_gone<R: Eprint>(rt: &R, alloc: Global, lobby: &Lobby, peer: &Peer, gone: Gone) {
+    match gone {
+        Gone::Cut(cut) => tell_cut(rt, alloc, peer, cut),
+        Gone::NoLine(why) => tell_no_line(rt, alloc, peer, why),
+        Gone::Spared => lobby.tally.note(Mishap::Spared, 1),
+        Gone::Denied | Gone::Quietly => {}
+    }
+}
