@@ -74,9 +74,11 @@ fn knock_at(feeder: Feeder, fed: Fed, at: usize) -> Knock
 /// What a piece comes to, behind idle packets; the feeder, where all of it is idle.
 #[tactic(auto, using(crate::proofs::Idling::comes_knocking, crate::proofs::Idling::comes_broken, crate::proofs::Idling::stays_idle))]
 fn take_piece(feeder: Feeder, piece: &[u8]) -> Result<Feeder, Knock>
-    ensures idle { IfOk result (λ f. (before : List ℕ) → HasRead feeder before → IsIdle before
+    ensures idle { IfOk result (λ f. (before : List ℕ)
+        → HasRead feeder before → IsIdle before
         → HasRead f (before ++ piece.now) × IsIdle (before ++ piece.now)) }
-    ensures comes { IfErr result (λ k. (before : List ℕ) → HasRead feeder before → IsIdle before
+    ensures comes { IfErr result (λ k. (before : List ℕ)
+        → HasRead feeder before → IsIdle before
         → ComesTo (before ++ piece.now) ⊥ k) }
 {
     let mut feeder = feeder;

@@ -39,7 +39,8 @@ pub trait Admits<D: Door> {
         door: &D,
         login: &LoginRequest,
     ) -> Result<Denial, Undenied>
-        requires stranger { caller_of D.policy login.now.user login.now.password ≡ callers.Stranger }
+        requires stranger { caller_of D.policy login.now.user login.now.password
+            ≡ callers.Stranger }
         ensures rejected { IfOk result (λ d. d ≡ answers.Rejected rejections.NotAuthorized) };
 }
 

@@ -104,7 +104,8 @@ impl<D: Door> Strangers<D> {
         moment: Moment,
     ) -> Result<Denial, Undenied>
         requires clock { R.shown moment }
-        requires stranger { caller_of D.policy login.now.user login.now.password ≡ callers.Stranger }
+        requires stranger { caller_of D.policy login.now.user login.now.password
+            ≡ callers.Stranger }
         requires few { self.old < 1048576 }
         ensures rejected { IfOk result (λ d. d ≡ answers.Rejected rejections.NotAuthorized) }
         ensures counted { OnOk result (self.new ≡ self.old + 1) }
@@ -146,7 +147,8 @@ impl<D: Door> Strangers<D> {
         moment: Moment,
     ) -> Result<Denial, Undenied>
         requires clock { R.shown moment }
-        requires stranger { caller_of D.policy login.now.user login.now.password ≡ callers.Stranger }
+        requires stranger { caller_of D.policy login.now.user login.now.password
+            ≡ callers.Stranger }
         ensures rejected { IfOk result (λ d. d ≡ answers.Rejected rejections.NotAuthorized) }
         ensures counted { OnOk result (self.new ≡ self.old + 1) }
         ensures same { OnErr result (self.new ≡ self.old) }
