@@ -9,11 +9,11 @@ use gx_answers::AccessGate;
 use gx_core::Gate;
 use gx_pass::{Blank, GateName};
 use gx_policy::Policy;
-use gx_shared::{SharedGate, blank_ledger};
+use gx_shared::{BlankLedgers, SharedGate};
 use gx_trials::Told;
 use std::alloc::Global;
 use std::marker::Brand;
-use std::sync::{Wait, ledger};
+use std::sync::Wait;
 use std::thread::Threads;
 use std::time::Clock;
 
@@ -33,19 +33,19 @@ fn show_named<N: GateName + Send + Sync, R: Threads + Wait + Clock + Sync>(
     out: &mut Told,
     policy: &Policy,
     blank: Blank,
-    ledger: ledger::Blank,
+    ledgers: BlankLedgers,
     shown: Shown<'_, '_>,
 )
     requires policy { policy.now ≡ N.policy }
     requires blank { blank ≡ N.table }
-    requires name { ledger.name ≡ N.name }
-    requires parts { ledger.parts ≡ N.parts }
-    requires all { ledger.parts ≡ all_parts }
+    requires records { ledgers.records ≡ N.name }
+    requires lines { ledgers.lines ≡ N.lines }
+    requires parts { N.parts ≡ all_parts }
 {
     let Ok(gate) = Gate::open(alloc, policy) else {
         return out.give_up();
     };
-    match SharedGate::<Gate, N>::over(gate, blank, ledger) {
+    match SharedGate::<Gate, N>::over(gate, blank, ledgers) {
         Ok((shared, permits, pass)) => match shown {
             Shown::Play(setting) => {
                 play_at(rt, alloc, out, policy, shared, permits, pass, setting)
@@ -65,7 +65,15 @@ pub(crate) fn show<R: Threads + Wait + Clock + Sync>(
     shown: Shown<'_, '_>,
 ) {
     match Blank::new(alloc) {
-        Ok(blank) => show_named::<Brand, R>(rt, alloc, out, policy, blank, blank_ledger(), shown),
+        Ok(blank) => show_named::<Brand, R>(
+            rt,
+            alloc,
+            out,
+            policy,
+            blank,
+            BlankLedgers::new(),
+            shown,
+        ),
         Err(_) => out.give_up(),
     }
 }

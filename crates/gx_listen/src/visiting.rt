@@ -8,7 +8,8 @@ use crate::dated::Dated;
 use gx_devices::Counted;
 use gx_door::{Caller, Door};
 use gx_lobby::{Lobby, Mishap, Peer, words_of};
-use gx_reception::{Admits, NoLine, Opening};
+use gx_pass::PassFault;
+use gx_reception::{Admits, LineFault, NoLine, Opening};
 use gx_serve::{
     Cut, Exclusion, Gone, HangUp, Link, Received, converse, let_go_of, receive, turn_away,
 };
@@ -184,9 +185,10 @@ fn tell_cut<R: Eprint>(rt: &R, alloc: Global, peer: &Peer, cut: Cut) {
 
 /// What is told of a connection whose user has no line.
 fn tell_no_line<R: Eprint>(rt: &R, alloc: Global, peer: &Peer, why: NoLine) {
-    let words = match why {
-        NoLine::Kept => "the day's last lines and records are for officers and readers",
-        NoLine::Unissued(_) => "the day has none left, or there is no memory for one",
+    let words = match why.why() {
+        LineFault::Kept => "the day's last lines and records are for officers and readers",
+        LineFault::Unissued(PassFault::NoLines) => "the day has none left",
+        LineFault::Unissued(PassFault::OutOfMemory) => "there is no memory for one",
     };
     peer.tell(rt, alloc, "no line", words);
 }

@@ -8,15 +8,15 @@ use Rattle.gx_pass.specs.Views.{mine}
 use Rattle.gx_door.specs.Callers.{caller_of}
 use Rattle.gx_door.specs.declared.caller.Caller.{Caller}
 use Rattle.gx_door.specs.declared.caller.Caller.TheVariants as callers
-use Rattle.gx_reception.specs.declared.lines.NoLine.{NoLine}
-use Rattle.gx_reception.specs.declared.lines.NoLine.TheVariants as no_line
+use Rattle.gx_reception.specs.declared.lines.LineFault.{LineFault}
+use Rattle.gx_reception.specs.declared.lines.LineFault.TheVariants as line_faults
 use Rattle.gx_reception.specs.declared.reception.Admission.{Admission}
 use Rattle.gx_reception.specs.declared.reception.Admission.TheVariants as admissions
 
 -- no line is left for him: the lines that are kept are kept from traders alone
-abbrev pub LacksLine : Caller → NoLine → Type 0
-LacksLine caller no_line.Kept = caller ≡ callers.Trader
-LacksLine caller (no_line.Unissued fault) = caller ≢ callers.Stranger
+abbrev pub LacksLine : Caller → LineFault → Type 0
+LacksLine caller line_faults.Kept = caller ≡ callers.Trader
+LacksLine caller (line_faults.Unissued fault) = caller ≢ callers.Stranger
 
 -- whoever has a user's password is given a new line, or is told that there is none
 abbrev pub IsAdmitted : {T : Type 0} → PolicyData → (T → Holds) → LoginRequest → Admission T → Type 0

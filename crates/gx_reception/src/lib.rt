@@ -19,7 +19,7 @@ mod strangers;
 
 pub use arriving::{await_login, read_piece};
 pub use laws::idle_packets_change_nothing;
-pub use lines::{Lines, NoLine};
+pub use lines::{LineFault, Lines, NoLine};
 pub use opening::{Knock, Opening};
 pub use reception::{Admission, Admits, Reception};
 pub use reserve::{LAST_TRADERS_LINE, LAST_TRADERS_RECORD, MOST_DENIALS};

@@ -8,7 +8,6 @@ ghost use Rattle.gx_door.specs.declared.caller.Caller.TheVariants as callers;
 ghost use Rattle.gx_reception.specs.Admissions.{IsAdmitted};
 
 use crate::lines::{Lines, NoLine};
-use crate::reserve::LAST_TRADERS_RECORD;
 use crate::strangers::{Denial, Strangers, Undenied};
 use gx_door::{Caller, Dial, Door, Issuer};
 use gx_pass::PassFault;
@@ -47,8 +46,8 @@ pub trait Admits<D: Door> {
 /// Where those who ask to log in are given lines. Nobody else uses one up: whoever has no user's password is denied on a
 /// line that all of them share.
 #[derive(Drop)]
-pub struct Reception<D: Door, I: Drop> {
-    lines: Mutex<Lines<I>>,
+pub struct Reception<D: Door, I: Issuer<D> + Drop> {
+    lines: Mutex<Lines<D, I>>,
     strangers: Mutex<Strangers<D>>,
 }
 
@@ -89,10 +88,10 @@ impl<D: Door, I: Issuer<D> + Drop> Reception<D, I> {
         ensures { IsAdmitted D.policy D.held login.now result }
     {
         let length = self.strangers.lock(rt).length(door);
-        if length >= LAST_TRADERS_RECORD {
-            return Admission::NoLine(NoLine::Kept);
+        match NoLine::for_records(length) {
+            Some(why) => Admission::NoLine(why),
+            None => self.give(rt, door, login, Caller::Trader),
         }
-        self.give(rt, door, login, Caller::Trader)
     }
 }
 

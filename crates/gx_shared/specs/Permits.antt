@@ -5,7 +5,13 @@ use Rattle.std.specs.Prelude.{ℕ}
 abbrev pub all_parts : ℕ
 all_parts = 18446744073709551615
 
--- how many permits are left, and how many records are counted in them
+-- the names of the ledger of the records and of that of the lines, which nobody has written in
+pub record LedgersData : Type 0 where
+  pub records : ℕ
+  pub lines : ℕ
+
+-- how many permits are left, how many records are counted in them, and the line that was issued last
 pub record PermitsData : Type 0 where
   pub left : ℕ
   pub added : ℕ
+  pub issued : ℕ

@@ -1,21 +1,25 @@
-//! The keeper of a history in which each record is counted.
+//! The keeper of a history in which each record and each line is counted.
 
-ghost use Rattle.std.specs.Prelude.{◌≡◌, ◌+◌, ◌<◌, ◌≤◌, ◌^◌, ◌++◌, ◌∷◌, [], length, IfOk, OnErr};
+ghost use Rattle.std.specs.Prelude.{◌≡◌, ◌+◌, ◌<◌, ◌≤◌, ◌^◌, ◌++◌, ◌∷◌, [], length, IfErr, IfOk, OnErr, OnOk};
 ghost use Rattle.gx_shared.specs.Permits.{all_parts};
+ghost use Rattle.gx_pass.specs.declared.pass.PassFault.TheVariants as faults;
 ghost use Rattle.gx_pass.specs.Rules.{IsMet, IsAbsent, Has, MayNote};
 ghost use Rattle.gx_pass.specs.Views.{keeps, holds, line_in, mine, without};
 
-use crate::permit::Permits;
+use crate::permit::{BlankLedgers, LinesOf, Permits};
+use crate::ticket::Ticket;
 use gx_history::record::RecordData;
 use gx_pass::{Entered, GateName, Keeper, Pass, PassFault};
 use std::marker::Model;
-use std::sync::ledger::{Blank, Book, Share, Total};
+use std::sync::ledger::{Book, Share, Total};
 
-/// A keeper, and the book of a ledger in which each of its records is counted. Contracts see what the keeper knows.
+/// A keeper, and the books of two ledgers, in which each of its records is counted and each line that it issued. Contracts
+/// see what the keeper knows.
 #[derive(Drop)]
 pub struct CountingKeeper<N: GateName> {
     keeper: Keeper<N>,
     book: Book<N>,
+    lines: Book<LinesOf<N>>,
 }
 
 impl<N: GateName> Model for CountingKeeper<N> {
@@ -26,23 +30,35 @@ impl<N: GateName> Model for CountingKeeper<N> {
 
     ghost view = { λ c. c.keeper };
 
-    ghost invariant = { λ c. c.book.total ≡ length c.keeper.list };
+    ghost invariant = { λ c. (c.book.total ≡ length c.keeper.list)
+        × (c.lines.total ≡ c.keeper.issued) };
 }
 
 impl<N: GateName> CountingKeeper<N> {
-    /// Counts the keeper's records, of which there are so many, in a ledger. Gives the permits for passes, too.
-    pub fn over(keeper: Keeper<N>, count: u64, ledger: Blank) -> (CountingKeeper<N>, Permits<N>)
-        requires name { ledger.name ≡ N.name }
-        requires parts { ledger.parts ≡ N.parts }
-        requires all { ledger.parts ≡ all_parts }
+    /// Counts the keeper's records, of which there are so many, and its lines. Gives the permits for passes, too.
+    pub fn over(
+        keeper: Keeper<N>,
+        count: u64,
+        ledgers: BlankLedgers,
+    ) -> (CountingKeeper<N>, Permits<N>)
+        requires records { ledgers.records ≡ N.name }
+        requires lines { ledgers.lines ≡ N.lines }
+        requires parts { N.parts ≡ all_parts }
         requires count { count ≡ length keeper.list }
         ensures keeper { result.0 ≡ keeper }
         ensures all { result.1.left + 1 ≡ N.parts }
         ensures added { result.1.added ≡ count }
+        ensures issued { result.1.issued ≡ keeper.issued }
     {
-        let (mut book, mut permits) = Permits::<N>::open(ledger);
+        let (mut book, mut lines, mut permits) = Permits::<N>::open(ledgers);
         permits.count(&mut book, count);
-        (CountingKeeper { keeper, book }, permits)
+        permits.count_lines(&mut lines, keeper.issued());
+        let counting = CountingKeeper {
+            keeper,
+            book,
+            lines,
+        };
+        (counting, permits)
     }
 
     /// Changes nothing: where all permits are left, as many records are counted in them as the keeper has.
@@ -55,14 +71,24 @@ impl<N: GateName> CountingKeeper<N> {
         permits.audit(&mut self.book);
     }
 
-    /// A pass with a line that was not issued before, as [`Keeper::issue`] gives it.
-    pub fn issue(&mut self) -> Result<Pass<N>, PassFault>
+    /// A pass with the next line, as [`Keeper::issue`] gives it, for one of these permits.
+    pub fn issue(&mut self, permits: &mut Permits<N>) -> Result<Ticket<N>, PassFault>
         ensures list { self.new.list ≡ self.old.list }
         ensures pass { IfOk result (λ p.
-            p ≡ holds (self.old.issued + 1) self.old.list (length self.old.list)) }
-        ensures own { IfOk result (λ p. mine p ≡ []) }
+            p.held ≡ holds (self.old.issued + 1) self.old.list (length self.old.list)) }
+        ensures own { IfOk result (λ p. mine p.held ≡ []) }
+        ensures none_added { IfOk result (λ p. p.added ≡ 0) }
+        ensures line { IfOk result (λ p. p.held.line ≡ permits.new.issued) }
+        ensures next { OnOk result (permits.new.issued ≡ permits.old.issued + 1) }
+        ensures one_less { OnOk result (permits.new.left + 1 ≡ permits.old.left) }
+        ensures added { permits.new.added ≡ permits.old.added }
+        ensures same { OnErr result (permits.new ≡ permits.old) }
+        ensures no_lines { IfErr result (λ e. e ≡ faults.NoLines → permits.old.issued ≡ 65535) }
+        ensures whole { permits.old.issued ≡ self.old.issued }
     {
-        self.keeper.issue()
+        permits.audit_lines(&mut self.lines);
+        let pass = self.keeper.issue()?;
+        Ok(Ticket::new(pass, permits.take(&mut self.lines)))
     }
 
     /// Takes a pass in, and compares it with the history, as [`Keeper::enter`] does.
@@ -106,7 +132,11 @@ impl<N: GateName> CountingKeeper<N> {
     pub fn close(self) -> Total<N>
         ensures { result.amount ≡ length self.list }
     {
-        let CountingKeeper { keeper: _, book } = self;
+        let CountingKeeper {
+            keeper: _,
+            book,
+            lines: _,
+        } = self;
         book.close()
     }
 }

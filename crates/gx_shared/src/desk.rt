@@ -19,9 +19,10 @@ ghost use Rattle.gx_door.specs.Acts.{AddsOwn, EndsWith, IsLater, IsPulled, IsTol
 ghost use Rattle.gx_shared.specs.Lines.{highest_line};
 
 use crate::counting::CountingKeeper;
-use crate::permit::Permits;
+use crate::permit::{BlankLedgers, Permits};
 use crate::resuming::resume;
 use crate::steps::{asked_on, leave, match_one, pull, step};
+use crate::ticket::Ticket;
 use gx_answers::{AccessGate, LoginAnswer, Outcome, Pulled, StepFault};
 use gx_door::{Caller, PullFault};
 use gx_history::record::{Record, Request};
@@ -30,7 +31,6 @@ use gx_policy::Policy;
 use gx_units::{Moment, OutOfMemory, Password, SessionName, UserName};
 use std::alloc::Global;
 use std::marker::Model;
-use std::sync::ledger;
 use std::sync::ledger::{Share, Total};
 
 /// The gate, and the keeper of its history, by which each record is counted. Contracts see the gate's records. It is
@@ -58,50 +58,48 @@ impl<G: AccessGate, N: GateName> Desk<G, N> {
         alloc: Global,
         policy: &Policy,
         blank: Blank,
-        ledger: ledger::Blank,
+        ledgers: BlankLedgers,
     ) -> Result<(Desk<G, N>, Permits<N>), OutOfMemory>
         requires policy { policy.now ≡ N.policy }
         requires blank { blank ≡ N.table }
-        requires name { ledger.name ≡ N.name }
-        requires parts { ledger.parts ≡ N.parts }
-        requires all { ledger.parts ≡ all_parts }
+        requires records { ledgers.records ≡ N.name }
+        requires lines { ledgers.lines ≡ N.lines }
+        requires parts { N.parts ≡ all_parts }
         ensures desk { IfOk result (λ made. made.0 ≡ []) }
         ensures all { IfOk result (λ made. made.1.left + 1 ≡ N.parts) }
         ensures none_added { IfOk result (λ made. made.1.added ≡ 0) }
     {
         let gate = G::open(alloc, policy)?;
-        let (keeper, permits) = CountingKeeper::over(Keeper::open(blank), 0, ledger);
+        let (keeper, permits) = CountingKeeper::over(Keeper::open(blank), 0, ledgers);
         Ok((Desk { gate, keeper }, permits))
     }
 
-    /// A desk over a gate that has records, all permits for passes, in which these are counted, and a pass of a new line,
-    /// which has met them. No line of theirs is issued any more.
+    /// A desk over a gate that has records, and all permits for passes, in which these and their lines are counted: no line
+    /// up to the highest of theirs is issued any more.
     pub fn over(
         gate: G,
         blank: Blank,
-        ledger: ledger::Blank,
-    ) -> Result<(Desk<G, N>, Permits<N>, Pass<N>), PassFault>
+        ledgers: BlankLedgers,
+    ) -> Result<(Desk<G, N>, Permits<N>), OutOfMemory>
         requires policy { (G.seen gate).policy ≡ N.policy }
         requires blank { blank ≡ N.table }
-        requires name { ledger.name ≡ N.name }
-        requires parts { ledger.parts ≡ N.parts }
-        requires all { ledger.parts ≡ all_parts }
+        requires records { ledgers.records ≡ N.name }
+        requires lines { ledgers.lines ≡ N.lines }
+        requires parts { N.parts ≡ all_parts }
         ensures desk { IfOk result (λ made. made.0 ≡ (G.seen gate).records) }
         ensures all { IfOk result (λ made. made.1.left + 1 ≡ N.parts) }
         ensures added { IfOk result (λ made. made.1.added ≡ length (G.seen gate).records) }
-        ensures front { IfOk result (λ made. made.2.front ≡ (G.seen gate).records) }
-        ensures own { IfOk result (λ made. mine made.2 ≡ []) }
-        ensures no_lines { IfErr result (λ e.
-            e ≡ pass_faults.NoLines → highest_line (G.seen gate).records ≡ 65535) }
+        ensures issued { IfOk result (λ made.
+            made.1.issued ≡ highest_line (G.seen gate).records) }
     {
         match resume(&gate, blank) {
-            Ok((keeper, pass)) => {
-                let (keeper, permits) = CountingKeeper::over(keeper, gate.length(), ledger);
-                Ok((Desk { gate, keeper }, permits, pass))
+            Ok(keeper) => {
+                let (keeper, permits) = CountingKeeper::over(keeper, gate.length(), ledgers);
+                Ok((Desk { gate, keeper }, permits))
             }
-            Err(fault) => {
+            Err(refused) => {
                 gate.close();
-                Err(fault)
+                Err(refused)
             }
         }
     }
@@ -113,15 +111,23 @@ impl<G: AccessGate, N: GateName> Desk<G, N> {
         Caller::of(self.gate.policy(), user, password)
     }
 
-    /// A pass of a new line, which has met all records.
-    pub fn issue(&mut self) -> Result<Pass<N>, PassFault>
+    /// A pass of the next line, for one of these permits. It has met all records.
+    pub fn issue(&mut self, permits: &mut Permits<N>) -> Result<Ticket<N>, PassFault>
         ensures same { self.new ≡ self.old }
-        ensures front { IfOk result (λ p. p.front ≡ self.old) }
-        ensures legal { IfOk result (λ p. IsLegal N.policy p.front) }
-        ensures own { IfOk result (λ p. mine p ≡ []) }
+        ensures front { IfOk result (λ p. p.held.front ≡ self.old) }
+        ensures legal { IfOk result (λ p. IsLegal N.policy p.held.front) }
+        ensures own { IfOk result (λ p. mine p.held ≡ []) }
+        ensures none_added { IfOk result (λ p. p.added ≡ 0) }
+        ensures line { IfOk result (λ p. p.held.line ≡ permits.new.issued) }
+        ensures next { OnOk result (permits.new.issued ≡ permits.old.issued + 1) }
+        ensures one_less { OnOk result (permits.new.left + 1 ≡ permits.old.left) }
+        ensures added { permits.new.added ≡ permits.old.added }
+        ensures none_less { OnErr result (permits.new ≡ permits.old) }
+        ensures no_lines { IfErr result (λ e.
+            e ≡ pass_faults.NoLines → permits.old.issued ≡ 65535) }
     {
         self.gate.is_legal();
-        self.keeper.issue()
+        self.keeper.issue(permits)
     }
 
     /// A login on the pass's line, and what it is told. Its record is counted in the share.

@@ -31,6 +31,8 @@ impl<'x, G: AccessGate, N: GateName> Entrance<'x, G, N> {
 impl<G: AccessGate, N: GateName> Issuer<SharedGate<G, N>> for Entrance<'_, G, N> {
     ghost left = { λ e. e.permits.left };
 
+    ghost last = { λ e. e.permits.issued };
+
     fn issue<R: Wait>(&mut self, rt: &R) -> Result<Ticket<N>, PassFault> {
         self.gate.issue(rt, &mut self.permits)
     }
@@ -40,6 +42,8 @@ impl<G: AccessGate, N: GateName, W: Write, J: JournalName> Issuer<
     Journaled<'_, SharedGate<G, N>, W, J>,
 > for Entrance<'_, G, N> {
     ghost left = { λ e. e.permits.left };
+
+    ghost last = { λ e. e.permits.issued };
 
     fn issue<R: Wait>(&mut self, rt: &R) -> Result<Ticket<N>, PassFault> {
         self.gate.issue(rt, &mut self.permits)

@@ -8,7 +8,7 @@ ghost use Rattle.gx_journal.specs.Journals.{journal_bytes, IsGrown};
 ghost use Rattle.gx_shared.specs.GoingOn.{GoesOn};
 
 use crate::entrance::Entrance;
-use crate::permit::{Permits, blank_ledger};
+use crate::permit::{BlankLedgers, Permits};
 use crate::rest::put_rest;
 use crate::shared::SharedGate;
 use crate::ticket::Ticket;
@@ -22,8 +22,8 @@ use std::alloc::Global;
 use std::io::Write;
 use std::marker::Brand;
 use std::net::TcpListener;
+use std::sync::Wait;
 use std::sync::ledger::Total;
-use std::sync::{Wait, ledger};
 use std::thread::Threads;
 use std::time::Clock;
 
@@ -121,7 +121,7 @@ fn serve_named<
     alloc: Global,
     gate: G,
     blank: Blank,
-    ledger: ledger::Blank,
+    ledgers: BlankLedgers,
     count: u64,
     device: W,
     lobby: &Lobby,
@@ -130,9 +130,9 @@ fn serve_named<
 ) -> Result<(Kept<G, W>, Ending), PassFault>
     requires policy { (G.seen gate).policy ≡ N.policy }
     requires blank { blank ≡ N.table }
-    requires name { ledger.name ≡ N.name }
-    requires parts { ledger.parts ≡ N.parts }
-    requires all { ledger.parts ≡ all_parts }
+    requires records { ledgers.records ≡ N.name }
+    requires lines { ledgers.lines ≡ N.lines }
+    requires parts { N.parts ≡ all_parts }
     requires begun { W.contents device ≡ J.begun }
     requires count { count ≡ J.count }
     requires earlier { (G.seen gate).records ≡ J.earlier }
@@ -144,7 +144,7 @@ fn serve_named<
         (W.contents left.0.device)
         (journal_bytes (drop J.count (G.seen left.0.gate).records))) }
 {
-    match SharedGate::<G, N>::over(gate, blank, ledger) {
+    match SharedGate::<G, N>::over(gate, blank, ledgers) {
         Ok((shared, permits, pass)) => {
             let (kept, _met, _total, ended) = serve_kept::<G, N, J, W, R>(
                 rt,
@@ -209,7 +209,7 @@ pub fn serve_journaled<
         alloc,
         gate,
         blank,
-        blank_ledger(),
+        BlankLedgers::new(),
         count,
         device,
         lobby,

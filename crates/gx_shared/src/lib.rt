@@ -12,9 +12,9 @@
 //! - `shared`: the gate that threads share, a [`Door`](gx_door::Door), behind its lock;
 //! - `desk`: what lies under the lock, a gate and the keeper of its history, whose records are the same;
 //! - `entrance`: where passes are issued, an [`Issuer`](gx_door::Issuer);
-//! - `permit`: what passes are issued for, each with a part of a ledger;
+//! - `permit`: what passes are issued for, each with a part of a ledger, and how many lines were issued;
 //! - `ticket`: a pass, and how many records were added with it;
-//! - `counting`: the keeper, and the book of a ledger in which each record is counted;
+//! - `counting`: the keeper, and the books in which each record and each line is counted;
 //! - `steps`: each step is one call of the gate, and the keeper notes its record before the lock is let go;
 //! - `resuming`: the keeper of a history that was there before it, which it reads a portion at a time;
 //! - `serving`: a server whose day begins with it, and the gate that was served;
@@ -37,7 +37,7 @@ mod ticket;
 
 pub use entrance::Entrance;
 pub use keeping::{Kept, close_kept, serve_journaled};
-pub use permit::{Permits, blank_ledger};
+pub use permit::{BlankLedgers, Permits};
 pub use serving::{Served, serve};
 pub use shared::SharedGate;
 pub use ticket::Ticket;

@@ -1,13 +1,12 @@
 //! The keeper of a history that was there before it.
 
-ghost use Rattle.std.specs.Prelude.{◌≡◌, ◌+◌, ◌<◌, ◌^◌, ◌++◌, ◌∷◌, [], length, max, IfErr, IfOk, OnErr, OnOk};
-ghost use Rattle.gx_pass.specs.declared.pass.PassFault.TheVariants as faults;
-ghost use Rattle.gx_pass.specs.Views.{line_in, mine};
+ghost use Rattle.std.specs.Prelude.{◌≡◌, ◌+◌, ◌<◌, ◌^◌, ◌++◌, ◌∷◌, [], length, max, IfOk, OnOk};
+ghost use Rattle.gx_pass.specs.Views.{line_in};
 ghost use Rattle.gx_shared.specs.Lines.{highest_line, lines_to, IsResuming};
 
 use gx_answers::AccessGate;
 use gx_history::record::{Record, RecordData, Step};
-use gx_pass::{Blank, GateName, Keeper, Pass, PassFault};
+use gx_pass::{Blank, GateName, Keeper, PassFault};
 use gx_units::OutOfMemory;
 
 /// So many records are asked for at once.
@@ -98,24 +97,14 @@ fn note_all<G: AccessGate, N: GateName>(keeper: &mut Keeper<N>, gate: &G) -> Res
     Ok(())
 }
 
-/// The keeper of the gate's records, and a pass of a new line, which has met them. The lines of the records stay in the
-/// keeper's hand for good.
+/// The keeper of the gate's records. Their lines stay in the keeper's hand for good.
 #[tactic(auto, using(crate::proofs::Noted::begins))]
-pub fn resume<G: AccessGate, N: GateName>(
-    gate: &G,
-    blank: Blank,
-) -> Result<(Keeper<N>, Pass<N>), PassFault>
+pub fn resume<G: AccessGate, N: GateName>(gate: &G, blank: Blank) -> Result<Keeper<N>, OutOfMemory>
     requires { blank ≡ N.table }
-    ensures keeper { IfOk result (λ made. made.0.list ≡ (G.seen gate.now).records) }
-    ensures front { IfOk result (λ made. made.1.front ≡ (G.seen gate.now).records) }
-    ensures own { IfOk result (λ made. mine made.1 ≡ []) }
-    ensures no_lines { IfErr result (λ e.
-        e ≡ faults.NoLines → highest_line (G.seen gate.now).records ≡ 65535) }
+    ensures keeper { IfOk result (λ k. k.list ≡ (G.seen gate.now).records) }
+    ensures issued { IfOk result (λ k. k.issued ≡ highest_line (G.seen gate.now).records) }
 {
     let mut keeper = Keeper::open(blank);
-    let Ok(()) = note_all(&mut keeper, gate) else {
-        return Err(PassFault::OutOfMemory);
-    };
-    let pass = keeper.issue()?;
-    Ok((keeper, pass))
+    note_all(&mut keeper, gate)?;
+    Ok(keeper)
 }

@@ -5,7 +5,7 @@ ghost use Rattle.gx_history.specs.Verdicts.{IsLegal};
 ghost use Rattle.gx_shared.specs.Permits.{all_parts};
 
 use crate::entrance::Entrance;
-use crate::permit::blank_ledger;
+use crate::permit::BlankLedgers;
 use crate::shared::SharedGate;
 use crate::ticket::Ticket;
 use gx_answers::AccessGate;
@@ -16,8 +16,8 @@ use gx_policy::Policy;
 use std::alloc::Global;
 use std::marker::Brand;
 use std::net::TcpListener;
+use std::sync::Wait;
 use std::sync::ledger::Total;
-use std::sync::{Wait, ledger};
 use std::thread::Threads;
 use std::time::Clock;
 
@@ -39,23 +39,23 @@ fn serve_shared<
     alloc: Global,
     policy: &Policy,
     blank: Blank,
-    ledger: ledger::Blank,
+    ledgers: BlankLedgers,
     lobby: &Lobby,
     listener: TcpListener,
     connections: u64,
 ) -> Result<(Served<G>, Ticket<N>, Total<N>), ServeFault>
     requires policy { policy.now ≡ N.policy }
     requires blank { blank ≡ N.table }
-    requires name { ledger.name ≡ N.name }
-    requires parts { ledger.parts ≡ N.parts }
-    requires all { ledger.parts ≡ all_parts }
+    requires records { ledgers.records ≡ N.name }
+    requires lines { ledgers.lines ≡ N.lines }
+    requires parts { N.parts ≡ all_parts }
     ensures policy { IfOk result (λ left. (G.seen left.0.gate).policy ≡ N.policy) }
     ensures legal { IfOk result (λ left. IsLegal N.policy (G.seen left.0.gate).records) }
     ensures met { IfOk result (λ left. left.1.held.front ≡ (G.seen left.0.gate).records) }
     ensures total { IfOk result
         (λ left. left.2.amount ≡ length (G.seen left.0.gate).records) }
 {
-    let (door, permits) = SharedGate::<G, N>::new(alloc, policy, blank, ledger)?;
+    let (door, permits) = SharedGate::<G, N>::new(alloc, policy, blank, ledgers)?;
     let entrance = Entrance::new(&door, permits);
     let served = serve_door(rt, alloc, &door, entrance, lobby, listener, connections);
     match served {
@@ -80,16 +80,16 @@ fn serve_named<
     alloc: Global,
     policy: &Policy,
     blank: Blank,
-    ledger: ledger::Blank,
+    ledgers: BlankLedgers,
     lobby: &Lobby,
     listener: TcpListener,
     connections: u64,
 ) -> Result<Served<G>, ServeFault>
     requires policy { policy.now ≡ N.policy }
     requires blank { blank ≡ N.table }
-    requires name { ledger.name ≡ N.name }
-    requires parts { ledger.parts ≡ N.parts }
-    requires all { ledger.parts ≡ all_parts }
+    requires records { ledgers.records ≡ N.name }
+    requires lines { ledgers.lines ≡ N.lines }
+    requires parts { N.parts ≡ all_parts }
     ensures policy { IfOk result (λ served. (G.seen served.gate).policy ≡ N.policy) }
     ensures legal { IfOk result (λ served. IsLegal N.policy (G.seen served.gate).records) }
 {
@@ -98,7 +98,7 @@ fn serve_named<
         alloc,
         policy,
         blank,
-        ledger,
+        ledgers,
         lobby,
         listener,
         connections,
@@ -122,13 +122,13 @@ pub fn serve<G: AccessGate + Send, R: Threads + Wait + Clock + Eprint + Sync>(
     ensures legal { IfOk result (λ served. IsLegal policy.now (G.seen served.gate).records) }
 {
     let blank = Blank::new(alloc)?;
-    let ledger = blank_ledger();
+    let ledgers = BlankLedgers::new();
     serve_named::<G, Brand, R>(
         rt,
         alloc,
         policy,
         blank,
-        ledger,
+        ledgers,
         lobby,
         listener,
         connections,

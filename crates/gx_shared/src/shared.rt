@@ -20,7 +20,7 @@ ghost use Rattle.gx_door.specs.Acts.{AddsOwn, EndsWith, IsLater, IsPulled, IsTol
 ghost use Rattle.gx_shared.specs.Lines.{highest_line};
 
 use crate::desk::Desk;
-use crate::permit::Permits;
+use crate::permit::{BlankLedgers, Permits};
 use crate::ticket::Ticket;
 use gx_answers::{AccessGate, LoginAnswer, Outcome, Pulled, StepFault};
 use gx_door::{Caller, Dial, Door, PullFault};
@@ -30,7 +30,7 @@ use gx_policy::Policy;
 use gx_units::{Moment, OutOfMemory, Password, SessionName, UserName};
 use std::alloc::Global;
 use std::sync::ledger::Total;
-use std::sync::{Mutex, Wait, ledger};
+use std::sync::{Mutex, Wait};
 
 /// The gate under one lock. Each call takes the lock once, but for `length`, which takes none.
 ///
@@ -46,17 +46,17 @@ impl<G: AccessGate, N: GateName> SharedGate<G, N> {
         alloc: Global,
         policy: &Policy,
         blank: Blank,
-        ledger: ledger::Blank,
+        ledgers: BlankLedgers,
     ) -> Result<(SharedGate<G, N>, Permits<N>), OutOfMemory>
         requires policy { policy.now ≡ N.policy }
         requires blank { blank ≡ N.table }
-        requires name { ledger.name ≡ N.name }
-        requires parts { ledger.parts ≡ N.parts }
-        requires all { ledger.parts ≡ all_parts }
+        requires records { ledgers.records ≡ N.name }
+        requires lines { ledgers.lines ≡ N.lines }
+        requires parts { N.parts ≡ all_parts }
         ensures all { IfOk result (λ made. made.1.left + 1 ≡ N.parts) }
         ensures none_added { IfOk result (λ made. made.1.added ≡ 0) }
     {
-        let (desk, permits) = Desk::new(alloc, policy, blank, ledger)?;
+        let (desk, permits) = Desk::new(alloc, policy, blank, ledgers)?;
         let shared = SharedGate {
             desk: Mutex::new(desk),
         };
@@ -73,13 +73,13 @@ impl<G: AccessGate, N: GateName> SharedGate<G, N> {
     pub fn over(
         gate: G,
         blank: Blank,
-        ledger: ledger::Blank,
+        ledgers: BlankLedgers,
     ) -> Result<(SharedGate<G, N>, Permits<N>, Ticket<N>), PassFault>
         requires policy { (G.seen gate).policy ≡ N.policy }
         requires blank { blank ≡ N.table }
-        requires name { ledger.name ≡ N.name }
-        requires parts { ledger.parts ≡ N.parts }
-        requires all { ledger.parts ≡ all_parts }
+        requires records { ledgers.records ≡ N.name }
+        requires lines { ledgers.lines ≡ N.lines }
+        requires parts { N.parts ≡ all_parts }
         ensures all { IfOk result (λ made. made.1.left + 2 ≡ N.parts) }
         ensures added { IfOk result (λ made. made.1.added ≡ length (G.seen gate).records) }
         ensures front { IfOk result (λ made. made.2.held.front ≡ (G.seen gate).records) }
@@ -88,19 +88,24 @@ impl<G: AccessGate, N: GateName> SharedGate<G, N> {
         ensures no_lines { IfErr result (λ e.
             e ≡ pass_faults.NoLines → highest_line (G.seen gate).records ≡ 65535) }
     {
-        match Desk::over(gate, blank, ledger) {
-            Ok((desk, mut permits, pass)) => {
-                let pass = Ticket::new(pass, permits.take());
+        let Ok((mut desk, mut permits)) = Desk::over(gate, blank, ledgers) else {
+            return Err(PassFault::OutOfMemory);
+        };
+        match desk.issue(&mut permits) {
+            Ok(pass) => {
                 let shared = SharedGate {
                     desk: Mutex::new(desk),
                 };
                 Ok((shared, permits, pass))
             }
-            Err(fault) => Err(fault),
+            Err(fault) => {
+                desk.let_go();
+                Err(fault)
+            }
         }
     }
 
-    /// A pass of a new line, for one of these permits. It has met all records, of which none is of its line.
+    /// A pass of the next line, for one of these permits. It has met all records, of which none is of its line.
     pub(crate) fn issue<R: Wait>(
         &self,
         rt: &R,
@@ -109,15 +114,15 @@ impl<G: AccessGate, N: GateName> SharedGate<G, N> {
         ensures legal { IfOk result (λ p. IsLegal N.policy p.held.front) }
         ensures own { IfOk result (λ p. mine p.held ≡ []) }
         ensures adds_none { IfOk result (λ p. p.added ≡ 0) }
+        ensures line { IfOk result (λ p. p.held.line ≡ permits.new.issued) }
+        ensures next { OnOk result (permits.new.issued ≡ permits.old.issued + 1) }
+        ensures no_lines { IfErr result (λ e.
+            e ≡ pass_faults.NoLines → permits.old.issued ≡ 65535) }
         ensures one_less { OnOk result (permits.new.left + 1 ≡ permits.old.left) }
         ensures none_less { OnErr result (permits.new ≡ permits.old) }
         ensures counted { permits.new.added ≡ permits.old.added }
     {
-        if permits.is_empty() {
-            return Err(PassFault::NoLines);
-        }
-        let pass = self.desk.lock(rt).issue()?;
-        Ok(Ticket::new(pass, permits.take()))
+        self.desk.lock(rt).issue(permits)
     }
 
     /// The gate, the pass, which has met all its records, and how many these are. It has all that the pass had met, and of
