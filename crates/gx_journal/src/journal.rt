@@ -20,7 +20,7 @@ use std::marker::{Model, PhantomData};
 use std::sync::Wait;
 
 /// How many records are written at a time.
-const PIECE: u64 = 256;
+const PIECE: u64 = 4_096;
 
 /// Writes the records of a day behind those that were on its device at first, each once and in order. Contracts see
 /// what its pass has met, what the device holds, how many records are on it, and why no more are put there.

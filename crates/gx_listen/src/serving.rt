@@ -11,7 +11,7 @@ use crate::visiting::{Hall, serve_stream, tell_gone};
 use gx_door::{Door, Issuer};
 use gx_lobby::{Lobby, Mishap, Peer, Place};
 use gx_reception::{Admits, Reception};
-use gx_serve::match_on;
+use gx_serve::{keep_on, match_on};
 use std::alloc::Global;
 use std::net::TcpListener;
 use std::sync::{Arc, Wait};
@@ -159,8 +159,40 @@ fn take_connections<
     take_guests(&hall, listener, connections)
 }
 
+/// Takes connections at the door, beside who looks after newcomers and who keeps what is done: how this ended;
+/// `OutOfMemory` where no thread could be made for one of these.
+fn take_watched<
+    'x,
+    T: Drop + Send,
+    D: Door<Ticket = T> + Sync,
+    A: Admits<D> + Sync,
+    R: Threads + Wait + Clock + Eprint + Sync,
+>(
+    rt: &'x R,
+    alloc: Global,
+    door: &'x D,
+    reception: &A,
+    lobby: &'x Lobby,
+    listener: TcpListener,
+    connections: u64,
+) -> Result<Ending, Unserved> {
+    thread::scope(thread::scope_env(), rt, |scope| {
+        let Ok(_watching) = (&*scope).spawn(move || watch_newcomers(rt, lobby)) else {
+            return Err(Unserved::of_fault(ServeFault::OutOfMemory));
+        };
+        let Ok(_keeping) = (&*scope).spawn(move || keep_on(rt, door, lobby)) else {
+            lobby.newcomers.close();
+            return Err(Unserved::of_fault(ServeFault::OutOfMemory));
+        };
+        let taken = take_connections(rt, alloc, door, reception, lobby, listener, connections);
+        lobby.newcomers.close();
+        lobby.keeping.close(rt);
+        Ok(taken)
+    })
+}
+
 /// Runs the matcher beside the connections. Gives the matcher's pass, and how the server ended; `OutOfMemory` where no
-/// thread could be made for the matcher.
+/// thread could be made for the matcher, or for one of those beside it.
 fn run<
     'x,
     T: Drop + Send,
@@ -178,23 +210,17 @@ fn run<
     connections: u64,
 ) -> Result<(T, Ending), Unserved> {
     thread::scope(thread::scope_env(), rt, |scope| {
-        let Ok(matcher) = (&*scope).spawn(move || match_on(
-            &Dated::new(rt),
-            door,
-            &lobby.bell,
-            pass,
-        )) else {
+        let Ok(matcher) = (&*scope).spawn(move || match_on(&Dated::new(rt), door, lobby, pass))
+        else {
             return Err(Unserved::of_fault(ServeFault::OutOfMemory));
         };
-        let Ok(_watching) = (&*scope).spawn(move || watch_newcomers(rt, lobby)) else {
-            lobby.bell.close(rt);
-            matcher.join(rt);
-            return Err(Unserved::of_fault(ServeFault::OutOfMemory));
-        };
-        let taken = take_connections(rt, alloc, door, reception, lobby, listener, connections);
-        lobby.newcomers.close();
+        let taken = take_watched(rt, alloc, door, reception, lobby, listener, connections);
         lobby.bell.close(rt);
-        Ok((matcher.join(rt), taken))
+        let pass = matcher.join(rt);
+        match taken {
+            Ok(ending) => Ok((pass, ending)),
+            Err(unserved) => Err(unserved),
+        }
     })
 }
 
@@ -237,6 +263,7 @@ pub fn serve_door<
         return Ok((pass, Ending::of_halt(halt)));
     }
     lobby.bell.open(rt);
+    lobby.keeping.open(rt);
     run(
         rt,
         alloc,

@@ -7,13 +7,14 @@ ghost use Rattle.gx_door.specs.declared.caller.Caller.TheVariants as callers;
 use crate::dated::Dated;
 use gx_devices::Counted;
 use gx_door::{Caller, Door};
-use gx_lobby::{Lobby, Mishap, Peer, words_of};
+use gx_lobby::{Chime, Lobby, Mishap, Peer, words_of};
 use gx_pass::PassFault;
 use gx_reception::{Admits, LineFault, NoLine, Opening};
 use gx_serve::{
     Cut, Exclusion, Gone, HangUp, Link, Received, converse, let_go_of, receive, turn_away,
 };
 use gx_soup::LoginRequest;
+use gx_units::OutOfMemory;
 use std::alloc::Global;
 use std::io;
 use std::io::Read;
@@ -24,6 +25,9 @@ use std::time::{Clock, Duration, Instant};
 
 /// A write of which a peer takes nothing for so many milliseconds fails.
 const WRITE_PATIENCE: u64 = 5_000;
+
+/// So many milliseconds a writer rests at most.
+const LONGEST: u64 = 1_000;
 
 /// A wrong password that is one too many is answered so many milliseconds later.
 const DELAY: u64 = 1_000;
@@ -103,6 +107,7 @@ fn serve_user<D: Door + Sync, A, R: Threads + Wait + Clock + Sync>(
     caller: Caller,
     opening: Opening,
     stream: &TcpStream,
+    chime: &Chime,
 ) -> Gone
 where
     D::Ticket: Send,
@@ -114,6 +119,7 @@ where
         hall.alloc,
         hall.door,
         &hall.lobby.bell,
+        chime,
         &hall.lobby.stop,
         &link,
         opening,
@@ -125,6 +131,32 @@ where
         Some(cut) => Gone::Cut(cut),
         None => Gone::Quietly,
     }
+}
+
+/// The chime of the connection of this number, which is rung from now on for what others do.
+fn hang_chime<D, A, R: Wait>(hall: &Hall<'_, D, A, R>, number: u64) -> Result<Chime, OutOfMemory> {
+    let chime = Chime::new(hall.alloc, LONGEST)?;
+    hall.lobby.chimes.hang(hall.rt, number, chime.try_clone()?)?;
+    Ok(chime)
+}
+
+/// Serves a user who has a line to his end, once his writer can be woken. Answers why it ended.
+fn serve_admitted<D: Door + Sync, A, R: Threads + Wait + Clock + Sync>(
+    hall: &Hall<'_, D, A, R>,
+    peer: &Peer,
+    pass: D::Ticket,
+    caller: Caller,
+    opening: Opening,
+) -> Gone
+where
+    D::Ticket: Send,
+{
+    let Ok(chime) = hang_chime(hall, peer.number) else {
+        return Gone::Quietly;
+    };
+    let gone = serve_user(hall, pass, caller, opening, &peer.stream, &chime);
+    hall.lobby.chimes.take_down(hall.rt, peer.number);
+    gone
 }
 
 /// Lets go of what comes, once nothing more is written, until the peer has ended or was hung up on.
@@ -150,7 +182,7 @@ where
     match receive(hall.rt, hall.alloc, hall.door, hall.reception, &mut reader) {
         Received::Admitted(pass, caller, opening) => {
             hall.lobby.newcomers.leave(hall.rt, peer.number);
-            serve_user(hall, pass, caller, opening, stream)
+            serve_admitted(hall, peer, pass, caller, opening)
         }
         Received::Stranger(login) => {
             let gone = turn_stranger_away(hall, peer, &login);

@@ -2,6 +2,7 @@
 
 use crate::attempts::Attempts;
 use crate::bell::Bell;
+use crate::chime::Chimes;
 use crate::newcomers::Newcomers;
 use crate::places::Places;
 use crate::stop::Stop;
@@ -13,6 +14,10 @@ use std::alloc::Global;
 pub struct Lobby {
     /// Wakes the matcher.
     pub bell: Bell,
+    /// Wakes who keeps what is done.
+    pub keeping: Bell,
+    /// Wake the writers of those who are logged in.
+    pub chimes: Chimes,
     /// One is taken for each connection that is served.
     pub places: Places,
     /// Who is connected and has not logged in.
@@ -31,6 +36,8 @@ impl Lobby {
     pub fn new(alloc: Global, at_once: u16, login_within: u64) -> Lobby {
         Lobby {
             bell: Bell::new(),
+            keeping: Bell::new(),
+            chimes: Chimes::new(alloc),
             places: Places::new(at_once),
             newcomers: Newcomers::new(alloc, login_within),
             attempts: Attempts::new(alloc),

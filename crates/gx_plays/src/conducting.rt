@@ -8,6 +8,7 @@ use crate::house::{House, Script, Stage};
 use crate::wire::Wire;
 use gx_devices::Counted;
 use gx_door::{Caller, Dial, Door, Issuer};
+use gx_lobby::Chime;
 use gx_reception::{Admits, Opening, Reception};
 use gx_serve::{
     Cut, Gone, HangUp, Link, Received, converse, let_go_of, match_on, receive, turn_away,
@@ -17,6 +18,9 @@ use std::sync::Wait;
 use std::thread;
 use std::thread::Threads;
 use std::time::Clock;
+
+/// So many milliseconds a writer rests at most: the clock of a play stands still.
+const PATIENCE: u64 = 1;
 
 /// Serves a user who has a line to his end. Answers why he was cut off, if he was.
 fn attend_user<
@@ -35,14 +39,16 @@ fn attend_user<
 where
     D::Ticket: Send,
 {
+    let chime = Chime::new(house.alloc, PATIENCE).ok()?;
     let link = Link::new(rt, pass, caller);
     let door = &Holds::new(house.rt, house.door, wire);
     let (_hung_up, listening) = converse(
         rt,
         house.alloc,
         door,
-        &house.bell,
-        &house.stop,
+        &house.lobby.bell,
+        &chime,
+        &house.lobby.stop,
         &link,
         opening,
         Counted::new(WireReader::new(house.rt, wire)),
@@ -74,7 +80,7 @@ where
                 rt,
                 house.alloc,
                 door,
-                &house.stop,
+                &house.lobby.stop,
                 reception,
                 &login,
                 writer,
@@ -130,7 +136,7 @@ fn make_matches<
     R: Threads + Wait + Clock + Sync,
 >(house: &'x House<'x, D, A, R>, pass: T) -> T {
     let rt = &Timed::new(house.rt, &house.clock, &house.looks);
-    match_on(rt, house.door, &house.bell, pass)
+    match_on(rt, house.door, &house.lobby, pass)
 }
 
 /// Performs the cues beside a matcher, which has this pass. Answers what was waited for in vain; `None` where no thread
@@ -148,7 +154,7 @@ fn play_with<
             return None;
         };
         let vain = conduct(stage, director);
-        house.bell.close(house.rt);
+        house.lobby.bell.close(house.rt);
         let _pass = matcher.join(house.rt);
         Some(vain)
     })

@@ -2,11 +2,16 @@
 
 use crate::clock::{Looks, PlayClock};
 use crate::peer::Peer;
-use gx_lobby::{Bell, Stop};
+use gx_lobby::Lobby;
 use std::alloc::Global;
 
-/// What the threads of a play share: the door, who is given a line, the clock, the matcher's bell, and whether the server
-/// is to end.
+/// More places than a play has peers.
+const PLACES: u16 = 100;
+
+/// So many seconds a peer has for his login; nobody hangs up on those of a play.
+const LOGIN_WITHIN: u64 = 10;
+
+/// What the threads of a play share: the door, who is given a line, the clock, and the lobby.
 #[derive(Drop)]
 pub(crate) struct House<'x, D, A, R> {
     pub(crate) rt: &'x R,
@@ -16,8 +21,7 @@ pub(crate) struct House<'x, D, A, R> {
     pub(crate) clock: PlayClock,
     /// How often the matcher has looked at the clock.
     pub(crate) looks: Looks,
-    pub(crate) bell: Bell,
-    pub(crate) stop: Stop,
+    pub(crate) lobby: Lobby,
 }
 
 impl<'x, D, A, R> House<'x, D, A, R> {
@@ -35,8 +39,7 @@ impl<'x, D, A, R> House<'x, D, A, R> {
             reception,
             clock: PlayClock::new(),
             looks: Looks::new(),
-            bell: Bell::new(),
-            stop: Stop::new(),
+            lobby: Lobby::new(alloc, PLACES, LOGIN_WITHIN),
         }
     }
 }

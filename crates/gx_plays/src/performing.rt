@@ -195,7 +195,7 @@ impl<'x, D: Door, A, R: Wait + Clock> Stage<'x, D, A, R> {
 
     /// The server is asked to end.
     fn ask_to_stop(&self) -> bool {
-        self.house.stop.ask();
+        self.house.lobby.stop.ask();
         true
     }
 
@@ -234,7 +234,7 @@ impl<'x, D: Door, A, R: Wait + Clock> Stage<'x, D, A, R> {
 
     /// Lets all threads end, whatever they wait for.
     pub(crate) fn give_up(&self) {
-        self.house.stop.ask();
+        self.house.lobby.stop.ask();
         self.house.clock.let_go();
         for peer in &self.script.peers {
             peer.wire.end(self.house.rt);

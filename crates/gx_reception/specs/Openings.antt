@@ -7,7 +7,7 @@ use Rattle.gx_soup.specs.declared.packet.SoupFault.{SoupFault}
 use Rattle.gx_soup.specs.Feeding.{Held, HasRead}
 use Rattle.gx_soup.specs.Packets.{packets_of}
 
--- a packet that leaves a session as it is before a login
+-- a packet that leaves each session as it is
 abbrev pub is_idle : ClientPacket → Bool
 is_idle (client.Login login) = false
 is_idle (client.Data payload) = false

@@ -15,8 +15,8 @@ use std::alloc::Global;
 use std::io::Read;
 use std::sync::Wait;
 
-/// Whether a packet leaves a session as it is before a login.
-fn is_idle(packet: &ClientPacket) -> bool
+/// Whether a packet leaves each session as it is: a heartbeat, or a Debug packet.
+pub fn is_idle(packet: &ClientPacket) -> bool
     ensures { result ≡ is_idle packet.now }
 {
     match packet {

@@ -17,7 +17,7 @@ mod reception;
 mod reserve;
 mod strangers;
 
-pub use arriving::{await_login, read_piece};
+pub use arriving::{await_login, is_idle, read_piece};
 pub use laws::idle_packets_change_nothing;
 pub use lines::{LineFault, Lines, NoLine};
 pub use opening::{Knock, Opening};

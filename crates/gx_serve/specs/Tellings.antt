@@ -1,5 +1,5 @@
 -- What a session was told, as those see it who do not see the session.
-use Rattle.std.specs.Prelude.{Bool, length}
+use Rattle.std.specs.Prelude.{Bool, false, length}
 use Rattle.gx_answers.specs.declared.outcome.StepFault.TheVariants as step_faults
 use Rattle.gx_session.specs.declared.fault.SendFault.TheVariants as send_faults
 use Rattle.gx_serve.specs.declared.writing.Unsent.{Unsent}
@@ -7,11 +7,17 @@ use Rattle.gx_serve.specs.declared.writing.Unsent.TheVariants as unsent
 use Rattle.gx_answers.specs.declared.pulled.Pulled.{Pulled}
 use Rattle.gx_session.specs.Happenings.{Happening}
 use Rattle.gx_session.specs.Happenings as happens
+use Rattle.gx_reception.specs.Openings.{is_idle}
 
 -- a session was told of this event, and was over then
 pub record ToldData : Type 0 where
   pub event : Happening
   pub over : Bool
+
+-- a packet that leaves every session as it is
+abbrev pub is_idle_event : Happening → Bool
+is_idle_event (happens.Packet packet) = is_idle packet
+is_idle_event other = false
 
 -- these reports were sent
 abbrev pub sent_of : Pulled → Happening

@@ -6,7 +6,7 @@ use crate::seat::{Break, BrokenOff};
 use crate::writing::write_on;
 use gx_devices::Counted;
 use gx_door::{Dial, Door};
-use gx_lobby::{Bell, Stop};
+use gx_lobby::{Bell, Bells, Chime, Stop};
 use gx_reception::Opening;
 use std::alloc::Global;
 use std::io::{Read, Write};
@@ -55,11 +55,13 @@ fn speak<'x, D: Door, O: Write + Drop, H: HangUp, R: Wait + Clock + Dial>(
     alloc: Global,
     door: &D,
     stop: &Stop,
+    chime: &Chime,
     link: &Link<D::Ticket>,
     writer: O,
     line: &'x H,
 ) -> HungUp<'x, H> {
-    let finished = write_on(rt, alloc, door, stop, link, &mut Counted::new(writer));
+    let mut writer = Counted::new(writer);
+    let finished = write_on(rt, alloc, door, stop, chime, link, &mut writer);
     if finished.is_some() {
         line.finish();
         link.linger(rt);
@@ -87,20 +89,22 @@ impl Listening {
 }
 
 /// Reads to the end.
-fn listen<D: Door, I: Read + Drop, R: Wait + Clock + Dial>(
+fn listen<'x, D: Door, I: Read + Drop, R: Wait + Clock + Dial>(
     rt: &R,
     door: &D,
-    bell: &Bell,
+    bell: &'x Bell,
+    chime: &'x Chime,
     link: &Link<D::Ticket>,
     opening: Opening,
     reader: Counted<I>,
 ) -> Heard {
     let mut reader = reader;
-    read_on(rt, door, bell, link, opening, &mut reader)
+    let bells = Bells::new(chime, bell);
+    read_on(rt, door, &bells, link, opening, &mut reader)
 }
 
 /// Runs the reader and the writer of a connection that begins with a login, each in a thread of its own, until both have
-/// ended and the line was hung up.
+/// ended and the line was hung up. The writer is woken by its chime.
 pub fn converse<
     'x,
     T: Drop + Send,
@@ -114,6 +118,7 @@ pub fn converse<
     alloc: Global,
     door: &'x D,
     bell: &'x Bell,
+    chime: &'x Chime,
     stop: &'x Stop,
     link: &'x Link<T>,
     opening: Opening,
@@ -122,12 +127,13 @@ pub fn converse<
     line: &'x H,
 ) -> (HungUp<'x, H>, Listening) {
     thread::scope(thread::scope_env(), rt, |scope| {
-        let Ok(listening) = (&*scope).spawn(move || listen(rt, door, bell, link, opening, reader))
-        else {
+        let Ok(listening) = (&*scope).spawn(move || listen(
+            rt, door, bell, chime, link, opening, reader,
+        )) else {
             let told = link.break_off(rt, door, Break::Fault);
             return (HungUp::new(line), Listening::Unheard(told));
         };
-        let hung_up = speak(rt, alloc, door, stop, link, writer, line);
+        let hung_up = speak(rt, alloc, door, stop, chime, link, writer, line);
         (hung_up, Listening::Heard(listening.join(rt)))
     })
 }

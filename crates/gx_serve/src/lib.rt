@@ -3,12 +3,14 @@
 //! A connection is read up to its login, and its user is given a line if he has the right password; else he is turned away.
 //! Each connection has a reader, which takes packets and asks the gate, and a writer, which alone
 //! writes. They share a [`Link`]: the session and the pass, under a lock that nobody holds while he
-//! reads or writes. A matcher makes matching steps. All of them are generic over the [`Door`](gx_door::Door)
+//! reads or writes. A reader makes the matching steps that its packets ask for, a few at a time, and a matcher makes what is
+//! left, and wakes the writers for what others did. All of them are generic over the [`Door`](gx_door::Door)
 //! that they ask, the reader and the writer.
 #![tactic(auto)]
 
 mod conduct;
 mod connection;
+mod keeping;
 mod link;
 mod matching;
 mod reading;
@@ -18,6 +20,7 @@ mod writing;
 
 pub use conduct::Exclusion;
 pub use connection::{HangUp, Listening, converse};
+pub use keeping::keep_on;
 pub use link::Link;
 pub use matching::match_on;
 pub use reading::{Cut, read_on};

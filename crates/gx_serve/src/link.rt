@@ -10,26 +10,31 @@ use crate::seat::outgoing::{Answered, Bookmark, Due, Fetched, Finished, Greeting
 use crate::seat::taking::Taken;
 use crate::seat::{Break, BrokenOff, Ended, Seat};
 use gx_door::{Caller, Dial, Door};
-use gx_lobby::Stop;
+use gx_lobby::{Chime, Stop};
 use gx_soup::ClientPacket;
 use std::sync::{Condvar, Mutex, Wait};
 use std::time::{Clock, Duration};
 
-/// After so many milliseconds the writer of a user who is on looks for reports that others' steps made,
-/// and at the time.
-const POLL: u64 = 1;
+/// So many matching steps a reader makes at most behind a few packets: eight for each of them.
+const STEPS: u64 = 64;
 
 /// After so many milliseconds the writer of a connection whose login was not answered looks at the time.
 const REST: u64 = 100;
 
-/// So many milliseconds, one by one, a session's end waits at most for the writer to look for reports.
+/// A writer rests at least so many nanoseconds, unless he is woken.
+const NAP: u64 = 1_000_000;
+
+/// So many milliseconds lie between two times that a session's end looks whether the writer has looked for reports.
+const PAUSE: u64 = 1;
+
+/// So many times it does at most.
 const FAREWELL: u64 = 5_000;
 
 /// So many milliseconds a connection whose session is over is read to its end, before it is cut.
 const LINGER: u64 = 1_000;
 
 /// Whether a client asks for the end of his session.
-fn is_farewell(packet: &ClientPacket) -> bool {
+pub(crate) fn is_farewell(packet: &ClientPacket) -> bool {
     match packet {
         ClientPacket::Logout => true,
         ClientPacket::Login(_)
@@ -43,6 +48,7 @@ fn is_farewell(packet: &ClientPacket) -> bool {
 #[derive(Drop)]
 pub struct Link<T: Drop> {
     seat: Mutex<Seat<T>>,
+    /// Wakes who waits for the reader's end.
     news: Condvar,
 }
 
@@ -65,7 +71,7 @@ impl<T: Drop> Link<T> {
             }
             seat = self
                 .news
-                .wait_timeout(rt, seat, Duration::from_millis(POLL))
+                .wait_timeout(rt, seat, Duration::from_millis(PAUSE))
                 .0;
         }
     }
@@ -82,9 +88,23 @@ impl<T: Drop> Link<T> {
         if is_farewell(packet) {
             self.await_look(rt);
         }
-        let taken = self.seat.lock(rt).take_in(rt, door, packet, rt.moment());
-        self.news.notify_one();
-        taken
+        self.seat.lock(rt).take_in(rt, door, packet, rt.moment())
+    }
+
+    /// Makes matching steps with the pass, until no order waits or so many were made. Answers whether none waited then.
+    pub fn match_some<D: Door<Ticket = T>, R: Wait + Clock + Dial>(
+        &self,
+        rt: &R,
+        door: &D,
+    ) -> bool {
+        for _ in 0..STEPS {
+            match self.seat.lock(rt).match_one(rt, door, rt.moment()) {
+                Ok(Some(_)) => {}
+                Ok(None) => return true,
+                Err(_) => return false,
+            }
+        }
+        false
     }
 
     /// Tells the session of what breaks it off.
@@ -96,9 +116,7 @@ impl<T: Drop> Link<T> {
     ) -> BrokenOff
         ensures { result ≡ break_of cause }
     {
-        let told = self.seat.lock(rt).break_off(rt, door, cause, rt.moment());
-        self.news.notify_one();
-        told
+        self.seat.lock(rt).break_off(rt, door, cause, rt.moment())
     }
 
     /// These reports were sent: tells the session so, and goes on behind them.
@@ -114,7 +132,6 @@ impl<T: Drop> Link<T> {
         self.seat
             .lock(rt)
             .sent(rt, door, fetched, bookmark, rt.moment());
-        self.news.notify_one();
     }
 
     /// The reader has ended: its input has no more. The user is told of his steps before.
@@ -125,56 +142,76 @@ impl<T: Drop> Link<T> {
         ended
     }
 
-    /// Waits until the login is answered, for the answer; `Err` once the session is over, which it is soon after the
+    /// What the writer does before the login is answered. The session is told of the server's end, where that was asked
+    /// for.
+    fn greet<D: Door<Ticket = T>, R: Wait + Clock + Dial>(
+        &self,
+        rt: &R,
+        door: &D,
+        stop: &Stop,
+    ) -> Greeting {
+        let mut seat = self.seat.lock(rt);
+        let moment = rt.moment();
+        let heeded = seat.heed(rt, door, stop.is_asked(), moment);
+        seat.greet(rt, door, heeded, moment)
+    }
+
+    /// Waits until the login is answered, for the answer, woken by this chime; `Err` once the session is over, which it is soon after the
     /// server's end was asked for.
     pub fn await_answer<D: Door<Ticket = T>, R: Wait + Clock + Dial>(
         &self,
         rt: &R,
         door: &D,
         stop: &Stop,
+        chime: &Chime,
     ) -> Result<Answered, Finished> {
-        let mut seat = self.seat.lock(rt);
         for _ in rt.forever() {
-            let moment = rt.moment();
-            let heeded = seat.heed(rt, door, stop.is_asked(), moment);
-            match seat.greet(rt, door, heeded, moment) {
+            match self.greet(rt, door, stop) {
                 Greeting::Answer(answered) => return Ok(answered),
                 Greeting::Over(finished) => return Err(finished),
-                Greeting::Nothing => {
-                    seat = self
-                        .news
-                        .wait_timeout(rt, seat, Duration::from_millis(REST))
-                        .0;
-                }
+                Greeting::Nothing => chime.hear(rt, Duration::from_millis(REST)),
             }
         }
         unreachable!()
     }
 
-    /// Waits until the writer has something to do for the bookmark's user, or the session is over, which it is soon
-    /// after the server's end was asked for.
+    /// What the writer has to do for the bookmark's user, and so many nanoseconds he may rest where that is nothing. The
+    /// session is told of the server's end, where that was asked for.
     #[tactic(auto, using(crate::proofs::Sitting::sought_is_due))]
-    pub fn await_due<D: Door<Ticket = T>, R: Wait + Clock + Dial>(
+    fn look<D: Door<Ticket = T>, R: Wait + Clock + Dial>(
         &self,
         rt: &R,
         door: &D,
         stop: &Stop,
         bookmark: &Bookmark,
+    ) -> (Due, u64)
+        ensures { IsDue D.policy bookmark.now.user bookmark.now.next result.0 }
+    {
+        let mut seat = self.seat.lock(rt);
+        let moment = rt.moment();
+        let heeded = seat.heed(rt, door, stop.is_asked(), moment);
+        let due = seat.due(rt, door, heeded, bookmark, moment);
+        (due, seat.rest(moment))
+    }
+
+    /// Waits, woken by this chime, until the writer has something to do for the bookmark's user, or the session is over, which it is soon
+    /// after the server's end was asked for.
+    pub fn await_due<D: Door<Ticket = T>, R: Wait + Clock + Dial>(
+        &self,
+        rt: &R,
+        door: &D,
+        stop: &Stop,
+        chime: &Chime,
+        bookmark: &Bookmark,
     ) -> Due
         ensures { IsDue D.policy bookmark.now.user bookmark.now.next result }
     {
-        let mut seat = self.seat.lock(rt);
         for _ in rt.forever() {
-            let moment = rt.moment();
-            let heeded = seat.heed(rt, door, stop.is_asked(), moment);
-            match seat.due(rt, door, heeded, bookmark, moment) {
-                Due::Nothing => {
-                    seat = self
-                        .news
-                        .wait_timeout(rt, seat, Duration::from_millis(POLL))
-                        .0;
+            match self.look(rt, door, stop, bookmark) {
+                (Due::Nothing, rest) => {
+                    chime.hear(rt, Duration::from_nanos(rest.max(NAP)));
                 }
-                due => return due,
+                (due, _rest) => return due,
             }
         }
         unreachable!()

@@ -1,25 +1,31 @@
 //! The reader of a connection.
 
-ghost use Rattle.std.specs.Prelude.{◌≡◌, ℕ, List, ◌++◌};
+ghost use Rattle.std.specs.Prelude.{◌≡◌, ℕ, List, ◌++◌, IsFalse, IsTrue, is_some};
 ghost use Rattle.gx_soup.specs.Feeding.{HasRead};
 ghost use Rattle.gx_soup.specs.Packets.{packets_of};
-ghost use Rattle.gx_reception.specs.Openings.{IsOpening};
+ghost use Rattle.gx_reception.specs.Openings.{is_idle, IsOpening};
 ghost use Rattle.gx_serve.specs.Readings.{cut_in, IfOpen, IsCut, IsKept, IsLeft, Stands, WasHeard};
 
 use crate::conduct::Exclusion;
-use crate::link::Link;
+use crate::link::{Link, is_farewell};
 use crate::seat::taking::Taken;
 use crate::seat::{Break, BrokenOff, Ended, Over};
 use gx_answers::StepFault;
 use gx_devices::Counted;
 use gx_door::{Dial, Door};
-use gx_lobby::Bell;
-use gx_reception::{Opening, read_piece};
+use gx_lobby::{Bells, Rung};
+use gx_reception::{Opening, is_idle, read_piece};
 use gx_soup::{ClientPacket, Feeder, SoupFault};
 use std::io::Read;
 use std::marker::Model;
 use std::sync::Wait;
 use std::time::Clock;
+
+/// So many packets are taken before the matching steps behind them are made.
+const GROUP: usize = 8;
+
+/// So many groups of one piece are taken at most before what came of them is kept.
+const PORTION: u64 = 8;
 
 /// What the bytes read so far leave of a session.
 #[derive(Drop)]
@@ -77,6 +83,7 @@ impl Heard {
 fn break_off<D: Door, R: Wait + Clock + Dial>(
     rt: &R,
     door: &D,
+    bells: &Bells<'_>,
     link: &Link<D::Ticket>,
     fault: Option<SoupFault>,
 ) -> Left
@@ -85,33 +92,100 @@ fn break_off<D: Door, R: Wait + Clock + Dial>(
     match fault {
         Some(fault) => {
             let told = link.break_off(rt, door, Break::Fault);
+            bells.wake(rt);
             Left::Broken(fault, told)
         }
         None => Left::Open,
     }
 }
 
-/// Takes packets until the session is over, or its user is put out.
+/// Wakes the matcher behind a packet, unless it asks for nothing.
+fn note<R: Wait>(rt: &R, bells: &Bells<'_>, packet: &ClientPacket) -> Option<Rung>
+    ensures { IsFalse (is_idle packet.now) → IsTrue (is_some result) }
+{
+    if is_idle(packet) {
+        return None;
+    }
+    Some(bells.note(rt))
+}
+
+/// Whether one of these packets asks for anything.
+fn is_asking(group: &[ClientPacket]) -> bool {
+    for packet in group {
+        if !is_idle(packet) {
+            return true;
+        }
+    }
+    false
+}
+
+/// Behind packets: makes the matching steps that they ask for, unless they are many, and wakes the writer and the matcher.
+/// Where orders may wait still and the matcher is far behind, it waits. Nothing is done where they ask for nothing.
+fn settle<D: Door, R: Wait + Clock + Dial>(
+    rt: &R,
+    door: &D,
+    bells: &Bells<'_>,
+    link: &Link<D::Ticket>,
+    group: &[ClientPacket],
+) {
+    if !is_asking(group) {
+        return;
+    }
+    let settled = link.match_some(rt, door);
+    bells.ring(rt, !settled);
+}
+
+/// Takes a few packets until the session is over, or its user is put out, and makes the matching steps behind them. The writer
+/// is woken before one that asks for the session's end, which waits for him.
+fn take_group<D: Door, R: Wait + Clock + Dial>(
+    rt: &R,
+    door: &D,
+    bells: &Bells<'_>,
+    link: &Link<D::Ticket>,
+    group: &[ClientPacket],
+) -> Left
+    ensures { IsKept result }
+{
+    for packet in group {
+        if is_farewell(packet) {
+            bells.wake(rt);
+        }
+        match link.take(rt, door, packet) {
+            Taken::Told(told) => {
+                if let Some(over) = told.over(&note(rt, bells, packet)) {
+                    bells.wake(rt);
+                    return Left::Over(over);
+                }
+            }
+            Taken::Excluded(why, told) => {
+                bells.ring(rt, false);
+                return Left::Excluded(why, told);
+            }
+        }
+    }
+    settle(rt, door, bells, link, group);
+    Left::Open
+}
+
+/// Takes packets until the session is over, or its user is put out. Whoever sends many at once waits for what came of them to
+/// be kept, so that this is never far behind.
 fn take_packets<D: Door, R: Wait + Clock + Dial>(
     rt: &R,
     door: &D,
-    bell: &Bell,
+    bells: &Bells<'_>,
     link: &Link<D::Ticket>,
     packets: &[ClientPacket],
 ) -> Left
     ensures { IsKept result }
 {
-    for packet in packets {
-        match link.take(rt, door, packet) {
-            Taken::Told(told) => {
-                if let Some(over) = told.over(bell.ring(rt)) {
-                    return Left::Over(over);
-                }
-            }
-            Taken::Excluded(why, told) => {
-                bell.ring(rt);
-                return Left::Excluded(why, told);
-            }
+    let mut taken = 0u64;
+    for group in packets.chunks(GROUP) {
+        match take_group(rt, door, bells, link, group) {
+            Left::Open => taken = taken.saturating_add(1),
+            left => return left,
+        }
+        if taken % PORTION == 0 {
+            door.keep(rt);
         }
     }
     Left::Open
@@ -121,15 +195,15 @@ fn take_packets<D: Door, R: Wait + Clock + Dial>(
 fn take_all<D: Door, R: Wait + Clock + Dial>(
     rt: &R,
     door: &D,
-    bell: &Bell,
+    bells: &Bells<'_>,
     link: &Link<D::Ticket>,
     packets: &[ClientPacket],
     fault: Option<SoupFault>,
 ) -> Left
     ensures { IsLeft fault result }
 {
-    match take_packets(rt, door, bell, link, packets) {
-        Left::Open => break_off(rt, door, link, fault),
+    match take_packets(rt, door, bells, link, packets) {
+        Left::Open => break_off(rt, door, bells, link, fault),
         left => left,
     }
 }
@@ -138,7 +212,7 @@ fn take_all<D: Door, R: Wait + Clock + Dial>(
 fn take_piece<D: Door, R: Wait + Clock + Dial>(
     rt: &R,
     door: &D,
-    bell: &Bell,
+    bells: &Bells<'_>,
     link: &Link<D::Ticket>,
     feeder: &mut Feeder,
     piece: &[u8],
@@ -150,9 +224,10 @@ fn take_piece<D: Door, R: Wait + Clock + Dial>(
 {
     let Ok(fed) = feeder.feed(piece) else {
         let told = link.break_off(rt, door, Break::Refused(StepFault::OutOfMemory));
+        bells.wake(rt);
         return Left::Refused(told);
     };
-    take_all(rt, door, bell, link, &fed.packets, fed.fault)
+    take_all(rt, door, bells, link, &fed.packets, fed.fault)
 }
 
 /// Takes the packets of a piece, unless the session is over, or was told that it ends.
@@ -160,7 +235,7 @@ fn take_piece<D: Door, R: Wait + Clock + Dial>(
 fn hear_piece<D: Door, R: Wait + Clock + Dial>(
     rt: &R,
     door: &D,
-    bell: &Bell,
+    bells: &Bells<'_>,
     link: &Link<D::Ticket>,
     feeder: &mut Feeder,
     left: Left,
@@ -170,7 +245,7 @@ fn hear_piece<D: Door, R: Wait + Clock + Dial>(
         → Stands result feeder.new (before ++ piece.now) }
 {
     match left {
-        Left::Open => take_piece(rt, door, bell, link, feeder, piece),
+        Left::Open => take_piece(rt, door, bells, link, feeder, piece),
         Left::Over(over) => Left::Over(over),
         Left::Refused(told) => Left::Refused(told),
         Left::Broken(fault, told) => Left::Broken(fault, told),
@@ -182,13 +257,13 @@ fn hear_piece<D: Door, R: Wait + Clock + Dial>(
 fn take_opening<D: Door, R: Wait + Clock + Dial>(
     rt: &R,
     door: &D,
-    bell: &Bell,
+    bells: &Bells<'_>,
     link: &Link<D::Ticket>,
     opening: &Opening,
 ) -> Left
     ensures { IsLeft opening.now.fault result }
 {
-    take_all(rt, door, bell, link, opening.packets(), opening.fault())
+    take_all(rt, door, bells, link, opening.packets(), opening.fault())
 }
 
 /// Takes the packets that a connection begins with, its login first, then reads on and takes each that comes, until its
@@ -196,7 +271,7 @@ fn take_opening<D: Door, R: Wait + Clock + Dial>(
 pub fn read_on<D: Door, I: Read, R: Wait + Clock + Dial>(
     rt: &R,
     door: &D,
-    bell: &Bell,
+    bells: &Bells<'_>,
     link: &Link<D::Ticket>,
     opening: Opening,
     reader: &mut Counted<I>,
@@ -206,16 +281,18 @@ pub fn read_on<D: Door, I: Read, R: Wait + Clock + Dial>(
         reader.new.failed result }
 {
     let mut buffer = [0u8; 4096];
-    let mut left = take_opening(rt, door, bell, link, &opening);
+    let mut left = take_opening(rt, door, bells, link, &opening);
     let mut feeder = opening.into_feeder();
     for _ in rt.forever() {
         let Some(n) = read_piece(reader, &mut buffer) else {
+            let ended = link.end(rt, door);
+            bells.wake(rt);
             return Heard {
                 left,
-                _ended: link.end(rt, door),
+                _ended: ended,
             };
         };
-        left = hear_piece(rt, door, bell, link, &mut feeder, left, &buffer[..n]);
+        left = hear_piece(rt, door, bells, link, &mut feeder, left, &buffer[..n]);
     }
     unreachable!()
 }

@@ -1,6 +1,6 @@
 //! What the two threads of a connection share under its lock.
 
-ghost use Rattle.std.specs.Prelude.{◌≡◌, IsTrue, is_some, true, None, IfErr, OnOk};
+ghost use Rattle.std.specs.Prelude.{◌≡◌, IsFalse, IsTrue, is_some, true, None, IfErr, OnOk};
 ghost use Rattle.gx_history.specs.declared.record.Request.TheVariants as requests;
 ghost use Rattle.gx_history.specs.Showing.{has_its_first};
 ghost use Rattle.gx_lobby.specs.Watches.{watch_of};
@@ -12,9 +12,11 @@ ghost use Rattle.gx_door.specs.Acts.{asked_on};
 ghost use Rattle.gx_serve.specs.Seats.{answer_after, is_on, sign_after, user_after};
 ghost use Rattle.gx_door.specs.Acts.{met};
 ghost use Rattle.gx_serve.specs.Breaks.{break_of};
+ghost use Rattle.gx_serve.specs.Tellings.{is_idle_event};
 ghost use Rattle.gx_serve.specs.Seats.{Follows, Heeds, WasAnswered, WasLoggedOut, WasMade, WasRefused, WasTaken, WasTold, WasToldRefusal};
 
 pub mod outgoing;
+pub mod settling;
 pub mod taking;
 
 use crate::conduct::Conduct;
@@ -96,8 +98,9 @@ pub struct Over {
 }
 
 impl Told<'_> {
-    /// That the session was over, if it was, once the matcher's bell was rung.
-    pub fn over(&self, _rung: Rung) -> Option<Over>
+    /// That the session was over, if it was, once the matcher's bell was rung, unless the packet asks for nothing.
+    pub fn over(&self, _rung: &Option<Rung>) -> Option<Over>
+        requires rung { IsFalse (is_idle_event self.now.event) → IsTrue (is_some _rung.now) }
         ensures { is_some result ≡ self.now.over }
     {
         if self.over {

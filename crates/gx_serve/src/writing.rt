@@ -16,7 +16,7 @@ use crate::seat::{Break, Sign};
 use gx_answers::{LoginAnswer, StepFault};
 use gx_devices::Counted;
 use gx_door::{Dial, Door};
-use gx_lobby::Stop;
+use gx_lobby::{Chime, Stop};
 use gx_session::{Control, SendFault, send_control, send_pulled};
 use std::alloc::Global;
 use std::io::Write;
@@ -71,7 +71,7 @@ fn send<O: Write>(alloc: Global, due: &Due, writer: &mut Counted<O>) -> Result<(
 }
 
 /// Whether what was done so far may be told. Where it may not, no more is to be done: the server is asked to end.
-fn is_kept<D: Door, R: Wait>(rt: &R, door: &D, stop: &Stop) -> bool {
+pub(crate) fn is_kept<D: Door, R: Wait>(rt: &R, door: &D, stop: &Stop) -> bool {
     let kept = door.keep(rt);
     if !kept {
         stop.ask();
@@ -179,6 +179,7 @@ fn write_answer<D: Door, O: Write, R: Wait + Clock + Dial>(
     alloc: Global,
     door: &D,
     stop: &Stop,
+    chime: &Chime,
     link: &Link<D::Ticket>,
     writer: &mut Counted<O>,
 ) -> Greeted
@@ -187,7 +188,7 @@ fn write_answer<D: Door, O: Write, R: Wait + Clock + Dial>(
         (O.contents writer.old.device) (O.contents writer.new.device) result }
     ensures kept { IfOn result (writer.new.failed ≡ writer.old.failed) }
 {
-    let answered = match link.await_answer(rt, door, stop) {
+    let answered = match link.await_answer(rt, door, stop, chime) {
         Ok(answered) => answered,
         Err(finished) => return Greeted::Over(finished),
     };
@@ -207,6 +208,7 @@ fn write_reports<D: Door, O: Write, R: Wait + Clock + Dial>(
     alloc: Global,
     door: &D,
     stop: &Stop,
+    chime: &Chime,
     link: &Link<D::Ticket>,
     bookmark: Bookmark,
     writer: &mut Counted<O>,
@@ -219,7 +221,7 @@ fn write_reports<D: Door, O: Write, R: Wait + Clock + Dial>(
 {
     let mut bookmark = bookmark;
     for _ in rt.forever() {
-        let due = link.await_due(rt, door, stop, &bookmark);
+        let due = link.await_due(rt, door, stop, chime, &bookmark);
         if let Err(unsent) = send_kept(rt, alloc, door, stop, &due, writer) {
             link.break_off(rt, door, cause_of(unsent));
             return None;
@@ -241,6 +243,7 @@ pub fn write_on<D: Door, O: Write, R: Wait + Clock + Dial>(
     alloc: Global,
     door: &D,
     stop: &Stop,
+    chime: &Chime,
     link: &Link<D::Ticket>,
     writer: &mut Counted<O>,
 ) -> Option<Finished>
@@ -250,8 +253,10 @@ pub fn write_on<D: Door, O: Write, R: Wait + Clock + Dial>(
     ensures front { IsFalse (is_some result) → WasCut D.policy
         (O.contents writer.old.device) (O.contents writer.new.device) }
 {
-    match write_answer(rt, alloc, door, stop, link, writer) {
-        Greeted::On(bookmark) => write_reports(rt, alloc, door, stop, link, bookmark, writer),
+    match write_answer(rt, alloc, door, stop, chime, link, writer) {
+        Greeted::On(bookmark) => write_reports(
+            rt, alloc, door, stop, chime, link, bookmark, writer,
+        ),
         Greeted::Over(finished) => Some(finished),
         Greeted::Cut => None,
     }

@@ -1,5 +1,5 @@
 -- The session table: how far a session has come, what happens, and what follows, a row a line.
-use Rattle.std.specs.Prelude.{ℕ, ◌-◌, max, nat_lt, nat_le, Bool, ◌||◌, if◌then◌else◌, Option, Some, None, is_some}
+use Rattle.std.specs.Prelude.{ℕ, ◌-◌, max, min, nat_lt, nat_le, Bool, ◌||◌, if◌then◌else◌, Option, Some, None, is_some}
 use Rattle.gx_soup.specs.declared.packet.ClientPacket.{ClientPacket}
 use Rattle.gx_soup.specs.declared.packet.ClientPacket.TheVariants as client
 use Rattle.gx_history.specs.Payloads.{request_of}
@@ -114,6 +114,10 @@ turn_of session event moment row = record {
   session = record { phase = row.phase; heard = heard_after session event moment; sent = sent_after session event moment row.reply.send };
   reply = row.reply;
 }
+
+-- so long it is from this moment until the time alone asks for something of a user who is on: a heartbeat, or his logout
+abbrev pub rest_of : SessionData → ℕ → ℕ
+rest_of session moment = min (15000000000 - (moment - session.heard)) (1000000000 - (moment - session.sent))
 
 -- what the event at this moment makes of the session, and what follows
 unfoldable pub turn : SessionData → Happening → ℕ → Turn

@@ -4,7 +4,7 @@ ghost use Rattle.std.specs.Prelude.{◌≡◌, None};
 ghost use Rattle.gx_session.specs.declared.event.Next.TheVariants.{Idle};
 ghost use Rattle.gx_session.specs.Table.{fresh_packet, fresh_row, waiting_row, on_packet, on_row};
 ghost use Rattle.gx_session.specs.Table.{abandoned_row, row, row_at, is_sending, heard_after, sent_after};
-ghost use Rattle.gx_session.specs.Table.{turn, new_session};
+ghost use Rattle.gx_session.specs.Table.{turn, new_session, rest_of};
 ghost use Rattle.gx_session.specs.Happenings.{happening};
 ghost use Rattle.gx_session.specs.Events.{CanAsk};
 
@@ -200,6 +200,15 @@ impl Session {
         ensures { result ≡ self.now.heard }
     {
         self.heard
+    }
+
+    /// So many nanoseconds it is from this moment until the time alone asks for something of a user who is on: a heartbeat,
+    /// or his logout.
+    pub fn rest(&self, moment: u64) -> u64
+        ensures { result ≡ rest_of self.now moment }
+    {
+        let patience = PATIENCE.saturating_sub(moment.saturating_sub(self.heard));
+        patience.min(HEARTBEAT.saturating_sub(moment.saturating_sub(self.sent)))
     }
 
     /// How far the session has come.

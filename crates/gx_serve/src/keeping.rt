@@ -1,0 +1,23 @@
+//! What is done is kept, whether anybody is told of it or not.
+
+use crate::writing::is_kept;
+use gx_door::Door;
+use gx_lobby::Lobby;
+use std::sync::Wait;
+use std::thread;
+use std::time::{Clock, Duration};
+
+/// So many milliseconds lie between two times that what was done is kept.
+const PAUSE: u64 = 5;
+
+/// Keeps what was done, whenever its bell is rung, until that is closed, so that whoever is told something waits for no more than
+/// what was done just before. Where it can't be kept, the server is asked to end.
+pub fn keep_on<D: Door, R: Wait + Clock>(rt: &R, door: &D, lobby: &Lobby) {
+    for _ in rt.forever() {
+        let heard = lobby.keeping.hear(rt, false);
+        if heard.closed || !is_kept(rt, door, &lobby.stop) {
+            return;
+        }
+        thread::sleep(rt, Duration::from_millis(PAUSE));
+    }
+}
