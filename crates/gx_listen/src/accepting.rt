@@ -21,6 +21,12 @@ const PAUSE: u64 = 100;
 /// After so many milliseconds the server looks for a new peer, and whether it is to end.
 const POLL: u64 = 5;
 
+/// After so many looks in a row that found nobody, a second, it looks less often,
+const QUIET: u32 = 200;
+
+/// each so many milliseconds.
+const REST: u64 = 20;
+
 /// What the system answers where descriptors or memory are wanting: ENOMEM, ENFILE, EMFILE, ENOBUFS.
 const WANTS: [i32; 4] = [12, 23, 24, 105];
 
@@ -40,16 +46,17 @@ fn make_room<R: Wait + Clock>(rt: &R, lobby: &Lobby) -> u64 {
     count
 }
 
-/// Waits behind an accept that failed: for a want that ends once somebody is hung up on, for the next connection, or longer
-/// for what is wrong. Answers whether the failure counts.
-fn wait_behind<R: Wait + Clock>(rt: &R, lobby: &Lobby, error: &io::Error) -> bool {
+/// Waits behind an accept that failed, and so many looks in a row before: for a want that ends once somebody is hung up on,
+/// for the next connection, or longer for what is wrong. Answers whether the failure counts.
+fn wait_behind<R: Wait + Clock>(rt: &R, lobby: &Lobby, error: &io::Error, looks: u32) -> bool {
     if is_want(error) {
         lobby.tally.note(Mishap::Wanting, 1);
         make_room(rt, lobby);
         return false;
     }
     if error.kind() == ErrorKind::WouldBlock {
-        thread::sleep(rt, Duration::from_millis(POLL));
+        let pause = if looks < QUIET { POLL } else { REST };
+        thread::sleep(rt, Duration::from_millis(pause));
         return false;
     }
     thread::sleep(rt, Duration::from_millis(PAUSE));
@@ -67,6 +74,7 @@ pub(crate) fn accept<R: Wait + Clock>(
     ensures { IfErr result IsHalted }
 {
     let mut left = FAILURES;
+    let mut looks = 0u32;
     for _ in rt.forever() {
         let asked = lobby.stop.is_asked();
         if asked.is_yes() {
@@ -81,9 +89,10 @@ pub(crate) fn accept<R: Wait + Clock>(
                 });
             }
             Err(error) => {
-                if wait_behind(rt, lobby, &error) {
+                if wait_behind(rt, lobby, &error, looks) {
                     left = left.saturating_sub(1);
                 }
+                looks = looks.saturating_add(1);
                 if left == 0 {
                     return Err(Halt::Fault(ServeFault::ListenFailed(error)));
                 }
