@@ -83,7 +83,8 @@ impl<N: GateName> CountingKeeper<N> {
         ensures one_less { OnOk result (permits.new.left + 1 ≡ permits.old.left) }
         ensures added { permits.new.added ≡ permits.old.added }
         ensures same { OnErr result (permits.new ≡ permits.old) }
-        ensures no_lines { IfErr result (λ e. e ≡ faults.NoLines → permits.old.issued ≡ 65535) }
+        ensures no_lines { IfErr result (λ e.
+            e ≡ faults.NoLines → permits.old.issued ≡ 65535) }
         ensures whole { permits.old.issued ≡ self.old.issued }
     {
         permits.audit_lines(&mut self.lines);
