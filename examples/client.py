@@ -2,20 +2,29 @@
 # A small client of `gate serve`, to begin from. To try it, from the top of the repository:
 #
 #   crates/gate/out/gate serve --port 9001 &
-#   examples/client.py --port 9001 BOB banana 'enter S1 S 60 TEST 10.00' 'wait 1' logout
-#   examples/client.py --port 9001 ALICE apple 'enter T1 B 100 TEST 10.00' 'wait 1' \
+#   export GATE_PASSWORD=banana
+#   examples/client.py --port 9001 BOB 'enter S1 S 60 TEST 10.00' 'wait 1' logout
+#   export GATE_PASSWORD=apple
+#   examples/client.py --port 9001 ALICE 'enter T1 B 100 TEST 10.00' 'wait 1' \
 #       'replace T1 T2 90 10.10' 'wait 1' 'cancel T2 0' 'wait 1' logout
-#   examples/client.py --port 9001 --number 1 ALICE apple 'wait 1' logout
-#   examples/client.py --port 9001 OLGA orange 'kill K1 ALFA' 'wait 1' 'lift K2 ALFA'
+#   examples/client.py --port 9001 --number 1 ALICE 'wait 1' logout
+#   export GATE_PASSWORD=orange
+#   examples/client.py --port 9001 OLGA 'kill K1 ALFA' 'wait 1' 'lift K2 ALFA'
 #
-# The third shows ALICE all her reports of the day again. Without commands behind the password it
-# reads them from standard input, a line each.
+# The third shows ALICE all her reports of the day again. Without commands behind the user it reads
+# them from standard input, a line each. The password is the first line of --password-file, or the
+# variable GATE_PASSWORD, or is asked for on the terminal: on the command line everybody on the machine
+# could read it.
+#
+# The status is 0 where all that was asked for was done; 1 where the connection or the login failed; 2
+# where a command can't be read; 3 where an order was rejected, or a command's answer is not OK.
 """A client that speaks OUCH 4.2 in SoupBinTCP 3.00 packets.
 
 docs/PROTOCOL.md has the fields of each message, docs/CLIENTS.md what to mind.
 """
 
 import argparse
+import getpass
 import inspect
 import os
 import select
@@ -33,6 +42,7 @@ SILENCE_SECONDS = 15.0
 LINGER_SECONDS = 1.0
 PRICE_UNIT = 10_000
 STDIN = 0
+DONE, FAILED, UNREADABLE, REFUSED = 0, 1, 2, 3
 CLOSED = "the server closed the connection"
 REFUSALS = {b"A": "not authorized", b"S": "session not available"}
 
@@ -229,6 +239,17 @@ LAYOUTS: dict[tuple[bytes, int], Layout] = {
 }
 
 
+def tokens_of(message: bytes) -> set[bytes]:
+    """The tokens that a message names: one, or a Replace Order's two."""
+    return {message[1:15], message[15:29]} if message[:1] == b"U" else {message[1:15]}
+
+
+def is_refusal(message: bytes, asked: set[bytes]) -> bool:
+    """Whether a message rejects an order of one of these tokens, or answers such a command with other than OK."""
+    refuses = message[:1] == b"J" or message[:1] == b"Q" and message[24:26] != b"OK"
+    return refuses and message[9:23] in asked
+
+
 def show(message: bytes) -> str:
     """A message as a line."""
     layout = LAYOUTS.get((message[:1], len(message)))
@@ -323,6 +344,8 @@ class Client:
         self.sent_at = self.heard_at = time.monotonic()
         self.next_number: int | None = None
         self.leaving = False
+        self.asked: set[bytes] = set()
+        self.status = DONE
 
     def run(self, login: bytes) -> None:
         """Logs in, gives the commands, and shows what comes, until the server closes."""
@@ -388,6 +411,8 @@ class Client:
                 raise ClientError(f"Login Rejected {payload.decode('ascii', 'replace')}, {reason}")
             case b"S":
                 print(f"{self.next_number} {show(payload)}", flush=True)
+                if is_refusal(payload, self.asked):
+                    self.status = self.status or REFUSED
                 self.next_number = (self.next_number or 0) + 1
             case b"Z":
                 print("End of Session", flush=True)
@@ -404,6 +429,7 @@ class Client:
                 self.give(words)
             except ClientError as error:
                 print(f"client: {error}", file=sys.stderr, flush=True)
+                self.status = UNREADABLE
         if not self.leaving and self.commands.are_done():
             self.commands.lines.append("logout")
             self.commands.wait(str(LINGER_SECONDS))
@@ -417,7 +443,9 @@ class Client:
             case ["wait", seconds]:
                 self.commands.wait(seconds)
             case _:
-                self.send(packet(b"U", message_of(words)))
+                message = message_of(words)
+                self.asked |= tokens_of(message)
+                self.send(packet(b"U", message))
 
 
 def arguments() -> argparse.Namespace:
@@ -434,28 +462,47 @@ def arguments() -> argparse.Namespace:
     parser.add_argument(
         "--number", type=int, default=1, help="the first report wanted; 0 is the last one (1)"
     )
+    parser.add_argument("--password-file", help="a file whose first line is the password")
     parser.add_argument("user")
-    parser.add_argument("password")
     parser.add_argument(
         "command", nargs="*", help="a command, in quotes; without any, lines of standard input"
     )
     return parser.parse_args()
 
 
+def password_of(asked: argparse.Namespace) -> str:
+    """The password: the first line of the file, or the variable, or what is typed."""
+    if asked.password_file:
+        with open(asked.password_file, encoding="ascii", errors="replace") as lines:
+            return lines.readline().rstrip("\r\n")
+    if "GATE_PASSWORD" in os.environ:
+        return os.environ["GATE_PASSWORD"]
+    return getpass.getpass(f"Password of {asked.user}: ")
+
+
+def login_of(asked: argparse.Namespace) -> bytes:
+    """The login; what is wrong with a password is told without it."""
+    password = password_of(asked)
+    if not (password.isascii() and 0 < len(password) <= 10):
+        raise ClientError("wanted a password of 1 to 10 ASCII characters")
+    return login_request(asked.user, password, asked.number)
+
+
 def main() -> int:
     """Runs the client. Answers its status."""
     asked = arguments()
     try:
-        login = login_request(asked.user, asked.password, asked.number)
+        login = login_of(asked)
         with socket.create_connection((asked.host, asked.port)) as line:
             line.setsockopt(socket.IPPROTO_TCP, socket.TCP_NODELAY, 1)
-            Client(line, Commands(asked.command)).run(login)
-    except (ClientError, OSError) as error:
+            client = Client(line, Commands(asked.command))
+            client.run(login)
+            return client.status
+    except (ClientError, OSError, EOFError) as error:
         print(f"client: {error}", file=sys.stderr)
-        return 1
+        return FAILED
     except KeyboardInterrupt:
         return 130
-    return 0
 
 
 if __name__ == "__main__":
