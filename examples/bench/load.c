@@ -1,9 +1,10 @@
 // Traders of a server, in one thread: each logs in, keeps so many orders in flight for so long, and measures the time from
 // the write of an order to its Accepted in hand. Or an echo: it answers as many bytes to each order as a server does, in a
-// thread of its own for each connection, and does nothing else.
+// thread of its own for each connection, and does nothing else; or it has two for each, one that reads and one that writes,
+// and so many nanoseconds of work for each order, under one lock for all, as a server has that has one book.
 //
 //   load PORT CLIENTS WINDOW SECONDS cross|rest      one line: orders, seconds, orders a second, p50, p99, longest in us
-//   load echo PORT
+//   load echo PORT [NANOSECONDS]
 #include <arpa/inet.h>
 #include <errno.h>
 #include <netinet/tcp.h>
@@ -173,26 +174,85 @@ static void drive(int port, int clients, int window, double seconds, int cross) 
            (double)latencies[kept - 1] / 1e3);
 }
 
+struct speaker {
+    int line, owed, over;
+    pthread_mutex_t lock;
+    pthread_cond_t news;
+};
+
+static long work = -1;
+static pthread_mutex_t book = PTHREAD_MUTEX_INITIALIZER;
+
+static void answer(int line, int orders) {
+    uint8_t out[TOLD * 128];
+    while (orders > 0) {
+        int some = orders < 128 ? orders : 128;
+        memset(out, 0, sizeof out);
+        for (int i = 0; i < some; i++) {
+            out[TOLD * i + 1] = TOLD - 2;
+            out[TOLD * i + 2] = 'S';
+            out[TOLD * i + 3] = 'A';
+        }
+        write_all(line, out, (size_t)some * TOLD);
+        orders -= some;
+    }
+}
+
+static void *speak(void *given) {
+    struct speaker *s = given;
+    for (;;) {
+        pthread_mutex_lock(&s->lock);
+        while (s->owed == 0 && !s->over) pthread_cond_wait(&s->news, &s->lock);
+        int orders = s->owed, over = s->over;
+        s->owed = 0;
+        pthread_mutex_unlock(&s->lock);
+        if (over) return NULL;
+        answer(s->line, orders);
+    }
+}
+
+static void work_on(int orders) {
+    for (int i = 0; i < orders; i++) {
+        pthread_mutex_lock(&book);
+        for (uint64_t until = now() + (uint64_t)work; now() < until;) {}
+        pthread_mutex_unlock(&book);
+    }
+}
+
+static void leave_to(struct speaker *s, int orders, int over) {
+    pthread_mutex_lock(&s->lock);
+    s->owed += orders;
+    s->over = over;
+    pthread_mutex_unlock(&s->lock);
+    pthread_cond_signal(&s->news);
+}
+
 static void *echo_one(void *given) {
     int line = (int)(intptr_t)given, held = 0;
     static const uint8_t accepted[33] = {0, 31, 'A'};
-    uint8_t data[4096], out[TOLD * 128];
+    uint8_t data[4096];
+    struct speaker speaker = {.line = line, .lock = PTHREAD_MUTEX_INITIALIZER, .news = PTHREAD_COND_INITIALIZER};
+    pthread_t speaking;
     if (recv(line, data, LOGIN, MSG_WAITALL) != LOGIN) return NULL;
     write_all(line, accepted, sizeof accepted);
+    if (work >= 0 && pthread_create(&speaking, NULL, speak, &speaker) != 0) fail("pthread_create");
     for (;;) {
         ssize_t count = read(line, data + held, sizeof data - (size_t)held);
         if (count <= 0) break;
         held += (int)count;
         int orders = held / ORDER;
-        memset(out, 0, sizeof out);
-        for (int i = 0; i < orders; i++) {
-            out[TOLD * i + 1] = TOLD - 2;
-            out[TOLD * i + 2] = 'S';
-            out[TOLD * i + 3] = 'A';
+        if (work < 0) {
+            answer(line, orders);
+        } else if (orders > 0) {
+            work_on(orders);
+            leave_to(&speaker, orders, 0);
         }
-        if (orders > 0) write_all(line, out, (size_t)orders * TOLD);
         memmove(data, data + orders * ORDER, (size_t)(held - orders * ORDER));
         held -= orders * ORDER;
+    }
+    if (work >= 0) {
+        leave_to(&speaker, 0, 1);
+        pthread_join(speaking, NULL);
     }
     close(line);
     return NULL;
@@ -216,7 +276,10 @@ static void echo(int port) {
 }
 
 int main(int count, char **words) {
-    if (count == 3 && strcmp(words[1], "echo") == 0) echo(atoi(words[2]));
+    if ((count == 3 || count == 4) && strcmp(words[1], "echo") == 0) {
+        if (count == 4) work = atol(words[3]);
+        echo(atoi(words[2]));
+    }
     if (count != 6) return 2;
     latencies = malloc(LATENCIES * sizeof *latencies);
     drive(atoi(words[1]), atoi(words[2]), atoi(words[3]), atof(words[4]), strcmp(words[5], "cross") == 0);

@@ -13,11 +13,13 @@ ghost use Rattle.gx_pass.specs.Views.{mine, retold};
 ghost use Rattle.gx_door.specs.declared.fault.PullFault.TheVariants as pull_faults;
 ghost use Rattle.gx_door.specs.Acts.{asked_on, gate_met, login_on};
 ghost use Rattle.gx_door.specs.Callers.{caller_of};
+ghost use Rattle.gx_door.specs.Matching.{EndsSo, Matches, Turns};
 ghost use Rattle.gx_door.specs.Acts.{AddsOwn, EndsWith, IsLater, IsPulled, IsToldFull, LogsIn, MayBeRefused};
 
 use crate::caller::Caller;
 use crate::dial::Dial;
 use crate::fault::PullFault;
+use crate::matched::{Matched, Turned};
 use gx_answers::{LoginAnswer, Outcome, Pulled, StepFault};
 use gx_history::record::{Record, Request};
 use gx_units::{Moment, OutOfMemory, Password, SessionName, UserName};
@@ -117,6 +119,48 @@ pub trait Door {
             added result.0 ≡ added pass + 1)) }
         ensures adds_none_idle { IfOk result.1 (λ found. IfNone found
             (added result.0 ≡ added pass)) }
+        ensures adds_none { OnErr result.1 (added result.0 ≡ added pass) };
+
+    /// Matching steps, until no order waits, one is refused, or so many were made. Their records are nobody's own.
+    fn match_some<R: Wait + Dial>(
+        &self,
+        rt: &R,
+        pass: Self::Ticket,
+        moment: Moment,
+        most: u64,
+    ) -> (Self::Ticket, Matched)
+        requires clock { R.shown moment }
+        ensures later { IsLater policy (held pass) (held result.0) }
+        ensures made { Matches (held pass) (held result.0) moment result.1.made }
+        ensures own { mine (held result.0) ≡ mine (held pass) }
+        ensures ended { EndsSo result.1.end (gate_met policy (held result.0)) result.1.made most }
+        ensures adds { added result.0 ≡ added pass + result.1.made };
+
+    /// A request on the pass's line, and behind it matching steps, as [`Door::match_some`] makes them: nobody comes between.
+    /// Where the request is refused, none is made.
+    fn turn<R: Wait + Dial>(
+        &self,
+        rt: &R,
+        pass: Self::Ticket,
+        user: UserName,
+        request: Request,
+        moment: Moment,
+        most: u64,
+    ) -> (Self::Ticket, Result<Turned, StepFault>)
+        requires clock { R.shown moment }
+        requires first { IsTrue (has_its_first request) }
+        ensures later { IsLater policy (held pass) (held result.0) }
+        ensures done { IfOk result.1 (λ t. Turns (held pass) (held result.0)
+            (left_by (asked_on (held pass).line user request moment) t.outcome)
+            moment t.matched.made) }
+        ensures ended { IfOk result.1 (λ t. EndsSo t.matched.end
+            (gate_met policy (held result.0)) t.matched.made most) }
+        ensures refused { OnErr result.1 (mine (held result.0) ≡ mine (held pass)) }
+        ensures never_refused { OnErr result.1 (MayBeRefused (gate_met policy (held result.0))
+            (asked_on (held pass).line user request moment)) }
+        ensures full { IfErr result.1 (IsToldFull (gate_met policy (held result.0))) }
+        ensures adds { IfOk result.1 (λ t.
+            added result.0 ≡ added pass + 1 + t.matched.made) }
         ensures adds_none { OnErr result.1 (added result.0 ≡ added pass) };
 
     /// The reports of a user who is logged in on the pass's line, from this number on, 0 counting as 1, and at most so

@@ -7,9 +7,11 @@ mod dial;
 mod door;
 mod fault;
 mod issuer;
+mod matched;
 
 pub use caller::Caller;
 pub use dial::Dial;
 pub use door::Door;
 pub use fault::PullFault;
 pub use issuer::Issuer;
+pub use matched::{MatchEnd, Matched, Turned};

@@ -2,7 +2,7 @@
 
 use crate::wire::Wire;
 use gx_answers::{LoginAnswer, Outcome, Pulled, StepFault};
-use gx_door::{Caller, Dial, Door, PullFault};
+use gx_door::{Caller, Dial, Door, Matched, PullFault, Turned};
 use gx_history::record::{Record, Request};
 use gx_units::{Moment, OutOfMemory, Password, SessionName, UserName};
 use std::sync::Wait;
@@ -82,6 +82,28 @@ impl<D: Door, C: Wait + Clock> Door for Holds<'_, D, C> {
         moment: Moment,
     ) -> (D::Ticket, Result<Option<Outcome>, StepFault>) {
         self.door.match_one(rt, pass, moment)
+    }
+
+    fn match_some<R: Wait + Dial>(
+        &self,
+        rt: &R,
+        pass: D::Ticket,
+        moment: Moment,
+        most: u64,
+    ) -> (D::Ticket, Matched) {
+        self.door.match_some(rt, pass, moment, most)
+    }
+
+    fn turn<R: Wait + Dial>(
+        &self,
+        rt: &R,
+        pass: D::Ticket,
+        user: UserName,
+        request: Request,
+        moment: Moment,
+        most: u64,
+    ) -> (D::Ticket, Result<Turned, StepFault>) {
+        self.door.turn(rt, pass, user, request, moment, most)
     }
 
     fn pull<R: Wait>(

@@ -16,6 +16,7 @@ use Rattle.gx_soup.specs.declared.packet.LoginRequest.{LoginRequest}
 use Rattle.gx_pass.specs.declared.view.Holds.{Holds}
 use Rattle.gx_pass.specs.Views.{mine}
 use Rattle.gx_door.specs.Acts.{asked_on, gate_met, login_on, AddsOwn, IsLater, IsToldFull, LogsIn, MayBeRefused}
+use Rattle.gx_door.specs.Matching.{Matches, Turns}
 use Rattle.gx_session.specs.declared.event.Control.{Control}
 use Rattle.gx_session.specs.declared.event.Control.TheVariants as controls
 use Rattle.gx_session.specs.declared.event.Next.{Next}
@@ -58,6 +59,19 @@ pub record WasMade (policy : PolicyData) (a : Asked) (was is : Holds) : Type 0 w
   pub outcome : Outcome
   pub adds : AddsOwn was is (left_by a outcome)
 
+-- the step was made, and matching steps behind it, at the same moment
+pub record WasTurned (policy : PolicyData) (a : Asked) (was is : Holds) : Type 0 where
+  pub later : IsLater policy was is
+  pub outcome : Outcome
+  pub made : ℕ
+  pub turns : Turns was is (left_by a outcome) a.handed made
+
+-- matching steps were made at this moment, and nothing else
+pub record WasMatched (policy : PolicyData) (moment : ℕ) (was is : Holds) : Type 0 where
+  pub later : IsLater policy was is
+  pub made : ℕ
+  pub matches : Matches was is moment made
+
 -- the step was refused so
 pub record WasRefused (policy : PolicyData) (a : Asked) (fault : StepFault) (was is : Holds) : Type 0 where
   pub later : IsLater policy was is
@@ -96,7 +110,7 @@ abbrev pub Follows : Next → PolicyData → UserName → ℕ → SessionData �
 Follows Idle policy user moment session was session' is = (session' ≡ session) × (is ≡ was)
 Follows Login policy user moment session was session' is = (session' ≡ session) × (is ≡ was)
 Follows (Act request) policy user moment session was session' is =
-    ((session' ≡ session) × WasMade policy (asked_on was.line user request moment) was is)
+    ((session' ≡ session) × WasTurned policy (asked_on was.line user request moment) was is)
     ⊎ WasGivenUp policy user request moment session was session' is
 Follows Logout policy user moment session was session' is = (session' ≡ session) × WasLoggedOut policy user moment was is
 Follows Close policy user moment session was session' is = (session' ≡ session) × (is ≡ was)

@@ -12,14 +12,18 @@ use crate::seat::{Break, BrokenOff, Ended, Seat};
 use gx_door::{Caller, Dial, Door};
 use gx_lobby::{Chime, Stop};
 use gx_soup::ClientPacket;
-use std::sync::{Condvar, Mutex, Wait};
+use std::sync::{Condvar, Mutex, MutexGuard, Wait};
+use std::thread;
 use std::time::{Clock, Duration};
 
-/// So many matching steps a reader makes at most behind a few packets: eight for each of them.
-const STEPS: u64 = 64;
+/// So often a reader makes a few matching steps at most behind a few packets.
+const ROUNDS: u64 = 8;
 
 /// After so many milliseconds the writer of a connection whose login was not answered looks at the time.
 const REST: u64 = 100;
+
+/// Before a session ends for silence its reader has so many milliseconds to take what lies unread.
+const DOUBT: u64 = 200;
 
 /// A writer rests at least so many nanoseconds, unless he is woken.
 const NAP: u64 = 1_000_000;
@@ -91,17 +95,12 @@ impl<T: Drop> Link<T> {
         self.seat.lock(rt).take_in(rt, door, packet, rt.moment())
     }
 
-    /// Makes matching steps with the pass, until no order waits or so many were made. Answers whether none waited then.
-    pub fn match_some<D: Door<Ticket = T>, R: Wait + Clock + Dial>(
-        &self,
-        rt: &R,
-        door: &D,
-    ) -> bool {
-        for _ in 0..STEPS {
-            match self.seat.lock(rt).match_one(rt, door, rt.moment()) {
-                Ok(Some(_)) => {}
-                Ok(None) => return true,
-                Err(_) => return false,
+    /// Makes the matching steps that those of the last packet left, until no order waits or so many were made. Answers
+    /// whether none waited then.
+    pub fn settle<D: Door<Ticket = T>, R: Wait + Clock + Dial>(&self, rt: &R, door: &D) -> bool {
+        for _ in 0..ROUNDS {
+            if self.seat.lock(rt).settle(rt, door, rt.moment()) {
+                return true;
             }
         }
         false
@@ -119,19 +118,22 @@ impl<T: Drop> Link<T> {
         self.seat.lock(rt).break_off(rt, door, cause, rt.moment())
     }
 
-    /// These reports were sent: tells the session so, and goes on behind them.
+    /// These reports were sent: tells the session so, and goes on behind them. Answers so many nanoseconds that the writer
+    /// may rest then, unless he is woken; 0 where there may be more to send.
     pub fn sent<D: Door<Ticket = T>, R: Wait + Clock + Dial>(
         &self,
         rt: &R,
         door: &D,
         fetched: Fetched,
         bookmark: &mut Bookmark,
-    )
+    ) -> u64
         ensures { bookmark.new ≡ mark_sent bookmark.old fetched }
     {
-        self.seat
-            .lock(rt)
-            .sent(rt, door, fetched, bookmark, rt.moment());
+        let is_all = fetched.is_all();
+        let mut seat = self.seat.lock(rt);
+        let moment = rt.moment();
+        seat.sent(rt, door, fetched, bookmark, moment);
+        if is_all { seat.rest(moment) } else { 0 }
     }
 
     /// The reader has ended: its input has no more. The user is told of his steps before.
@@ -176,7 +178,8 @@ impl<T: Drop> Link<T> {
     }
 
     /// What the writer has to do for the bookmark's user, and so many nanoseconds he may rest where that is nothing. The
-    /// session is told of the server's end, where that was asked for.
+    /// session is told of the server's end, where that was asked for. Where the session may have packets
+    /// unread, its reader is given time to take them.
     #[tactic(auto, using(crate::proofs::Sitting::sought_is_due))]
     fn look<D: Door<Ticket = T>, R: Wait + Clock + Dial>(
         &self,
@@ -189,6 +192,11 @@ impl<T: Drop> Link<T> {
     {
         let mut seat = self.seat.lock(rt);
         let moment = rt.moment();
+        if seat.is_in_doubt(moment) {
+            MutexGuard::unlock(seat);
+            thread::sleep(rt, Duration::from_millis(DOUBT));
+            return (Due::Nothing, 0);
+        }
         let heeded = seat.heed(rt, door, stop.is_asked(), moment);
         let due = seat.due(rt, door, heeded, bookmark, moment);
         (due, seat.rest(moment))

@@ -131,7 +131,7 @@ fn settle<D: Door, R: Wait + Clock + Dial>(
     if !is_asking(group) {
         return;
     }
-    let settled = link.match_some(rt, door);
+    let settled = link.settle(rt, door);
     bells.ring(rt, !settled);
 }
 

@@ -10,12 +10,14 @@ ghost use Rattle.gx_session.specs.Happenings as happens;
 ghost use Rattle.gx_session.specs.Table.{turn, new_session};
 ghost use Rattle.gx_door.specs.Acts.{asked_on};
 ghost use Rattle.gx_serve.specs.Seats.{answer_after, is_on, sign_after, user_after};
-ghost use Rattle.gx_door.specs.Acts.{met};
+ghost use Rattle.gx_door.specs.Acts.{gate_met, met};
+ghost use Rattle.gx_answers.specs.Matches.{matching_of};
 ghost use Rattle.gx_serve.specs.Breaks.{break_of};
 ghost use Rattle.gx_serve.specs.Tellings.{is_idle_event};
-ghost use Rattle.gx_serve.specs.Seats.{Follows, Heeds, WasAnswered, WasLoggedOut, WasMade, WasRefused, WasTaken, WasTold, WasToldRefusal};
+ghost use Rattle.gx_serve.specs.Seats.{Follows, Heeds, WasAnswered, WasLoggedOut, WasRefused, WasTaken, WasTold, WasToldRefusal, WasTurned};
 
 pub mod outgoing;
+pub mod resting;
 pub mod settling;
 pub mod taking;
 
@@ -29,6 +31,9 @@ use gx_soup::{ClientPacket, LoginRequest};
 use gx_units::{Moment, UserName};
 use std::marker::Model;
 use std::sync::Wait;
+
+/// So many matching steps are made at most behind a request's step, before others come in between.
+pub(crate) const STEPS: u64 = 8;
 
 /// What a session asks to send once its login was answered, besides reports.
 #[derive(Clone, Copy)]
@@ -139,6 +144,10 @@ pub struct Seat<T: Drop> {
     deaf: bool,
     /// The writer has looked for reports since the last step that was made with the pass, and left none.
     looked: bool,
+    /// No order waited to be matched behind the last of these steps.
+    is_settled: bool,
+    /// The session was found silent when that was asked last.
+    doubted: bool,
     /// What the writer has seen of the records.
     watch: Watch,
     conduct: Conduct,
@@ -162,6 +171,8 @@ impl<T: Drop> Seat<T> {
             sign: None,
             deaf: false,
             looked: false,
+            is_settled: false,
+            doubted: false,
             watch: Watch::new(),
             conduct: Conduct::new(caller),
         }
@@ -199,6 +210,7 @@ impl<T: Drop> Seat<T> {
         self.is_on() && !self.looked
     }
 
+    /// Makes the request's step, and the matching steps that it asks for, unless they are many.
     fn act<D: Door<Ticket = T>, R: Wait + Dial>(
         &mut self,
         rt: &R,
@@ -208,12 +220,14 @@ impl<T: Drop> Seat<T> {
     ) -> Result<(), StepFault>
         requires clock { R.shown moment }
         requires first { IsTrue (has_its_first request) }
-        ensures made { OnOk result (WasMade D.policy
+        ensures made { OnOk result (WasTurned D.policy
             (asked_on (met D.held self.old.pass).line self.old.user request moment)
             (met D.held self.old.pass) (met D.held self.new.pass)) }
         ensures refused { IfErr result (λ fault. WasRefused D.policy
             (asked_on (met D.held self.old.pass).line self.old.user request moment) fault
             (met D.held self.old.pass) (met D.held self.new.pass)) }
+        ensures settled { OnOk result (IsTrue self.new.is_settled
+            → matching_of (gate_met D.policy (met D.held self.new.pass)) ≡ None) }
         ensures user { self.new.user ≡ self.old.user }
         ensures session { self.new.session ≡ self.old.session }
         ensures answer { self.new.answer ≡ self.old.answer }
@@ -223,12 +237,13 @@ impl<T: Drop> Seat<T> {
         let Some(pass) = self.pass.take() else {
             unreachable!()
         };
-        let (pass, answer) = door.act(rt, pass, self.user, request, moment);
+        let (pass, answer) = door.turn(rt, pass, self.user, request, moment, STEPS);
         self.pass = Some(pass);
         self.looked = false;
         match answer {
-            Ok(outcome) => {
-                self.conduct.note(&outcome.verdict);
+            Ok(turned) => {
+                self.conduct.note(&turned.outcome.verdict);
+                self.is_settled = turned.matched.end.is_idle();
                 Ok(())
             }
             Err(fault) => Err(fault),

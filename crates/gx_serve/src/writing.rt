@@ -21,7 +21,7 @@ use gx_session::{Control, SendFault, send_control, send_pulled};
 use std::alloc::Global;
 use std::io::Write;
 use std::sync::Wait;
-use std::time::Clock;
+use std::time::{Clock, Duration};
 
 /// Why nothing more is sent.
 #[derive(Clone, Copy)]
@@ -139,10 +139,12 @@ pub(crate) fn send_answer<D: Door, O: Write, R: Wait>(
     }
 }
 
-/// Goes on behind what was sent: the session is told of reports. Answers that nothing is sent any more, if so.
+/// Goes on behind what was sent: the session is told of reports, and the writer rests behind the last of them until he is
+/// woken. Answers that nothing is sent any more, if so.
 fn go_on<D: Door, R: Wait + Clock + Dial>(
     rt: &R,
     door: &D,
+    chime: &Chime,
     link: &Link<D::Ticket>,
     due: Due,
     bookmark: &mut Bookmark,
@@ -153,7 +155,10 @@ fn go_on<D: Door, R: Wait + Clock + Dial>(
 {
     match due {
         Due::Reports(fetched) => {
-            link.sent(rt, door, fetched, bookmark);
+            let rest = link.sent(rt, door, fetched, bookmark);
+            if rest > 0 {
+                chime.hear(rt, Duration::from_nanos(rest));
+            }
             None
         }
         Due::Sign(signed) => signed.finished(),
@@ -226,7 +231,7 @@ fn write_reports<D: Door, O: Write, R: Wait + Clock + Dial>(
             link.break_off(rt, door, cause_of(unsent));
             return None;
         }
-        if let Some(finished) = go_on(rt, door, link, due, &mut bookmark) {
+        if let Some(finished) = go_on(rt, door, chime, link, due, &mut bookmark) {
             return Some(finished);
         }
     }

@@ -90,10 +90,14 @@ row_in On event silent quiet = on_row event silent quiet
 row_in Abandoned event silent quiet = abandoned_row event
 row_in Done event silent quiet = row Done None Idle
 
--- 15 seconds without a packet from the client, or a second without one to him; a moment before that packet's is no time
+-- 15 seconds have gone by without a packet from the client; a moment before that packet's is no time
+abbrev pub is_silent : SessionData → ℕ → Bool
+is_silent session moment = nat_le 15000000000 (moment - session.heard)
+
+-- as is said of silence, and so of a second without a packet to him
 abbrev pub row_at : SessionData → Happening → ℕ → Row
 row_at session event moment =
-    row_in session.phase event (nat_le 15000000000 (moment - session.heard)) (nat_le 1000000000 (moment - session.sent))
+    row_in session.phase event (is_silent session moment) (nat_le 1000000000 (moment - session.sent))
 
 -- a packet goes to the client: the session's own, or reports of a user who is on
 abbrev pub is_sending : Phase → Happening → Option Control → Bool

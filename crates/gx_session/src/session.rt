@@ -2,7 +2,7 @@
 
 ghost use Rattle.std.specs.Prelude.{◌≡◌, None};
 ghost use Rattle.gx_session.specs.declared.event.Next.TheVariants.{Idle};
-ghost use Rattle.gx_session.specs.Table.{fresh_packet, fresh_row, waiting_row, on_packet, on_row};
+ghost use Rattle.gx_session.specs.Table.{is_silent, fresh_packet, fresh_row, waiting_row, on_packet, on_row};
 ghost use Rattle.gx_session.specs.Table.{abandoned_row, row, row_at, is_sending, heard_after, sent_after};
 ghost use Rattle.gx_session.specs.Table.{turn, new_session, rest_of};
 ghost use Rattle.gx_session.specs.Happenings.{happening};
@@ -202,6 +202,13 @@ impl Session {
         self.heard
     }
 
+    /// Whether no packet has come for 15 seconds.
+    pub fn is_silent(&self, moment: u64) -> bool
+        ensures { result ≡ is_silent self.now moment }
+    {
+        moment.saturating_sub(self.heard) >= PATIENCE
+    }
+
     /// So many nanoseconds it is from this moment until the time alone asks for something of a user who is on: a heartbeat,
     /// or his logout.
     pub fn rest(&self, moment: u64) -> u64
@@ -222,7 +229,7 @@ impl Session {
         ensures row { result ≡ row_at self.now (happening event.entry) moment }
         ensures able { CanAsk result.reply.next }
     {
-        let silent = moment.saturating_sub(self.heard) >= PATIENCE;
+        let silent = self.is_silent(moment);
         let quiet = moment.saturating_sub(self.sent) >= HEARTBEAT;
         match self.phase {
             Phase::Fresh => fresh_row(event, silent),

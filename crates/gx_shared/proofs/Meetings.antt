@@ -53,6 +53,10 @@ adds_own (Ok o) earlier now a h is all met own done =
     subst (λ (x : Holds). AddsOwn h x r) (sym (all ∙ ap (λ (xs : List RecordData). holds h.line xs (length xs)) done)) adds
 adds_own (Err e) earlier now a h is all met own done = tt
 
+-- a pass that holds what it had met with its own records holds the same ones as its own
+pub holds_own : (now : List RecordData) (h is : Holds) → HoldsAll h is now → IsMet now h → mine is ≡ mine h
+holds_own now h is all met = ap mine all ∙ met.mine
+
 -- nothing was added
 own_stays : (was now : GateData) (h is : Holds) → HoldsAll h is now.records → IsMet was.records h → now ≡ was → mine is ≡ mine h
 own_stays was now h is all met same = ap mine all ∙ ap (λ (g : GateData). mine (holds h.line g.records 0)) same ∙ met.mine

@@ -14,6 +14,7 @@ ghost use Rattle.gx_pass.specs.Views.{mine, of_line};
 ghost use Rattle.gx_door.specs.declared.fault.PullFault.TheVariants as pull_faults;
 ghost use Rattle.gx_door.specs.Acts.{asked_on, gate_at, gate_met, login_on};
 ghost use Rattle.gx_door.specs.Callers.{caller_of};
+ghost use Rattle.gx_door.specs.Matching.{EndsSo, Matches, Turns};
 ghost use Rattle.gx_shared.specs.Permits.{all_parts};
 ghost use Rattle.gx_door.specs.Acts.{AddsOwn, EndsWith, IsLater, IsPulled, IsToldFull, LogsIn, MayBeRefused};
 ghost use Rattle.gx_shared.specs.Lines.{highest_line};
@@ -21,10 +22,10 @@ ghost use Rattle.gx_shared.specs.Lines.{highest_line};
 use crate::counting::CountingKeeper;
 use crate::permit::{BlankLedgers, Permits};
 use crate::resuming::resume;
-use crate::steps::{asked_on, leave, match_one, pull, step};
+use crate::steps::{asked_on, leave, match_one, match_some, pull, step, turn};
 use crate::ticket::Ticket;
 use gx_answers::{AccessGate, LoginAnswer, Outcome, Pulled, StepFault};
-use gx_door::{Caller, PullFault};
+use gx_door::{Caller, Matched, PullFault, Turned};
 use gx_history::record::{Record, Request};
 use gx_pass::{Blank, GateName, Keeper, Pass, PassFault};
 use gx_policy::Policy;
@@ -226,6 +227,64 @@ impl<G: AccessGate, N: GateName> Desk<G, N> {
     {
         let entered = self.keeper.enter(pass);
         let result = match_one(&mut self.gate, &mut self.keeper, share, moment);
+        (leave(&self.gate, &mut self.keeper, entered), result)
+    }
+
+    /// Matching steps, until no order waits, one is refused, or so many were made. Their records are nobody's own, and are
+    /// counted in the share.
+    pub fn match_some(
+        &mut self,
+        pass: Pass<N>,
+        share: &mut Share<N>,
+        moment: Moment,
+        most: u64,
+    ) -> (Pass<N>, Matched)
+        requires part { 0 < share.old.parts }
+        ensures front { result.0.front ≡ self.new }
+        ensures later { IsLater N.policy pass result.0 }
+        ensures made { Matches pass result.0 moment result.1.made }
+        ensures own { mine result.0 ≡ mine pass }
+        ensures ended { EndsSo result.1.end (gate_at N.policy self.new) result.1.made most }
+        ensures adds { share.new.amount ≡ share.old.amount + result.1.made }
+        ensures parts { share.new.parts ≡ share.old.parts }
+    {
+        let entered = self.keeper.enter(pass);
+        let matched = match_some(&mut self.gate, &mut self.keeper, share, moment, most);
+        (leave(&self.gate, &mut self.keeper, entered), matched)
+    }
+
+    /// A request on the pass's line, and matching steps behind it, all of which are counted in the share.
+    pub fn turn(
+        &mut self,
+        pass: Pass<N>,
+        share: &mut Share<N>,
+        user: UserName,
+        request: Request,
+        moment: Moment,
+        most: u64,
+    ) -> (Pass<N>, Result<Turned, StepFault>)
+        requires first { IsTrue (has_its_first request) }
+        requires part { 0 < share.old.parts }
+        ensures front { result.0.front ≡ self.new }
+        ensures later { IsLater N.policy pass result.0 }
+        ensures done { IfOk result.1 (λ t.
+            Turns pass result.0 (left_by (asked_on pass.line user request moment) t.outcome)
+            moment t.matched.made) }
+        ensures ended { IfOk result.1 (λ t.
+            EndsSo t.matched.end (gate_at N.policy self.new) t.matched.made most) }
+        ensures refused { OnErr result.1 (mine result.0 ≡ mine pass) }
+        ensures never_refused { OnErr result.1 (MayBeRefused (gate_at N.policy self.new)
+            (asked_on pass.line user request moment)) }
+        ensures full { IfErr result.1 (IsToldFull (gate_at N.policy self.new)) }
+        ensures adds { IfOk result.1 (λ t.
+            share.new.amount ≡ share.old.amount + 1 + t.matched.made) }
+        ensures adds_none { OnErr result.1 (share.new.amount ≡ share.old.amount) }
+        ensures parts { share.new.parts ≡ share.old.parts }
+    {
+        let line = pass.line();
+        let entered = self.keeper.enter(pass);
+        let asked = asked_on(line, user, request, moment);
+        let result = turn(&mut self.gate, &mut self.keeper, share, asked, most);
         (leave(&self.gate, &mut self.keeper, entered), result)
     }
 

@@ -23,7 +23,7 @@ use crate::desk::Desk;
 use crate::permit::{BlankLedgers, Permits};
 use crate::ticket::Ticket;
 use gx_answers::{AccessGate, LoginAnswer, Outcome, Pulled, StepFault};
-use gx_door::{Caller, Dial, Door, PullFault};
+use gx_door::{Caller, Dial, Door, Matched, PullFault, Turned};
 use gx_history::record::{Record, Request};
 use gx_pass::{Blank, GateName, PassFault};
 use gx_policy::Policy;
@@ -220,6 +220,38 @@ impl<G: AccessGate, N: GateName> Door for SharedGate<G, N> {
     ) -> (Ticket<N>, Result<Option<Outcome>, StepFault>) {
         let Ticket { pass, mut share } = pass;
         let (pass, result) = self.desk.lock(rt).match_one(pass, &mut share, moment);
+        (Ticket { pass, share }, result)
+    }
+
+    fn match_some<R: Wait + Dial>(
+        &self,
+        rt: &R,
+        pass: Ticket<N>,
+        moment: Moment,
+        most: u64,
+    ) -> (Ticket<N>, Matched) {
+        let Ticket { pass, mut share } = pass;
+        let (pass, matched) = self
+            .desk
+            .lock(rt)
+            .match_some(pass, &mut share, moment, most);
+        (Ticket { pass, share }, matched)
+    }
+
+    fn turn<R: Wait + Dial>(
+        &self,
+        rt: &R,
+        pass: Ticket<N>,
+        user: UserName,
+        request: Request,
+        moment: Moment,
+        most: u64,
+    ) -> (Ticket<N>, Result<Turned, StepFault>) {
+        let Ticket { pass, mut share } = pass;
+        let (pass, result) = self
+            .desk
+            .lock(rt)
+            .turn(pass, &mut share, user, request, moment, most);
         (Ticket { pass, share }, result)
     }
 

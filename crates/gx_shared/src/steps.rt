@@ -11,10 +11,11 @@ ghost use Rattle.gx_pass.specs.Rules.{Has};
 ghost use Rattle.gx_pass.specs.Views.{holds, keeps, without};
 ghost use Rattle.gx_door.specs.declared.fault.PullFault.TheVariants as pull_faults;
 ghost use Rattle.gx_door.specs.Acts.{asked_on, IsPulled, IsToldFull, MayBeRefused};
+ghost use Rattle.gx_door.specs.Matching.{AddsMatches, EndsSo};
 
 use crate::counting::CountingKeeper;
 use gx_answers::{AccessGate, Outcome, Pulled, StepFault, record_of, record_of_match};
-use gx_door::PullFault;
+use gx_door::{MatchEnd, Matched, PullFault, Turned};
 use gx_history::record::{Asked, Request};
 use gx_pass::{Entered, GateName, Pass};
 use gx_units::{Moment, UserName};
@@ -104,6 +105,80 @@ pub fn match_one<G: AccessGate, N: GateName>(
     };
     keeper.note(share, record_of_match(handed, outcome));
     Ok(Some(outcome))
+}
+
+/// Makes matching steps, until no order waits, one is refused, or so many were made. The keeper notes their records, which
+/// are of no line, and they are counted in the share.
+#[tactic(auto, using(crate::proofs::Matchings::none_made, crate::proofs::Matchings::one_more, crate::proofs::Matchings::no_more))]
+pub fn match_some<G: AccessGate, N: GateName>(
+    gate: &mut G,
+    keeper: &mut CountingKeeper<N>,
+    share: &mut Share<N>,
+    handed: Moment,
+    most: u64,
+) -> Matched
+    requires part { 0 < share.old.parts }
+    requires history { keeper.old.list ≡ (G.seen gate.old).records }
+    ensures policy { (G.seen gate.new).policy ≡ (G.seen gate.old).policy }
+    ensures made { AddsMatches handed result.made
+        (G.seen gate.old).records (G.seen gate.new).records }
+    ensures ended { EndsSo result.end (G.seen gate.new) result.made most }
+    ensures keeper { keeper.new
+        ≡ keeps (G.seen gate.new).records keeper.old.hand keeper.old.issued }
+    ensures adds { share.new.amount ≡ share.old.amount + result.made }
+    ensures parts { share.new.parts ≡ share.old.parts }
+{
+    let mut made = 0;
+    while made < most {
+        match match_one(gate, keeper, share, handed) {
+            Ok(Some(_)) => made += 1,
+            Ok(None) => return Matched {
+                made,
+                end: MatchEnd::Idle,
+            },
+            Err(fault) => return Matched {
+                made,
+                end: MatchEnd::Refused(fault),
+            },
+        }
+    }
+    Matched {
+        made,
+        end: MatchEnd::Enough,
+    }
+}
+
+/// Makes the request's step, and matching steps behind it, none where it is refused. The keeper, which has its line in hand,
+/// notes the records, and they are counted in the share.
+pub fn turn<G: AccessGate, N: GateName>(
+    gate: &mut G,
+    keeper: &mut CountingKeeper<N>,
+    share: &mut Share<N>,
+    asked: Asked,
+    most: u64,
+) -> Result<Turned, StepFault>
+    requires part { 0 < share.old.parts }
+    requires askable { IsTrue (is_askable asked) }
+    requires line { Has keeper.old.hand asked.line }
+    requires history { keeper.old.list ≡ (G.seen gate.old).records }
+    ensures policy { (G.seen gate.new).policy ≡ (G.seen gate.old).policy }
+    ensures done { IfOk result (λ t. AddsMatches asked.handed t.matched.made
+        (with_record (G.seen gate.old) asked t.outcome) (G.seen gate.new).records) }
+    ensures ended { IfOk result (λ t.
+        EndsSo t.matched.end (G.seen gate.new) t.matched.made most) }
+    ensures refused { OnErr result (G.seen gate.new ≡ G.seen gate.old) }
+    ensures never_refused { OnErr result (MayBeRefused (G.seen gate.new) asked) }
+    ensures full { IfErr result (IsToldFull (G.seen gate.new)) }
+    ensures keeper { keeper.new
+        ≡ keeps (G.seen gate.new).records keeper.old.hand keeper.old.issued }
+    ensures adds { IfOk result (λ t.
+        share.new.amount ≡ share.old.amount + 1 + t.matched.made) }
+    ensures adds_none { OnErr result (share.new.amount ≡ share.old.amount) }
+    ensures parts { share.new.parts ≡ share.old.parts }
+{
+    let outcome = step(gate, keeper, share, asked)?;
+    let matched = match_some(gate, keeper, share, asked.handed, most);
+    Ok(Turned { outcome, matched })
 }
 
 /// The reports of a user who is logged in on the line, from this number on, at most so many.

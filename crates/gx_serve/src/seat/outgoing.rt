@@ -141,6 +141,11 @@ impl Fetched {
     {
         &self.pulled
     }
+
+    /// Whether they are all that there were, and the day goes on behind them.
+    pub fn is_all(&self) -> bool {
+        (self.pulled.reports.as_slice().len() as u64) < BATCH && !self.pulled.ended
+    }
 }
 
 /// What became of a login.

@@ -1,0 +1,37 @@
+-- What matching steps add, and why no more were made.
+use Rattle.std.specs.Prelude.{◌≡◌, ◌≤◌, ℕ, List, [], ◌∷◌, ◌++◌, map, length, IsTrue, None, is_some}
+use mathlib.Core.List.{IsPrefix}
+use Rattle.gx_history.specs.declared.record.RecordData.{RecordData}
+use Rattle.gx_answers.specs.declared.outcome.Outcome.{Outcome}
+use Rattle.gx_answers.specs.Gates.{GateData, matched_by}
+use Rattle.gx_answers.specs.Matches.{matching_of}
+use Rattle.gx_pass.specs.declared.view.Holds.{Holds}
+use Rattle.gx_pass.specs.Views.{mine}
+use Rattle.gx_door.specs.Acts.{IsToldFull}
+use Rattle.gx_door.specs.declared.matched.MatchEnd.{MatchEnd}
+use Rattle.gx_door.specs.declared.matched.MatchEnd.TheVariants as ends
+
+-- the records of so many matching steps were added, all handed in at this moment
+pub record AddsMatches (moment made : ℕ) (earlier later : List RecordData) : Type 0 where
+  pub outcomes : List Outcome
+  pub behind : later ≡ earlier ++ map (matched_by moment) outcomes
+  pub count : length outcomes ≡ made
+
+-- they stand behind all that had been met
+pub record Matches (was is : Holds) (moment made : ℕ) : Type 0 where
+  pub earlier : List RecordData
+  pub begins : IsPrefix was.front earlier
+  pub adds : AddsMatches moment made earlier is.front
+
+-- the record stands behind all that had been met, and these behind it; it is one more of the pass's own, and they are not
+pub record Turns (was is : Holds) (r : RecordData) (moment made : ℕ) : Type 0 where
+  pub earlier : List RecordData
+  pub begins : IsPrefix was.front earlier
+  pub adds : AddsMatches moment made (earlier ++ r ∷ []) is.front
+  pub own : mine is ≡ mine was ++ r ∷ []
+
+-- of at most so many matching steps so many were made, at a gate that is this behind them, and this is why no more
+abbrev pub EndsSo : MatchEnd → GateData → ℕ → ℕ → Type 0
+EndsSo ends.Idle gate made most = (made ≤ most) × (matching_of gate ≡ None)
+EndsSo ends.Enough gate made most = made ≡ most
+EndsSo (ends.Refused fault) gate made most = (made ≤ most) × IsTrue (is_some (matching_of gate)) × IsToldFull gate fault
