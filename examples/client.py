@@ -212,7 +212,7 @@ def dollars(units: int) -> str:
 
 
 def clock(timestamp: int) -> str:
-    """Nanoseconds past midnight as a time of day, UTC."""
+    """Nanoseconds past midnight as a time, whose hours go on past 24."""
     seconds, nanos = divmod(timestamp, 1_000_000_000)
     minutes, second = divmod(seconds, 60)
     hour, minute = divmod(minutes, 60)

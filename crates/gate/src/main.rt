@@ -12,8 +12,10 @@ use clap::error::ErrorKind as UsageFault;
 use ending::{Ended, Place, tell};
 use gx_answers::AccessGate;
 use gx_audit::{AuditAnswer, Choice, more_of_audit, show_audit, told_of_audit, write_audit};
+use gx_clock::DayClock;
 use gx_command_line::{
-    Asked, AuditFiles, JournalFile, LONGEST_WORD, RunFiles, Serving, Until, Wanted, first_bad_word,
+    Asked, AuditFiles, BadCall, JournalFile, LONGEST_WORD, RunFiles, Serving, Until, Wanted,
+    first_bad_word,
 };
 use gx_core::Gate;
 use gx_devices::Counted;
@@ -25,7 +27,7 @@ use gx_policy::Policy;
 use gx_scripting::run_script;
 use gx_server::{Noted, ProgramFault, migrated_policy, open_gate, policy_for, told_of_policy};
 use gx_shared::{Kept, Served, serve, serve_journaled};
-use gx_units::OutOfMemory;
+use gx_units::{Moment, OutOfMemory};
 use keeping::{Day, JournalDevice, take_up, tell_cut};
 use limits::places_for;
 use std::alloc::Global;
@@ -40,6 +42,9 @@ use std::{fs, io, thread};
 
 /// The moment of a connection's first packet.
 const FIRST_MOMENT: u64 = 1;
+
+/// That of the last record of a day that has none.
+const NO_MOMENT: Moment = 0;
 
 /// The words of the command line; `None` where one is not UTF-8.
 fn words_of(rt: &HostRuntime) -> Result<Option<Vec<String>>, OutOfMemory> {
@@ -212,11 +217,13 @@ fn end_with_input<R: Threads>(
     }
 }
 
-/// Listens for connections, and tells so: the listener, and the lobby of the server, which ends as was asked for.
+/// Listens for connections, and tells so: the listener, and the lobby of the server, which ends as was asked for. Its clock
+/// begins, no earlier than at the moment `last`.
 fn open_lobby<'a, R>(
     rt: &R,
     host: &HostRuntime,
     serving: &Serving<'a>,
+    last: Moment,
 ) -> Result<(TcpListener, Arc<Lobby, Global>), Ended<'a>>
 where
     R: Net<Listener = TcpListener, Stream = TcpStream> + Threads + Wait + Clock + Eprint + Sync,
@@ -224,7 +231,8 @@ where
     let listener = listen(rt, serving.port)?;
     let alloc = host.alloc();
     let places = places_for(host, serving.at_once);
-    let lobby = Lobby::new(alloc, places, u64::from(serving.login_within));
+    let clock = DayClock::begin(rt, serving.midnight, last);
+    let lobby = Lobby::new(alloc, clock, places, u64::from(serving.login_within));
     let Ok(lobby) = Arc::new(alloc, lobby) else {
         return Err(OutOfMemory.into());
     };
@@ -245,7 +253,7 @@ fn serve_on<'a, R>(
 where
     R: Net<Listener = TcpListener, Stream = TcpStream> + Threads + Wait + Clock + Eprint + Sync,
 {
-    let (listener, lobby) = open_lobby(rt, host, serving)?;
+    let (listener, lobby) = open_lobby(rt, host, serving, NO_MOMENT)?;
     let connections = connections_of(serving.until);
     Ok(serve(rt, host.alloc(), policy, &lobby, listener, connections)?)
 }
@@ -284,7 +292,7 @@ where
     R: Net<Listener = TcpListener, Stream = TcpStream> + Threads + Wait + Clock + Eprint + Sync,
 {
     let Day { gate, cut, device } = day;
-    match open_lobby(rt, host, serving) {
+    match open_lobby(rt, host, serving, gate.last_moment()) {
         Ok((listener, lobby)) => {
             let count = gate.length();
             tell_cut(host, count, cut);
@@ -527,7 +535,11 @@ fn asked_of<'a>(rt: &HostRuntime, words: &'a [String]) -> Result<Asked<'a>, Exit
     match gx_command_line::read(rt.alloc(), words) {
         Ok(Some(asked)) => Ok(asked),
         Ok(None) => Err(ExitCode::SUCCESS),
-        Err(error) => Err(tell_usage(rt, &error)),
+        Err(BadCall::Words(error)) => Err(tell_usage(rt, &error)),
+        Err(BadCall::Midnight(bad)) => {
+            let _ = eprint!(rt; "{bad}");
+            Err(ExitCode::from(2))
+        }
     }
 }
 

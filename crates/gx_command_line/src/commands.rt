@@ -54,6 +54,8 @@ enum Kind {
     Port,
     /// An option with a number from 1 to the most, and the one that holds without it.
     Count(i64, &'static [&'static str]),
+    /// An option with an offset from UTC, which may begin with `-`, and the one that holds without it.
+    Offset(&'static [&'static str]),
     /// An option with nothing, which stands beside the option of this name.
     FlagBeside(&'static str),
     /// An option with nothing, which stands in place of the option of this name.
@@ -113,6 +115,9 @@ const POLICY_FILE: Argument = Argument {
     help: "The policy file to read",
 };
 
+/// The name of the option `--midnight`, whose value is read by itself.
+pub(crate) const MIDNIGHT: &str = "midnight";
+
 const PIPE: Subcommand = Subcommand {
     name: "pipe",
     about: "Serves one SoupBinTCP connection: client packets on standard input, server packets on standard output",
@@ -154,6 +159,13 @@ const SERVE: Subcommand = Subcommand {
             value: "S",
             kind: Kind::Count(15, &["10"]),
             help: "Hang up on a connection that has not logged in S seconds after it came",
+        },
+        Argument {
+            name: MIDNIGHT,
+            value: "OFFSET",
+            kind: Kind::Offset(&["+00:00"]),
+            help: "How far local time is from UTC, as -05:00, at most 14 hours: timestamps count from \
+                   the last local midnight before the start, and go on past the next",
         },
         Argument {
             name: "journal",
@@ -245,6 +257,7 @@ fn build_argument<'a>(alloc: Global, asked: &Argument) -> Result<Arg<'a>, AllocE
         Kind::Text => Ok(made.long(asked.name).value_name(asked.value)),
         Kind::Port => Ok(number(made.required(true), asked, 65_535)),
         Kind::Count(most, default) => Ok(number(made.default_values(default), asked, most)),
+        Kind::Offset(default) => Ok(offset(made.default_values(default), asked)),
         Kind::FlagBeside(other) => flag(made, asked).requires_arg(other),
         Kind::FlagInPlaceOf(other) => flag(made, asked).conflicts_with(other),
     }
@@ -253,6 +266,13 @@ fn build_argument<'a>(alloc: Global, asked: &Argument) -> Result<Arg<'a>, AllocE
 /// The argument as an option with nothing behind it.
 fn flag<'a>(made: Arg<'a>, asked: &Argument) -> Arg<'a> {
     made.long(asked.name).action(ArgAction::SetTrue)
+}
+
+/// The argument as an option with an offset from UTC.
+fn offset<'a>(made: Arg<'a>, asked: &Argument) -> Arg<'a> {
+    made.long(asked.name)
+        .value_name(asked.value)
+        .allow_hyphen_values(true)
 }
 
 /// The argument as an option with a number from 1 on.

@@ -2,10 +2,13 @@
 #![tactic(auto)]
 
 mod commands;
+mod midnight;
 mod words;
 
 use clap::{ArgMatches, Error};
-use commands::command_line;
+use commands::{MIDNIGHT, command_line};
+use gx_clock::UtcOffset;
+pub use midnight::BadOffset;
 use std::alloc::Global;
 pub use words::{BadWord, LONGEST_WORD, first_bad_word};
 
@@ -40,6 +43,8 @@ pub struct Serving<'a> {
     pub at_once: u16,
     /// How many seconds a connection has for its login.
     pub login_within: u16,
+    /// How far from UTC the midnight is that moments count from.
+    pub midnight: UtcOffset,
     /// The journal of the day, if one is kept.
     pub journal: Option<JournalFile<'a>>,
 }
@@ -90,6 +95,21 @@ pub enum Asked<'a> {
     Show(AuditFiles<'a>, Wanted<'a>),
 }
 
+/// Why the words of a call ask for nothing.
+#[derive(Drop)]
+pub enum BadCall<'a> {
+    /// What `clap` says: what is wrong with the words, the help or the version that they ask for, or that memory was refused.
+    Words(Error),
+    /// What `--midnight` is given is no offset.
+    Midnight(BadOffset<'a>),
+}
+
+impl<'a> From<Error> for BadCall<'a> {
+    fn from(error: Error) -> BadCall<'a> {
+        BadCall::Words(error)
+    }
+}
+
 /// The files of a run.
 fn run_files<'a>(given: &ArgMatches<'a>) -> RunFiles<'a> {
     RunFiles {
@@ -106,6 +126,7 @@ fn server_options<'a>(given: &ArgMatches<'a>) -> Option<Serving<'a>> {
         until: end_of_server(given)?,
         at_once: given.get_one::<u16>("connections-at-once")?,
         login_within: given.get_one::<u16>("login-within")?,
+        midnight: UtcOffset::parse(given.get_str(MIDNIGHT)?)?,
         journal: journal_file(given),
     })
 }
@@ -158,9 +179,22 @@ fn asked_for<'a>(given: &ArgMatches<'a>) -> Option<Asked<'a>> {
     }
 }
 
-/// What the words of a call ask for, the program's name being the first. The error is `clap`'s: what is wrong with the
-/// words, the help or the version that they ask for, or that memory was refused.
-pub fn read<'a>(alloc: Global, words: &'a [String]) -> Result<Option<Asked<'a>>, Error> {
-    let given = command_line(alloc)?.try_get_matches_from(words)?;
-    Ok(asked_for(&given))
+/// The value of `--midnight`, where one is given that is no offset.
+fn bad_midnight<'a>(given: &ArgMatches<'a>) -> Option<BadOffset<'a>> {
+    let (_name, given) = given.subcommand()?;
+    BadOffset::of(given.get_str(MIDNIGHT)?)
+}
+
+/// The words of a call, as the command line has them.
+fn matches_of<'a>(alloc: Global, words: &'a [String]) -> Result<ArgMatches<'a>, Error> {
+    command_line(alloc)?.try_get_matches_from(words)
+}
+
+/// What the words of a call ask for, the program's name being the first.
+pub fn read<'a>(alloc: Global, words: &'a [String]) -> Result<Option<Asked<'a>>, BadCall<'a>> {
+    let given = matches_of(alloc, words)?;
+    match bad_midnight(&given) {
+        Some(bad) => Err(BadCall::Midnight(bad)),
+        None => Ok(asked_for(&given)),
+    }
 }

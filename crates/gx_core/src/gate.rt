@@ -186,7 +186,7 @@ impl Gate {
 
     /// The moment of the last record; 0 where there is none.
     #[tactic(auto, using(crate::proofs::Judged::moment_is_known))]
-    pub(crate) fn last_moment(&self) -> Moment
+    pub fn last_moment(&self) -> Moment
         ensures { result ≡ last_moment self.now.records }
     {
         self.keepers.day.last_moment()

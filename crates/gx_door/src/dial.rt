@@ -9,7 +9,7 @@ pub trait Dial {
     // It has shown this moment.
     ghost shown: { ℕ → Type 0 };
 
-    /// The moment now: nanoseconds past midnight UTC.
+    /// The moment now: nanoseconds past the midnight that the day began with.
     fn moment(&self) -> Moment
         ensures { shown result };
 }

@@ -1,9 +1,10 @@
 //! The clock that a server hands its steps in by.
 
-ghost use Rattle.std.specs.Prelude.{◌<◌};
+ghost use Rattle.std.specs.Prelude.{◌≤◌};
+ghost use Rattle.gx_clock.specs.Moments.{last_shown};
 
+use gx_clock::DayClock;
 use gx_door::Dial;
-use gx_lobby::now;
 use gx_units::Moment;
 use std::fmt::Display;
 use std::io;
@@ -11,21 +12,22 @@ use std::sync::Wait;
 use std::thread::Threads;
 use std::time::{Clock, Duration};
 
-/// A runtime whose clock tells the moments of a day.
+/// A runtime by whose clock a day goes on.
 pub(crate) struct Dated<'x, R> {
     rt: &'x R,
+    clock: &'x DayClock,
 }
 
 impl<'x, R> Dated<'x, R> {
-    /// The runtime.
-    pub(crate) fn new(rt: &'x R) -> Dated<'x, R> {
-        Dated { rt }
+    /// The runtime, by the clock of a day.
+    pub(crate) fn new(rt: &'x R, clock: &'x DayClock) -> Dated<'x, R> {
+        Dated { rt, clock }
     }
 }
 
 impl<R> Drop for Dated<'_, R> {
     fn drop(self) {
-        let Dated { rt: _ } = self;
+        let Dated { rt: _, clock: _ } = self;
     }
 }
 
@@ -58,9 +60,12 @@ impl<R: Eprint> Eprint for Dated<'_, R> {
 }
 
 impl<R: Clock> Dial for Dated<'_, R> {
-    ghost shown = { λ moment. moment < 86400000000000 };
+    ghost shown = { λ moment. moment ≤ last_shown };
 
-    fn moment(&self) -> Moment {
-        now(self.rt)
+    fn moment(&self) -> Moment
+        ensures shown { result ≤ last_shown }
+        ensures from { self.now.clock.now.start ≤ result }
+    {
+        self.clock.now(self.rt)
     }
 }

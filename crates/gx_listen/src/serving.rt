@@ -210,8 +210,12 @@ fn run<
     connections: u64,
 ) -> Result<(T, Ending), Unserved> {
     thread::scope(thread::scope_env(), rt, |scope| {
-        let Ok(matcher) = (&*scope).spawn(move || match_on(&Dated::new(rt), door, lobby, pass))
-        else {
+        let Ok(matcher) = (&*scope).spawn(move || match_on(
+            &Dated::new(rt, &lobby.clock),
+            door,
+            lobby,
+            pass,
+        )) else {
             return Err(Unserved::of_fault(ServeFault::OutOfMemory));
         };
         let taken = take_watched(rt, alloc, door, reception, lobby, listener, connections);

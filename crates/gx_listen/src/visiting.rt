@@ -90,7 +90,7 @@ fn turn_stranger_away<D: Door, A: Admits<D>, R: Wait + Clock>(
         return Gone::Quietly;
     }
     turn_away(
-        &Dated::new(hall.rt),
+        &Dated::new(hall.rt, &hall.lobby.clock),
         hall.alloc,
         hall.door,
         &hall.lobby.stop,
@@ -112,7 +112,7 @@ fn serve_user<D: Door + Sync, A, R: Threads + Wait + Clock + Sync>(
 where
     D::Ticket: Send,
 {
-    let rt = &Dated::new(hall.rt);
+    let rt = &Dated::new(hall.rt, &hall.lobby.clock);
     let link = Link::new(rt, pass, caller);
     let (_hung_up, listening) = converse(
         rt,

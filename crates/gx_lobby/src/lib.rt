@@ -1,12 +1,11 @@
-//! What the threads of a server share beside its gate: the matcher's bell, the writers' chimes, the places for connections, who has not logged
-//! in, how often wrong passwords were given, what went wrong at the door, and whether the server is to end. And what its
-//! threads look at: the clock, what a writer has seen of the records, who is connected.
+//! What the threads of a server share beside its gate: the clock, the matcher's bell, the writers' chimes, the places for
+//! connections, who has not logged in, how often wrong passwords were given, what went wrong at the door, and whether the
+//! server is to end. And what its threads look at: what a writer has seen of the records, who is connected.
 #![tactic(auto)]
 
 mod attempts;
 mod bell;
 mod chime;
-mod clock;
 mod lobby;
 mod newcomers;
 mod peer;
@@ -18,7 +17,6 @@ mod watch;
 pub use attempts::Attempts;
 pub use bell::{Bell, Heard, Rung};
 pub use chime::{Bells, Chime, Chimes};
-pub use clock::now;
 pub use lobby::Lobby;
 pub use newcomers::Newcomers;
 pub use peer::{Peer, words_of};

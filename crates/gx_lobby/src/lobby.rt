@@ -7,11 +7,14 @@ use crate::newcomers::Newcomers;
 use crate::places::Places;
 use crate::stop::Stop;
 use crate::tally::Tally;
+use gx_clock::DayClock;
 use std::alloc::Global;
 
 /// What the threads of a server share beside its gate.
 #[derive(Drop)]
 pub struct Lobby {
+    /// Shows the moments of the day.
+    pub clock: DayClock,
     /// Wakes the matcher.
     pub bell: Bell,
     /// Wakes who keeps what is done.
@@ -31,10 +34,11 @@ pub struct Lobby {
 }
 
 impl Lobby {
-    /// The lobby of one run of a server, with so many places for connections at once, each of which has so many seconds
-    /// for its login.
-    pub fn new(alloc: Global, at_once: u16, login_within: u64) -> Lobby {
+    /// The lobby of one run of a server by this clock, with so many places for connections at once, each of which has so
+    /// many seconds for its login.
+    pub fn new(alloc: Global, clock: DayClock, at_once: u16, login_within: u64) -> Lobby {
         Lobby {
+            clock,
             bell: Bell::new(),
             keeping: Bell::new(),
             chimes: Chimes::new(alloc),

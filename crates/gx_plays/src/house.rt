@@ -2,6 +2,7 @@
 
 use crate::clock::{Looks, PlayClock};
 use crate::peer::Peer;
+use gx_clock::{DayClock, UtcOffset};
 use gx_lobby::Lobby;
 use std::alloc::Global;
 
@@ -39,7 +40,12 @@ impl<'x, D, A, R> House<'x, D, A, R> {
             reception,
             clock: PlayClock::new(),
             looks: Looks::new(),
-            lobby: Lobby::new(alloc, PLACES, LOGIN_WITHIN),
+            lobby: Lobby::new(
+                alloc,
+                DayClock::at(UtcOffset::UTC, None, None, 0),
+                PLACES,
+                LOGIN_WITHIN,
+            ),
         }
     }
 }

@@ -1,0 +1,5 @@
+use Rattle.gx_clock.proofs.Going.{behind}
+use Rattle.gx_clock.proofs.laws.local_time_is_behind.Goals as goal
+
+pub returns : goal.returns
+returns c = behind

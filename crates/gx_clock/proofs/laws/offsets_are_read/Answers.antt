@@ -1,0 +1,5 @@
+use Rattle.gx_clock.proofs.Reading.{offset_read}
+use Rattle.gx_clock.proofs.laws.offsets_are_read.Goals as goal
+
+pub returns : goal.returns
+returns c = offset_read

@@ -1,0 +1,44 @@
+-- Moments of a server's day, in nanoseconds past its midnight.
+use Rattle.std.specs.Prelude.{ℕ, ◌+◌, ◌-◌, ◌*◌, ◌%◌, min, max, Option, Some, None, ◌≡◌}
+use Rattle.gx_clock.specs.declared.offset.UtcOffset.{UtcOffset}
+use Rattle.gx_clock.specs.declared.offset.UtcOffset.TheVariants as offsets
+
+-- the nanoseconds of a minute, and of a day
+abbrev pub minute : ℕ
+minute = 60000000000
+
+abbrev pub day : ℕ
+day = 86400000000000
+
+-- the last moment that a clock shows: three days behind its midnight, less a nanosecond
+abbrev pub last_shown : ℕ
+last_shown = 3 * day - 1
+
+-- by how much local time is ahead of UTC, less whole days
+abbrev pub ahead : UtcOffset → ℕ
+ahead (offsets.Ahead minutes) = minutes * minute
+ahead (offsets.Behind minutes) = day - minutes * minute % day
+
+-- how long ago local midnight was, so many nanoseconds behind the beginning of 1970 in UTC
+abbrev pub moment_of_day : UtcOffset → ℕ → ℕ
+moment_of_day offset since = (since + ahead offset) % day
+
+-- a clock began at one reading, at the moment `start`: the moment at another reading
+abbrev pub moment_at : ℕ → ℕ → ℕ → ℕ
+moment_at start begun now = min (start + (now - begun)) last_shown
+
+-- the first moment of a run: that of the wall clock, or 0 where that can't be read, but no earlier than the day's last
+-- record
+abbrev pub first_moment : UtcOffset → Option ℕ → ℕ → ℕ
+first_moment offset (Some since) last = min (max (moment_of_day offset since) last) last_shown
+first_moment offset None last = min last last_shown
+
+-- what contracts see of a clock: its first moment, and what the monotonic clock read then, if it could be read
+pub record ClockData : Type 0 where
+  pub start : ℕ
+  pub begun : Option ℕ
+
+-- the moment that a clock shows at a reading; where there is none, it is not said which
+abbrev pub IsShown : ClockData → Option ℕ → ℕ → Type 0
+IsShown clock reading moment =
+    (begun now : ℕ) → clock.begun ≡ Some begun → reading ≡ Some now → moment ≡ moment_at clock.start begun now

@@ -1,0 +1,33 @@
+//! What holds of all offsets and moments, as functions that do nothing.
+
+ghost use Rattle.std.specs.Prelude.{◌≡◌, ℕ, ◌+◌, ◌*◌, ◌%◌, ◌≤◌, List, Some};
+ghost use Rattle.gx_clock.specs.declared.offset.UtcOffset.{UtcOffset};
+ghost use Rattle.gx_clock.specs.declared.offset.UtcOffset.TheVariants as offsets;
+ghost use Rattle.gx_clock.specs.Moments.{day, minute, moment_at, moment_of_day};
+ghost use Rattle.gx_clock.specs.Offsets.{minutes_in, most_minutes, offset_of, written};
+
+/// An offset of at most 14 hours is read from its text.
+pub fn offsets_are_read()
+    ensures { (offset : UtcOffset) → minutes_in offset ≤ most_minutes
+        → offset_of (written offset) ≡ Some offset }
+{}
+
+/// Behind UTC a moment is earlier by the offset, on whatever day.
+pub fn local_time_is_behind()
+    ensures { (minutes since : ℕ) →
+        (moment_of_day (offsets.Behind minutes) since + minutes * minute) % day ≡ since % day }
+{}
+
+/// A later reading shows no earlier moment.
+pub fn moments_go_on()
+    ensures { (start begun now later : ℕ) → now ≤ later
+        → moment_at start begun now ≤ moment_at start begun later }
+{}
+
+/// What is read as an offset is its text, and it is of at most 14 hours.
+pub fn no_other_text_is_read()
+    ensures few { (text : List ℕ) (offset : UtcOffset) → offset_of text ≡ Some offset
+        → minutes_in offset ≤ most_minutes }
+    ensures text { (text : List ℕ) (offset : UtcOffset) → offset_of text ≡ Some offset
+        → text ≡ written offset }
+{}
