@@ -6,6 +6,7 @@ use gx_listen::ServeFault;
 use gx_pass::PassFault;
 use gx_pipe::PipeFault;
 use gx_server::{Device, ProgramFault};
+use gx_shortened::Shortened;
 use gx_units::OutOfMemory;
 use std::process::ExitCode;
 use std::{fmt, io};
@@ -26,7 +27,10 @@ pub(crate) enum Place<'a> {
 impl fmt::Display for Place<'_> {
     fn fmt<W: fmt::Write>(&self, f: &mut fmt::Formatter<W>) -> fmt::Result {
         match self {
-            Place::File(name) => f.write_str(name),
+            Place::File(name) => {
+                let name = Shortened::of(name);
+                write!(f, "{name}")
+            }
             Place::Input => f.write_str("standard input"),
             Place::Output => f.write_str("standard output"),
             Place::Address => f.write_str("127.0.0.1"),
@@ -174,6 +178,8 @@ fn tell_more(rt: &HostRuntime, ended: &Ended) {
         | ProgramFault::Pipe(_)
         | ProgramFault::Journal(_)
         | ProgramFault::JournalInUse
+        | ProgramFault::AuditInUse
+        | ProgramFault::OneFile(_)
         | ProgramFault::NoLines => {}
     }
     if let Some(error) = ended.said {

@@ -3,33 +3,36 @@
 ghost use Rattle.std.specs.Prelude.{◌-◌, ◌^◌, ◌<◌};
 
 use crate::ending::{Ended, Place};
+use crate::files::{Content, look_before, read_file};
 use gx_answers::AccessGate;
 use gx_audit::{Resumed, resume};
 use gx_audit_bytes::write_header;
 use gx_command_line::JournalFile;
 use gx_core::Gate;
 use gx_devices::{Counted, write_whole};
+use gx_files::Watched;
 use gx_policy::Policy;
 use gx_server::{Noted, ProgramFault};
 use std::fs::{File, OpenOptions, TryLockError};
 use std::io::Write;
 use std::{fs, io};
 
-/// The file of a journal. A flush forces it to the disk, where that was asked for.
+/// The file of a journal, which no other program may make longer or shorter. A flush forces it to the disk, where that was
+/// asked for.
 #[derive(Drop)]
 pub(crate) struct JournalDevice {
-    file: File,
+    watched: Watched<File>,
     is_synced: bool,
 }
 
 impl Write for JournalDevice {
     fn write(&mut self, buf: &[u8]) -> io::Result<usize> {
-        self.file.write(buf)
+        self.watched.write(buf)
     }
 
     fn flush(&mut self) -> io::Result<()> {
         if self.is_synced {
-            self.file.sync_data()
+            self.watched.file.sync_data()
         } else {
             Ok(())
         }
@@ -46,8 +49,9 @@ pub(crate) struct Day {
     pub(crate) device: Noted<JournalDevice>,
 }
 
-/// Opens the file of a journal, for this program alone.
-fn open_file<'a>(rt: &HostRuntime, path: &'a str) -> Result<File, Ended<'a>> {
+/// Opens the file of a journal, for this program alone, and leaves it as it is.
+pub(crate) fn open_journal<'a>(rt: &HostRuntime, path: &'a str) -> Result<File, Ended<'a>> {
+    look_before(rt, path, Content::Records)?;
     let mut options = OpenOptions::new();
     options.read(true).append(true).create(true);
     let file = match options.open(rt, path) {
@@ -66,14 +70,21 @@ fn read_day<'a>(
     rt: &HostRuntime,
     policy: &Policy,
     path: &'a str,
+    file: &File,
 ) -> Result<(Resumed<Gate>, u64), Ended<'a>> {
-    let bytes = match fs::read(rt, path) {
-        Ok(bytes) => bytes,
-        Err(error) => return Err(Ended::unread(path, error)),
-    };
+    let bytes = read_file(rt, path, Content::Records, file)?;
     match resume(rt.alloc(), policy, bytes.as_slice()) {
         Ok(resumed) => Ok((resumed, bytes.len() as u64)),
         Err(fault) => Err(ProgramFault::from(fault).into()),
+    }
+}
+
+/// Forces the name of a file to the disk: the folder that it stands in.
+fn sync_folder(rt: &HostRuntime, path: &str) -> io::Result<()> {
+    let whole = fs::canonicalize(rt, path)?;
+    match whole.parent() {
+        Some(folder) => File::open(rt, folder)?.sync_all(),
+        None => Ok(()),
     }
 }
 
@@ -86,7 +97,7 @@ fn prepare<'a>(
 ) -> Result<(), Ended<'a>>
     requires { device.old.failed < 2 ^ 64 - 1 }
 {
-    if let Err(error) = device.device().device.file.set_len(kept) {
+    if let Err(error) = device.device().device.watched.file.set_len(kept) {
         return Err(Ended::unwritten(Place::File(path), error));
     }
     if kept > 0 {
@@ -98,20 +109,40 @@ fn prepare<'a>(
     }
 }
 
-/// The day of the journal in the file, which is this program's from now on.
+/// Prepares the journal, and forces its name to the disk, where it is forced there.
+fn prepare_named<'a>(
+    rt: &HostRuntime,
+    policy: &Policy,
+    journal: JournalFile<'a>,
+    kept: u64,
+    device: &mut Counted<Noted<JournalDevice>>,
+) -> Result<(), Ended<'a>>
+    requires { device.old.failed < 2 ^ 64 - 1 }
+{
+    prepare(policy, journal.path, kept, device)?;
+    if !journal.is_synced {
+        return Ok(());
+    }
+    match sync_folder(rt, journal.path) {
+        Ok(()) => Ok(()),
+        Err(error) => Err(Ended::unwritten(Place::File(journal.path), error)),
+    }
+}
+
+/// The day of the journal in its open file, which is this program's from now on.
 pub(crate) fn take_up<'a>(
     rt: &HostRuntime,
     policy: &Policy,
     journal: JournalFile<'a>,
+    file: File,
 ) -> Result<Day, Ended<'a>> {
-    let file = open_file(rt, journal.path)?;
-    let (resumed, length) = read_day(rt, policy, journal.path)?;
+    let (resumed, length) = read_day(rt, policy, journal.path, &file)?;
     let Resumed { gate, kept } = resumed;
     let mut device = Counted::new(Noted::new(JournalDevice {
-        file,
+        watched: Watched { file, length: kept },
         is_synced: journal.is_synced,
     }));
-    match prepare(policy, journal.path, kept, &mut device) {
+    match prepare_named(rt, policy, journal, kept, &mut device) {
         Ok(()) => Ok(Day {
             cut: length.saturating_sub(kept),
             gate,
@@ -121,6 +152,14 @@ pub(crate) fn take_up<'a>(
             gate.close();
             Err(ended)
         }
+    }
+}
+
+/// Whether a journal is as it was left: another program may have changed it behind the last write.
+pub(crate) fn look_back<'a>(path: &'a str, device: &JournalDevice) -> Result<(), Ended<'a>> {
+    match device.watched.check() {
+        Ok(()) => Ok(()),
+        Err(error) => Err(Ended::unwritten(Place::File(path), error)),
     }
 }
 

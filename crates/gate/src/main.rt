@@ -3,15 +3,20 @@
 
 ghost use Rattle.std.specs.Prelude.{◌-◌, ◌^◌, ◌<◌};
 
+mod auditing;
 mod ending;
+mod files;
 mod keeping;
 mod limits;
+mod streams;
 
+use auditing::{AuditFile, close_audited, leave_audit, open_audit};
 use clap::Error;
 use clap::error::ErrorKind as UsageFault;
 use ending::{Ended, Place, tell};
+use files::{Content, Named, bytes_of, tell_apart};
 use gx_answers::AccessGate;
-use gx_audit::{AuditAnswer, Choice, more_of_audit, show_audit, told_of_audit, write_audit};
+use gx_audit::{AuditAnswer, Choice, more_of_audit, show_audit, told_of_audit};
 use gx_clock::DayClock;
 use gx_command_line::{
     Asked, AuditFiles, BadCall, JournalFile, LONGEST_WORD, RunFiles, Serving, Until, Wanted,
@@ -28,17 +33,17 @@ use gx_scripting::run_script;
 use gx_server::{Noted, ProgramFault, migrated_policy, open_gate, policy_for, told_of_policy};
 use gx_shared::{Kept, Served, serve, serve_journaled};
 use gx_units::{Moment, OutOfMemory};
-use keeping::{Day, JournalDevice, take_up, tell_cut};
+use keeping::{Day, JournalDevice, look_back, open_journal, take_up, tell_cut};
 use limits::places_for;
 use std::alloc::Global;
-use std::fs::File;
 use std::io::{ErrorKind, Read, Write};
 use std::net::{Ipv4Addr, Net, SocketAddr, TcpListener, TcpStream};
 use std::process::ExitCode;
 use std::sync::{Arc, Wait};
 use std::thread::Threads;
 use std::time::Clock;
-use std::{fs, io, thread};
+use std::{io, thread};
+use streams::{NULL, StandIns};
 
 /// The moment of a connection's first packet.
 const FIRST_MOMENT: u64 = 1;
@@ -55,52 +60,12 @@ fn words_of(rt: &HostRuntime) -> Result<Option<Vec<String>>, OutOfMemory> {
     }
 }
 
-/// The bytes of a file.
-fn bytes_of<'a>(rt: &HostRuntime, path: &'a str) -> Result<Vec<u8>, Ended<'a>> {
-    match fs::read(rt, path) {
-        Ok(bytes) => Ok(bytes),
-        Err(error) => Err(Ended::unread(path, error)),
-    }
-}
-
 /// The bytes of the policy file that was asked for, if one was.
 fn policy_file<'a>(rt: &HostRuntime, path: Option<&'a str>) -> Result<Option<Vec<u8>>, Ended<'a>> {
     match path {
-        Some(path) => Ok(Some(bytes_of(rt, path)?)),
+        Some(path) => Ok(Some(bytes_of(rt, path, Content::Policy)?)),
         None => Ok(None),
     }
-}
-
-/// Writes the gate's audit to the device of this place.
-fn write_records<'a, W: Write + Drop>(
-    alloc: Global,
-    gate: &Gate,
-    device: W,
-    place: Place<'a>,
-) -> Result<(), Ended<'a>> {
-    let mut writer = Counted::new(Noted::new(device));
-    match write_audit(alloc, gate, &mut writer) {
-        Ok(()) => Ok(()),
-        Err(fault) => Err(Ended::of_writing(fault, place, writer.device().cause)),
-    }
-}
-
-/// Writes the gate's audit, where one is wanted.
-fn keep_audit<'a>(rt: &HostRuntime, gate: &Gate, path: Option<&'a str>) -> Result<(), Ended<'a>> {
-    let Some(path) = path else {
-        return Ok(());
-    };
-    match File::create(rt, path) {
-        Ok(file) => write_records(rt.alloc(), gate, file, Place::File(path)),
-        Err(error) => Err(Ended::unwritten(Place::File(path), error)),
-    }
-}
-
-/// Closes a gate, and writes its audit, where one is wanted.
-fn close_audited<'a>(rt: &HostRuntime, gate: Gate, path: Option<&'a str>) -> Result<(), Ended<'a>> {
-    let kept = keep_audit(rt, &gate, path);
-    gate.close();
-    kept
 }
 
 /// What standard input is.
@@ -139,23 +104,56 @@ fn follow<'a>(rt: &HostRuntime, input: Input, gate: &mut Gate) -> Result<(), End
     }
 }
 
-/// Runs standard input on a gate under a policy file, or under the sample policy, and writes the audit.
-fn follow_under<'a>(
+/// Runs standard input on a gate, and writes the audit.
+fn follow_audited<'a>(
     rt: &HostRuntime,
     input: Input,
-    file: Option<&[u8]>,
-    audit: Option<&'a str>,
+    gate: Gate,
+    audit: Option<AuditFile<'a>>,
 ) -> Result<(), Ended<'a>> {
-    let mut gate: Gate = open_gate(rt.alloc(), file)?;
+    let mut gate = gate;
     let followed = follow(rt, input, &mut gate);
     let kept = close_audited(rt, gate, audit);
     followed.and(kept)
 }
 
+/// Runs standard input on a gate under a policy file, or under the sample policy, and writes the audit.
+fn follow_under<'a>(
+    rt: &HostRuntime,
+    input: Input,
+    file: Option<&[u8]>,
+    named: Named<'a>,
+) -> Result<(), Ended<'a>> {
+    let gate: Gate = open_gate(rt.alloc(), file)?;
+    match open_audit(rt, named) {
+        Ok(audit) => follow_audited(rt, input, gate, audit),
+        Err(ended) => {
+            gate.close();
+            Err(ended)
+        }
+    }
+}
+
+/// The files of a run, of which no two may be one.
+fn names_of<'a>(
+    rt: &HostRuntime,
+    files: RunFiles<'a>,
+    journal: Option<&'a str>,
+) -> Result<Named<'a>, Ended<'a>> {
+    let named = Named {
+        policy: files.policy,
+        journal,
+        audit: files.audit,
+    };
+    tell_apart(rt, named)?;
+    Ok(named)
+}
+
 /// Runs standard input, and writes the audit.
 fn run_files<'a>(rt: &HostRuntime, input: Input, files: RunFiles<'a>) -> Result<(), Ended<'a>> {
+    let named = names_of(rt, files, None)?;
     let file = policy_file(rt, files.policy)?;
-    follow_under(rt, input, file.as_deref(), files.audit)
+    follow_under(rt, input, file.as_deref(), named)
 }
 
 /// The policy of a server or of a check: that of the file that was asked for, if one was.
@@ -272,13 +270,22 @@ fn serve_under<'a, R>(
     host: &HostRuntime,
     policy: &Policy,
     serving: &Serving<'a>,
+    named: Named<'a>,
 ) -> Result<(), Ended<'a>>
 where
     R: Net<Listener = TcpListener, Stream = TcpStream> + Threads + Wait + Clock + Eprint + Sync,
 {
-    let Served { gate, ended } = serve_on(rt, host, policy, serving)?;
-    let audited = close_audited(host, gate, serving.files.audit);
-    served(ended).and(audited)
+    let audit = open_audit(host, named)?;
+    match serve_on(rt, host, policy, serving) {
+        Ok(Served { gate, ended }) => {
+            let audited = close_audited(host, gate, audit);
+            served(ended).and(audited)
+        }
+        Err(ended) => {
+            leave_audit(host, audit);
+            Err(ended)
+        }
+    }
 }
 
 /// Serves connections of a day that goes on, and keeps its records. Tells how the server ended, too.
@@ -329,6 +336,46 @@ fn kept<'a>(
     }
 }
 
+/// How a server ended that kept its records in a journal, once its audit is written.
+fn close_server<'a>(
+    host: &HostRuntime,
+    path: &'a str,
+    left: Kept<Gate, Noted<JournalDevice>>,
+    ended: Ending,
+    audit: Option<AuditFile<'a>>,
+) -> Result<(), Ended<'a>> {
+    let Kept {
+        gate,
+        fault,
+        device,
+    } = left;
+    let audited = close_audited(host, gate, audit);
+    let Noted { device, cause } = device;
+    kept(fault, path, cause)
+        .and(look_back(path, &device))
+        .and(served(ended))
+        .and(audited)
+}
+
+/// The day that a journal holds, and the file of its audit. Nothing is written before all files are seen to differ.
+fn open_day<'a>(
+    host: &HostRuntime,
+    policy: &Policy,
+    journal: JournalFile<'a>,
+    named: Named<'a>,
+) -> Result<(Day, Option<AuditFile<'a>>), Ended<'a>> {
+    let file = open_journal(host, journal.path)?;
+    tell_apart(host, named)?;
+    let audit = open_audit(host, named)?;
+    match take_up(host, policy, journal, file) {
+        Ok(day) => Ok((day, audit)),
+        Err(ended) => {
+            leave_audit(host, audit);
+            Err(ended)
+        }
+    }
+}
+
 /// Serves connections of the day that a journal holds, keeps its records, and writes the audit.
 fn serve_kept<'a, R>(
     rt: &R,
@@ -336,21 +383,19 @@ fn serve_kept<'a, R>(
     policy: &Policy,
     serving: &Serving<'a>,
     journal: JournalFile<'a>,
+    named: Named<'a>,
 ) -> Result<(), Ended<'a>>
 where
     R: Net<Listener = TcpListener, Stream = TcpStream> + Threads + Wait + Clock + Eprint + Sync,
 {
-    let day = take_up(host, policy, journal)?;
-    let (left, ended) = go_on(rt, host, serving, day)?;
-    let Kept {
-        gate,
-        fault,
-        device,
-    } = left;
-    let audited = close_audited(host, gate, serving.files.audit);
-    kept(fault, journal.path, device.cause)
-        .and(served(ended))
-        .and(audited)
+    let (day, audit) = open_day(host, policy, journal, named)?;
+    match go_on(rt, host, serving, day) {
+        Ok((left, ended)) => close_server(host, journal.path, left, ended, audit),
+        Err(ended) => {
+            leave_audit(host, audit);
+            Err(ended)
+        }
+    }
 }
 
 /// Serves connections, and writes the audit.
@@ -358,10 +403,12 @@ fn serve_port<'a, R>(rt: &R, host: &HostRuntime, serving: Serving<'a>) -> Result
 where
     R: Net<Listener = TcpListener, Stream = TcpStream> + Threads + Wait + Clock + Eprint + Sync,
 {
+    let path = serving.journal.map(|journal| journal.path);
+    let named = names_of(host, serving.files, path)?;
     let policy = policy_of(host, serving.files.policy)?;
     match serving.journal {
-        Some(journal) => serve_kept(rt, host, &policy, &serving, journal),
-        None => serve_under(rt, host, &policy, &serving),
+        Some(journal) => serve_kept(rt, host, &policy, &serving, journal, named),
+        None => serve_under(rt, host, &policy, &serving, named),
     }
 }
 
@@ -402,7 +449,7 @@ fn check_under<'a>(
     policy: &Policy,
     path: &'a str,
 ) -> Result<ExitCode, Ended<'a>> {
-    let audit = bytes_of(rt, path)?;
+    let audit = bytes_of(rt, path, Content::Records)?;
     tell_audit(rt, policy, audit.as_slice())
 }
 
@@ -437,7 +484,7 @@ fn show_under<'a>(
     path: &'a str,
     wanted: Wanted,
 ) -> Result<ExitCode, Ended<'a>> {
-    let audit = bytes_of(rt, path)?;
+    let audit = bytes_of(rt, path, Content::Records)?;
     match Choice::named(wanted.account, wanted.user) {
         Some(choice) => show_records(rt, policy, audit.as_slice(), &choice),
         None => Ok(ExitCode::SUCCESS),
@@ -464,14 +511,14 @@ fn print<'a>(rt: &HostRuntime, text: &[u8]) -> Result<(), Ended<'a>> {
 
 /// Tells how much a policy file holds.
 fn policy<'a>(rt: &HostRuntime, path: &'a str) -> Result<(), Ended<'a>> {
-    let bytes = bytes_of(rt, path)?;
+    let bytes = bytes_of(rt, path, Content::Policy)?;
     let line = told_of_policy(rt.alloc(), bytes.as_slice())?;
     print(rt, line.as_slice())
 }
 
 /// Prints a policy file in the newest version.
 fn migrate<'a>(rt: &HostRuntime, path: &'a str) -> Result<(), Ended<'a>> {
-    let bytes = bytes_of(rt, path)?;
+    let bytes = bytes_of(rt, path, Content::Policy)?;
     let text = migrated_policy(rt.alloc(), bytes.as_slice())?;
     print(rt, text.as_slice())
 }
@@ -544,6 +591,10 @@ fn asked_of<'a>(rt: &HostRuntime, words: &'a [String]) -> Result<Asked<'a>, Exit
 }
 
 fn main(rt: HostRuntime) -> ExitCode {
+    let _held = match StandIns::open(&rt) {
+        Ok(opened) => opened,
+        Err(error) => return tell(&rt, Ended::unread(NULL, error)),
+    };
     let words = match words_of(&rt) {
         Ok(Some(words)) => words,
         Ok(None) => return tell_bad_word(&rt),

@@ -1,7 +1,8 @@
 //! Audits: how that of a gate's records is written, what is told of it, as it is and changed, and how it is shown.
 
 use gx_audit::{
-    AuditAnswer, Choice, audit_of, more_of_audit, show_audit, told_of_audit, write_audit,
+    AuditAnswer, AuditingFault, Choice, audit_of, more_of_audit, show_audit, told_of_audit,
+    write_audit,
 };
 use gx_audit_bytes::AuditVersion;
 use gx_core::Gate;
@@ -29,9 +30,14 @@ pub(crate) fn audit_in(
 /// Writes the gate's audit, and tells of it: its bytes, and how that ended.
 pub(crate) fn tell_audit(alloc: Global, out: &mut Told, gate: &Gate, limits: Limits) {
     let mut writer = Counted::new(Sips::new(alloc, limits));
-    let ended = write_audit(alloc, gate, &mut writer);
+    let ended = write_audit(gate, &mut writer);
     let written = writer.into_inner().taken;
-    put_written(alloc, out, written.as_slice(), ended.err())
+    put_written(
+        alloc,
+        out,
+        written.as_slice(),
+        ended.err().map(AuditingFault::from),
+    )
 }
 
 /// Tells the bytes of the gate's audit in version 1.

@@ -1,5 +1,5 @@
 -- What a file holds.
-use Rattle.std.proofs.Common.{◌≡◌, ℕ, ◌+◌, ◌*◌, ◌<◌, Bool, true, List, [], ◌∷◌, ◌++◌, length, take, drop, nat_eq, inr, refl, sym, ap, ◌∙◌, arith, length-append}
+use Rattle.std.proofs.Common.{◌≡◌, ℕ, ◌+◌, ◌*◌, ◌<◌, Bool, true, List, [], ◌∷◌, length, take, drop, nat_eq, inr, refl, sym, ap, ◌∙◌, arith, length-append}
 use Rattle.std.specs.List.{starts_with}
 use Rattle.std.proofs.lemmas.List.{take_at}
 use Rattle.std.proofs.lemmas.Slice.Eq.{starts_is}
@@ -13,7 +13,7 @@ use Rattle.gx_audit_bytes.specs.Records.{record_bytes}
 use Rattle.gx_audit.specs.Replaying.{journal_size, HoldsRecords}
 use Rattle.gx_audit_bytes.proofs.HeaderParts.{header_size}
 use Rattle.gx_audit.proofs.Only.{shown_size}
-use Rattle.gx_audit.specs.Resuming.{IsDay, IsNew, Stands}
+use Rattle.gx_audit.specs.Resuming.{IsNew, Stands}
 
 -- the file is a front of the header
 pub begins_header : (policy : PolicyData) (file header : List ℕ) (answer : Bool) → length file < 128 → header ≡ header_bytes policy → answer ≡ starts_with nat_eq header file → answer ≡ true → IsNew policy file

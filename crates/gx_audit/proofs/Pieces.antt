@@ -1,12 +1,11 @@
 -- An audit, written piece by piece.
-use Rattle.std.proofs.Common.{◌≡◌, ℕ, ◌+◌, ◌≤◌, List, [], ◌∷◌, ◌++◌, Option, length, take, drop, pred, max, refl, sym, ap, ◌∙◌, subst, append_assoc, arith}
+use Rattle.std.proofs.Common.{◌≡◌, ℕ, ◌+◌, ◌≤◌, List, [], ◌∷◌, ◌++◌, Option, length, take, drop, refl, sym, ap, ◌∙◌, subst, append_assoc}
 use Rattle.std.specs.Io.KnownBytes.{Appends}
 use Rattle.std.proofs.KnownBytes.{Appends-nil, Appends-trans}
 use Rattle.std.proofs.Math.Seq.{take-add}
 use Rattle.std.proofs.lemmas.List.{take_all, take-append-drop}
 use Rattle.gx_devices.specs.Devices.{IsFront}
 use Rattle.gx_history.specs.declared.record.RecordData.{RecordData}
-use Rattle.gx_policy.specs.Lists.{slice}
 use Rattle.gx_audit_bytes.specs.declared.version.AuditVersion.TheVariants as versions
 use Rattle.gx_audit_bytes.specs.Audits.{all_bytes}
 use Rattle.gx_audit_bytes.specs.Records.{record_bytes}
@@ -25,18 +24,13 @@ all_joined (x ∷ xs) ys =
 pub none_written : (output : Option (List ℕ)) → Appends output output (all_bytes versions.Two [])
 none_written output = subst (Appends output output) (sym no_bytes) (Appends-nil output)
 
-before : (done : ℕ) → pred (max 1 (done + 1)) ≡ done
-before done = grind arith
-
 -- one more piece is written
-pub piece_written : (a b c : Option (List ℕ)) (records : List RecordData) (done size : ℕ) → Appends a b (all_bytes versions.Two (take done records))
-    → Appends b c (all_bytes versions.Two (slice records (done + 1) size)) → Appends a c (all_bytes versions.Two (take (done + size) records))
-piece_written a b c records done size so_far more =
-    let piece : Appends b c (all_bytes versions.Two (take size (drop done records))) =
-    subst (λ (n : ℕ). Appends b c (all_bytes versions.Two (take size (drop n records)))) (before done) more in
-    let both : all_bytes versions.Two (take done records) ++ all_bytes versions.Two (take size (drop done records)) ≡ all_bytes versions.Two (take (done + size) records) =
-    sym (all_joined (take done records) (take size (drop done records))) ∙ ap (all_bytes versions.Two) (sym (take-add done size records)) in
-    subst (Appends a c) both (Appends-trans a b c (all_bytes versions.Two (take done records)) (all_bytes versions.Two (take size (drop done records))) so_far piece)
+pub piece_written : (a b c : Option (List ℕ)) (records : List RecordData) (done size upto : ℕ) → done + size ≡ upto → Appends a b (all_bytes versions.Two (take done records))
+    → Appends b c (all_bytes versions.Two (take size (drop done records))) → Appends a c (all_bytes versions.Two (take upto records))
+piece_written a b c records done size upto at so_far more =
+    let both : all_bytes versions.Two (take done records) ++ all_bytes versions.Two (take size (drop done records)) ≡ all_bytes versions.Two (take upto records) =
+    sym (all_joined (take done records) (take size (drop done records))) ∙ ap (all_bytes versions.Two) (sym (take-add done size records)) ∙ ap (λ (n : ℕ). all_bytes versions.Two (take n records)) at in
+    subst (Appends a c) both (Appends-trans a b c (all_bytes versions.Two (take done records)) (all_bytes versions.Two (take size (drop done records))) so_far more)
 
 -- all are written
 pub whole_written : (a b : Option (List ℕ)) (records : List RecordData) (done : ℕ) → length records ≤ done → Appends a b (all_bytes versions.Two (take done records)) → Appends a b (all_bytes versions.Two records)
@@ -48,7 +42,7 @@ regrouped a f r z = simp append_assoc
 
 -- a front of one more piece is written
 pub piece_cut : (a b c : Option (List ℕ)) (records : List RecordData) (done size : ℕ) → Appends a b (all_bytes versions.Two (take done records))
-    → IsFront b c (all_bytes versions.Two (slice records (done + 1) size)) → IsFront a c (all_bytes versions.Two records)
+    → IsFront b c (all_bytes versions.Two (take size (drop done records))) → IsFront a c (all_bytes versions.Two records)
 piece_cut a b c records done size so_far cut = record {
   front = all_bytes versions.Two (take done records) ++ cut.front;
   rest = cut.rest ++ all_bytes versions.Two (drop size (drop done records));
@@ -60,14 +54,11 @@ piece_cut a b c records done size so_far cut = record {
       ∙ regrouped (all_bytes versions.Two (take done records)) cut.front cut.rest (all_bytes versions.Two (drop size (drop done records)));
 }
   where
-    piece_is : all_bytes versions.Two (take size (drop done records)) ≡ cut.front ++ cut.rest
-    piece_is = subst (λ (n : ℕ). all_bytes versions.Two (take size (drop n records)) ≡ cut.front ++ cut.rest) (before done) cut.whole
-
     left_is : all_bytes versions.Two (drop done records) ≡ (cut.front ++ cut.rest) ++ all_bytes versions.Two (drop size (drop done records))
     left_is =
         ap (all_bytes versions.Two) (sym (take-append-drop size (drop done records)))
         ∙ all_joined (take size (drop done records)) (drop size (drop done records))
-        ∙ ap (λ (bytes : List ℕ). bytes ++ all_bytes versions.Two (drop size (drop done records))) piece_is
+        ∙ ap (λ (bytes : List ℕ). bytes ++ all_bytes versions.Two (drop size (drop done records))) cut.whole
 
 -- the records are written behind the front
 pub behind_front : (a b c : Option (List ℕ)) (front bytes : List ℕ) → Appends a b front → Appends b c bytes → Appends a c (front ++ bytes)

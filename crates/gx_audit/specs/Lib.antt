@@ -1,5 +1,4 @@
 pub mod Auditing
 pub mod Replaying
 pub mod Telling
-pub mod Faults
 pub mod Resuming

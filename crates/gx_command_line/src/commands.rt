@@ -104,7 +104,7 @@ const RUN_AUDIT: Argument = Argument {
     name: "audit",
     value: "FILE",
     kind: Kind::Text,
-    help: "Where to write the audit of the run: all its records, when it ends",
+    help: "Where to write the audit of the run: all its records, when it ends; what stands there stays until then",
 };
 
 /// The argument FILE.

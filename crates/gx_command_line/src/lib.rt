@@ -3,12 +3,14 @@
 
 mod commands;
 mod midnight;
+mod refused;
 mod words;
 
 use clap::{ArgMatches, Error};
 use commands::{MIDNIGHT, command_line};
 use gx_clock::UtcOffset;
 pub use midnight::BadOffset;
+use refused::told_of;
 use std::alloc::Global;
 pub use words::{BadWord, LONGEST_WORD, first_bad_word};
 
@@ -185,9 +187,13 @@ fn bad_midnight<'a>(given: &ArgMatches<'a>) -> Option<BadOffset<'a>> {
     BadOffset::of(given.get_str(MIDNIGHT)?)
 }
 
-/// The words of a call, as the command line has them.
+/// The words of a call, as the command line has them. The error is `clap`'s: what is wrong with the words, the help or the
+/// version that they ask for, or that memory was refused. Of a long word it shows a front alone.
 fn matches_of<'a>(alloc: Global, words: &'a [String]) -> Result<ArgMatches<'a>, Error> {
-    command_line(alloc)?.try_get_matches_from(words)
+    match command_line(alloc)?.try_get_matches_from(words) {
+        Ok(given) => Ok(given),
+        Err(error) => Err(told_of(alloc, words, error)),
+    }
 }
 
 /// What the words of a call ask for, the program's name being the first.

@@ -17,6 +17,7 @@ use gx_keepers::keepers::Keepers;
 use gx_keepers::matching::carry_match;
 use gx_keepers::next_record::{NextMatch, NextRecord};
 use gx_policy::Policy;
+use gx_records::ShowsRecords;
 use gx_units::{AccountName, Moment, OutOfMemory, Password, SessionName, UserName};
 use std::alloc::Global;
 use std::marker::Model;
@@ -172,6 +173,12 @@ impl AccessGate for Gate {
 
     fn login_answer(&self, user: UserName, wanted: u64, verdict: Verdict) -> LoginAnswer {
         login_answered(&self.policy, self.count_reports(user), wanted, verdict)
+    }
+}
+
+impl ShowsRecords for Gate {
+    fn shown_records(&self) -> &[Record] {
+        self.history.as_slice()
     }
 }
 

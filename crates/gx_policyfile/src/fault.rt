@@ -6,6 +6,7 @@ ghost use Rattle.gx_policyfile.specs.Telling.{kind_words};
 ghost use Rattle.std.specs.Prelude.{◌≡◌, false};
 
 use gx_policytext::line_at;
+use gx_shortened::Shortened;
 use gx_units::OutOfMemory;
 use std::alloc::{AllocError, AllocFailed, Global};
 use std::error::Error;
@@ -142,7 +143,10 @@ impl fmt::Display for EntryPlace {
         let (place, number) = (self.place, self.number);
         write!(f, "{place} {number}")?;
         match &self.name {
-            Some(name) => write!(f, " {name:?}"),
+            Some(name) => {
+                let name = Shortened::of(name.as_str());
+                write!(f, " {name:?}")
+            }
             None => Ok(()),
         }
     }
@@ -240,8 +244,24 @@ impl fmt::Display for KeyList {
     }
 }
 
+/// The line of a key and its value, as a fault shows it: cut short where it is long, and without a password.
+#[derive(Clone, Copy)]
+struct ShownLine<'a>(&'a str);
+
+impl fmt::Display for ShownLine<'_> {
+    fn fmt<W: fmt::Write>(&self, f: &mut fmt::Formatter<W>) -> fmt::Result {
+        let line = self.0;
+        if line.contains("password") {
+            let key = line.split_whitespace().next().unwrap_or("password");
+            return write!(f, "{key} = \"..\"");
+        }
+        let line = Shortened::of(line);
+        write!(f, "{line}")
+    }
+}
+
 /// Where a fault is, and what is allowed there: a line for each, and no line end behind the last. Nothing is said
-/// where a growth was refused.
+/// where a growth was refused. No password is shown, and of a long value its front alone.
 #[derive(Clone, Copy)]
 pub struct FaultPlace<'a>(&'a PolicyFault);
 
@@ -255,9 +275,12 @@ impl fmt::Display for FaultPlace<'_> {
             Cause::Memory => Ok(()),
             Cause::Text(text) => f.write_str(text.as_str().trim_end()),
             Cause::Key(key, allowed) => write!(f, "key {key}\nallowed: {allowed}"),
-            Cause::Value(line, allowed) => write!(f, "key {line}\nallowed: {allowed}"),
+            Cause::Value(line, allowed) => {
+                let line = ShownLine(line.as_str());
+                write!(f, "key {line}\nallowed: {allowed}")
+            }
             Cause::UnknownKey(key, known) => {
-                let keys = KeyList(known);
+                let (key, keys) = (Shortened::of(key.as_str()), KeyList(known));
                 write!(f, "key {key:?}\nallowed: the keys {keys}")
             }
         }

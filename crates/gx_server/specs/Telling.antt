@@ -2,6 +2,8 @@
 use Rattle.std.specs.Prelude.{ℕ, List, Option, Some, None, ◌++◌, codes, decimal, if◌then◌else◌}
 use Rattle.gx_audit.specs.declared.fault.AuditFault.{AuditFault}
 use Rattle.gx_audit.specs.declared.fault.AuditFault.TheVariants as audit_faults
+use Rattle.gx_files.specs.declared.identity.SharedFile.{SharedFile}
+use Rattle.gx_files.specs.declared.identity.SharedFile.TheVariants as shared_files
 use Rattle.gx_policyfile.specs.declared.fault.FaultKind.{FaultKind}
 use Rattle.gx_policyfile.specs.Field.{is_memory}
 use Rattle.gx_policyfile.specs.Telling.{kind_words}
@@ -14,7 +16,7 @@ use Rattle.gx_scripting.specs.declared.script_fault.ScriptFault.TheVariants as s
 use Rattle.gx_server.specs.declared.program_fault.Device.{Device}
 use Rattle.gx_server.specs.declared.program_fault.Device.TheVariants.{Reader, Writer}
 use Rattle.gx_server.specs.declared.program_fault.ProgramFault.{ProgramFault}
-use Rattle.gx_server.specs.declared.program_fault.ProgramFault.TheVariants.{Pipe, Script, Unread, Policy, ListenFailed, Journal, JournalInUse, NoLines}
+use Rattle.gx_server.specs.declared.program_fault.ProgramFault.TheVariants.{Pipe, Script, Unread, Policy, ListenFailed, Journal, JournalInUse, AuditInUse, OneFile, NoLines}
 
 -- memory ran out
 abbrev pub out_of_memory : ProgramFault
@@ -45,6 +47,12 @@ abbrev pub journal_fault : AuditFault → ProgramFault
 journal_fault audit_faults.OutOfMemory = out_of_memory
 journal_fault fault = Journal fault
 
+-- which options name one file
+abbrev pub shared_words : SharedFile → List ℕ
+shared_words shared_files.PolicyAndJournal = codes "--policy and --journal are one file"
+shared_words shared_files.PolicyAndAudit = codes "--policy and --audit are one file"
+shared_words shared_files.JournalAndAudit = codes "--journal and --audit are one file"
+
 -- why the program gave up
 abbrev pub words_of : ProgramFault → List ℕ
 words_of (Pipe fault) = fault_words fault
@@ -53,6 +61,8 @@ words_of Unread = codes "read failed"
 words_of ListenFailed = codes "listen failed"
 words_of (Journal fault) = journal_words fault
 words_of JournalInUse = codes "journal in use"
+words_of AuditInUse = codes "audit in use"
+words_of (OneFile pair) = shared_words pair
 words_of NoLines = codes "no lines left"
 words_of (Policy fault) = policy_words fault.kind
 
@@ -77,7 +87,7 @@ abbrev pub journal_status : AuditFault → ℕ
 journal_status audit_faults.OutOfMemory = 1
 journal_status fault = 4
 
--- 3 for a fault of the policy file, 4 for a bad line of a script or for what is no journal, else 1
+-- 2 where two options name one file, 3 for a fault of the policy file, 4 for a bad line of a script or for what is no journal, else 1
 abbrev pub status_of : ProgramFault → ℕ
 status_of (Pipe fault) = 1
 status_of (Script explained) = script_status explained.fault
@@ -85,6 +95,8 @@ status_of Unread = 1
 status_of ListenFailed = 1
 status_of (Journal fault) = journal_status fault
 status_of JournalInUse = 1
+status_of AuditInUse = 1
+status_of (OneFile pair) = 2
 status_of NoLines = 1
 status_of (Policy fault) = if is_memory fault.kind then 1 else 3
 
@@ -112,5 +124,7 @@ device_of Unread = None
 device_of ListenFailed = None
 device_of (Journal fault) = None
 device_of JournalInUse = None
+device_of AuditInUse = None
+device_of (OneFile pair) = None
 device_of NoLines = None
 device_of (Policy fault) = None

@@ -6,10 +6,11 @@ ghost use Rattle.gx_policyfile.specs.Field.{is_memory};
 ghost use Rattle.gx_server.specs.declared.program_fault.ProgramFault.TheVariants as faults;
 ghost use Rattle.gx_pipe.specs.Faults.{fault_words};
 ghost use Rattle.gx_server.specs.Telling.{out_of_memory, script_words, policy_words, gate_line, fault_line, script_status, status_of};
-ghost use Rattle.gx_server.specs.Telling.{journal_fault, journal_status, journal_words, script_device, device_of};
+ghost use Rattle.gx_server.specs.Telling.{journal_fault, journal_status, journal_words, script_device, device_of, shared_words};
 
 use arrayvec::ArrayVec;
 use gx_audit::AuditFault;
+use gx_files::SharedFile;
 use gx_pipe::PipeFault;
 use gx_policyfile::{FaultKind, PolicyFault};
 use gx_scripting::{Explained, ScriptFault};
@@ -36,7 +37,7 @@ pub enum ProgramFault {
     Pipe(PipeFault),
     /// A script ended early.
     Script(Explained),
-    /// The policy file can't be read.
+    /// A file can't be read, is no regular one, or is longer than it may be.
     Unread,
     /// The policy file has a fault.
     Policy(PolicyFault),
@@ -46,6 +47,10 @@ pub enum ProgramFault {
     Journal(AuditFault),
     /// Another program keeps a journal in the file.
     JournalInUse,
+    /// Another program is to write its audit into the file, or has locked it.
+    AuditInUse,
+    /// Two of the files that the arguments name are one.
+    OneFile(SharedFile),
     /// The journal's day has no line left for a connection.
     NoLines,
 }
@@ -98,7 +103,7 @@ impl From<AuditFault> for ProgramFault {
 }
 
 impl ProgramFault {
-    /// Why a policy file can't be read, where the system answers with an error of this kind.
+    /// Why a file can't be read, where the system answers with an error of this kind.
     pub fn unread(kind: ErrorKind) -> ProgramFault
         ensures memory { kind ≡ ErrorKind.OutOfMemory → result ≡ out_of_memory }
         ensures unread { kind ≢ ErrorKind.OutOfMemory → result ≡ faults.Unread }
@@ -109,13 +114,15 @@ impl ProgramFault {
         }
     }
 
-    /// The exit status: 3 for a fault of the policy file, 4 for a bad line of a script or for what is no journal, else 1.
+    /// The exit status: 2 where two arguments name one file, 3 for a fault of the policy file, 4 for a bad line of a
+    /// script or for what is no journal, else 1.
     pub fn status(&self) -> u8
         ensures { result ≡ status_of self.now }
     {
         match self {
             ProgramFault::Pipe(_) | ProgramFault::Unread | ProgramFault::ListenFailed => 1,
-            ProgramFault::JournalInUse | ProgramFault::NoLines => 1,
+            ProgramFault::JournalInUse | ProgramFault::AuditInUse | ProgramFault::NoLines => 1,
+            ProgramFault::OneFile(_) => 2,
             ProgramFault::Journal(fault) => journal_status(*fault),
             ProgramFault::Script(explained) => script_status(explained.fault),
             ProgramFault::Policy(fault) => { if fault.kind.is_memory() { 1 } else { 3 } }
@@ -146,6 +153,8 @@ impl ProgramFault {
             ProgramFault::ListenFailed => line_of(b"listen failed"),
             ProgramFault::Journal(fault) => journal_line(*fault),
             ProgramFault::JournalInUse => line_of(b"journal in use"),
+            ProgramFault::AuditInUse => line_of(b"audit in use"),
+            ProgramFault::OneFile(pair) => line_of(shared_words(*pair)),
             ProgramFault::NoLines => line_of(b"no lines left"),
         }
     }
@@ -225,6 +234,18 @@ fn journal_line(fault: AuditFault) -> FaultLine
         AuditFault::IllegalVerdict(number) => numbered_line(b"journal illegal verdict ", number),
         AuditFault::OutOfMemory => line_of(b"out of memory"),
         AuditFault::OtherPolicy => line_of(b"journal other policy"),
+    }
+}
+
+/// Which options name one file.
+fn shared_words(pair: SharedFile) -> &'static [u8]
+    ensures words { result.now ≡ shared_words pair }
+    ensures short { length result.now ≤ 35 }
+{
+    match pair {
+        SharedFile::PolicyAndJournal => b"--policy and --journal are one file",
+        SharedFile::PolicyAndAudit => b"--policy and --audit are one file",
+        SharedFile::JournalAndAudit => b"--journal and --audit are one file",
     }
 }
 

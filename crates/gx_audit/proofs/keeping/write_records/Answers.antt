@@ -1,6 +1,6 @@
 use Rattle.std.proofs.Common.{◌∙◌, refl, arith}
 use Rattle.gx_devices.proofs.Known.{on_err}
-use Rattle.gx_audit.proofs.Pieces.{none_written, piece_cut, piece_written, whole_written}
+use Rattle.gx_audit.proofs.Pieces.{none_written, piece_cut, piece_written}
 use Rattle.gx_audit.proofs.keeping.write_records.Goals as goal
 
 pub loop-done-init : goal.loop-done-init
@@ -13,14 +13,11 @@ loop-done-init g c = record {
 pub loop-done-preserved : goal.loop-done-preserved
 loop-done-preserved g c = record {
   within = omega arith;
-  text = piece_written _ _ _ (g.G.AccessGate.seen c.args.gate.now).records c.loop-done.done _ c.loop-done.invariant.text c.in_ok-write_piece.ensures.written;
+  text = piece_written _ _ _ c.args.records.now c.loop-done.done _ _ (omega arith) c.loop-done.invariant.text c.in_ok-write_piece.ensures.written;
   kept = c.in_ok-write_piece.ensures.kept ∙ c.loop-done.invariant.kept;
 }
-
-pub returns-clause-written : goal.returns-clause-written
-returns-clause-written g c = whole_written _ _ (g.G.AccessGate.seen c.args.gate.now).records c.loop-done.done (omega arith) c.loop-done.invariant.text
 
 pub returns-in_err-write_piece-clause-front : goal.returns-in_err-write_piece-clause-front
 returns-in_err-write_piece-clause-front g c =
     on_err c.from_residual.result _
-    (piece_cut _ _ _ (g.G.AccessGate.seen c.args.gate.now).records c.loop-done.done _ c.loop-done.invariant.text c.in_err-write_piece.ensures.front)
+    (piece_cut _ _ _ c.args.records.now c.loop-done.done _ c.loop-done.invariant.text c.in_err-write_piece.ensures.front)

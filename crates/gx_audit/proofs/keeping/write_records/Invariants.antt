@@ -7,7 +7,7 @@ use Rattle.gx_audit.proofs.keeping.write_records.Given as goal
 abbrev pub invariant-loop-done : goal.invariant-loop-done
 invariant-loop-done g l = record {
   within : l.done ≤ l.count;
-  text : Appends (g.W.Write.contents l.fn.writer.device) (g.W.Write.contents l.writer.device) (all_bytes versions.Two (take l.done (g.G.AccessGate.seen l.gate).records));
+  text : Appends (g.W.Write.contents l.fn.writer.device) (g.W.Write.contents l.writer.device) (all_bytes versions.Two (take l.done l.records));
   kept : l.writer.failed ≡ l.fn.writer.failed;
 }
 
