@@ -103,6 +103,7 @@ impl<D: Door, C: Wait + Clock> Door for Holds<'_, D, C> {
         moment: Moment,
         most: u64,
     ) -> (D::Ticket, Result<Turned, StepFault>) {
+        self.wire.wait_at(self.clock, &self.wire.asking);
         self.door.turn(rt, pass, user, request, moment, most)
     }
 
