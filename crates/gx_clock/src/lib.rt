@@ -9,8 +9,6 @@ mod clock;
 mod laws;
 mod moments;
 mod offset;
-#[cfg(test)]
-mod tests;
 
 pub use clock::DayClock;
 pub use laws::{local_time_is_behind, moments_go_on, no_other_text_is_read, offsets_are_read};

@@ -1,7 +1,7 @@
 //! What no clause says: that a clock begins by the wall clock and goes on by the monotonic one, and what it shows where
 //! these can't be read.
 
-use crate::{DayClock, UtcOffset};
+use gx_clock::{DayClock, UtcOffset};
 use gx_units::Moment;
 use std::io;
 use std::time::{Clock, Duration};
