@@ -3,12 +3,15 @@
 use gx_audit::AuditingFault;
 use gx_journal::JournalFault;
 use gx_listen::ServeFault;
+use gx_log::Log;
 use gx_pass::PassFault;
 use gx_pipe::PipeFault;
 use gx_server::{Device, ProgramFault};
 use gx_shortened::Shortened;
 use gx_units::OutOfMemory;
+use std::io::Write;
 use std::process::ExitCode;
+use std::sync::Wait;
 use std::{fmt, io};
 
 /// What can't be read, written or listened on.
@@ -160,17 +163,17 @@ impl<'a> From<PassFault> for Ended<'a> {
     }
 }
 
-/// Puts on standard error what more there is to tell of the fault: of a policy file or of a script, where it stands; of a
-/// file or a device, what the system said.
-fn tell_more(rt: &HostRuntime, ended: &Ended) {
+/// Writes what more there is to tell of the fault: of a policy file or of a script, where it stands; of a file or a device, what
+/// the system said.
+fn write_more<W: Write>(to: &mut W, ended: &Ended) -> io::Result<()> {
     match &ended.fault {
         ProgramFault::Policy(fault) => {
             let place = fault.place();
-            let _ = eprintln!(rt; "{place}");
+            writeln!(to, "{place}")?;
         }
         ProgramFault::Script(explained) => {
             if let Some(wrong) = explained.wrong {
-                let _ = eprintln!(rt; "{wrong}");
+                writeln!(to, "{wrong}")?;
             }
         }
         ProgramFault::Unread
@@ -184,14 +187,25 @@ fn tell_more(rt: &HostRuntime, ended: &Ended) {
     }
     if let Some(error) = ended.said {
         let place = ended.place;
-        let _ = eprintln!(rt; "{place}: {error}");
+        writeln!(to, "{place}: {error}")?;
     }
+    Ok(())
 }
 
 /// Tells why the program gave up: the status that says so.
 pub(crate) fn tell(rt: &HostRuntime, ended: Ended) -> ExitCode {
     let line = ended.fault.line();
     let _ = rt.stderr().write_all(line.as_slice());
-    tell_more(rt, &ended);
+    let _ = write_more(&mut io::writer(&rt.stderr()), &ended);
+    ExitCode::from(ended.fault.status())
+}
+
+/// Tells in the log why a server gave up: the status that says so. Where there is no memory for all of it, a front is told.
+pub(crate) fn tell_in<R: Wait>(rt: &R, host: &HostRuntime, log: &Log, ended: Ended) -> ExitCode {
+    let line = ended.fault.line();
+    log.tell(rt, line.as_slice());
+    let mut more = Vec::new(host.alloc());
+    let _ = write_more(&mut more, &ended);
+    log.tell(rt, more.as_slice());
     ExitCode::from(ended.fault.status())
 }

@@ -11,10 +11,12 @@ use gx_command_line::JournalFile;
 use gx_core::Gate;
 use gx_devices::{Counted, write_whole};
 use gx_files::Watched;
+use gx_log::Log;
 use gx_policy::Policy;
 use gx_server::{Noted, ProgramFault};
 use std::fs::{File, OpenOptions, TryLockError};
 use std::io::Write;
+use std::sync::Wait;
 use std::{fs, io};
 
 /// The file of a journal, which no other program may make longer or shorter. A flush forces it to the disk, where that was
@@ -164,8 +166,15 @@ pub(crate) fn look_back<'a>(path: &'a str, device: &JournalDevice) -> Result<(),
 }
 
 /// Tells that a part of a record was cut off, if so.
-pub(crate) fn tell_cut(rt: &HostRuntime, count: u64, cut: u64) {
-    if cut > 0 {
-        let _ = eprintln!(rt; "journal: {count} records, and {cut} bytes of one that was cut off");
+pub(crate) fn tell_cut<R: Wait>(rt: &R, host: &HostRuntime, log: &Log, count: u64, cut: u64) {
+    if cut == 0 {
+        return;
+    }
+    let made = format!(in host.alloc();
+        "journal: {count} records, and {cut} bytes of one that was cut off\n"
+    );
+    match made {
+        Ok(line) => log.tell(rt, line.as_bytes()),
+        Err(_) => log.leave_out(rt),
     }
 }

@@ -1,6 +1,8 @@
 //! How many connections the descriptors allow that may be open.
 
+use gx_log::Log;
 use std::fs;
+use std::sync::Wait;
 
 /// Where Linux tells the limits of a process, a line each.
 const LIMITS: &str = "/proc/self/limits";
@@ -22,16 +24,20 @@ fn limit_of(rt: &HostRuntime) -> Option<u64> {
 
 /// How many connections are served at once where so many are asked for: fewer, where the descriptors for them may not be
 /// open, which is told.
-pub(crate) fn places_for(rt: &HostRuntime, at_once: u16) -> u16 {
+pub(crate) fn places_for<R: Wait>(rt: &R, host: &HostRuntime, log: &Log, at_once: u16) -> u16 {
     let wanted = u64::from(at_once) + OWN;
-    let limit = limit_of(rt).unwrap_or(wanted);
+    let limit = limit_of(host).unwrap_or(wanted);
     if limit >= wanted {
         return at_once;
     }
     let places = u16::try_from(limit.saturating_sub(OWN).max(1)).unwrap_or(at_once);
-    let _ = eprintln!(rt;
+    let made = format!(in host.alloc();
         "gate: {limit} descriptors may be open (ulimit -n), and {at_once} connections at once want {wanted}: \
-         {places} are served at once"
+         {places} are served at once\n"
     );
+    match made {
+        Ok(line) => log.tell(rt, line.as_bytes()),
+        Err(_) => log.leave_out(rt),
+    }
     places
 }

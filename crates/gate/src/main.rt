@@ -5,6 +5,7 @@ ghost use Rattle.std.specs.Prelude.{◌-◌, ◌^◌, ◌<◌};
 
 mod auditing;
 mod ending;
+mod ends;
 mod files;
 mod keeping;
 mod limits;
@@ -13,13 +14,14 @@ mod streams;
 use auditing::{AuditFile, close_audited, leave_audit, open_audit};
 use clap::Error;
 use clap::error::ErrorKind as UsageFault;
-use ending::{Ended, Place, tell};
+use ending::{Ended, Place, tell, tell_in};
+use ends::{await_ends, connections_of};
 use files::{Content, Named, bytes_of, tell_apart};
 use gx_answers::AccessGate;
 use gx_audit::{AuditAnswer, Choice, more_of_audit, show_audit, told_of_audit};
 use gx_clock::DayClock;
 use gx_command_line::{
-    Asked, AuditFiles, BadCall, JournalFile, LONGEST_WORD, RunFiles, Serving, Until, Wanted,
+    Asked, AuditFiles, BadCall, JournalFile, LONGEST_WORD, RunFiles, Serving, Wanted,
     first_bad_word,
 };
 use gx_core::Gate;
@@ -27,6 +29,7 @@ use gx_devices::Counted;
 use gx_journal::JournalFault;
 use gx_listen::{Ending, ServeFault};
 use gx_lobby::Lobby;
+use gx_log::{Log, write_on};
 use gx_pipe::run_pipe;
 use gx_policy::Policy;
 use gx_scripting::run_script;
@@ -41,7 +44,7 @@ use std::net::{Ipv4Addr, Net, SocketAddr, TcpListener, TcpStream};
 use std::process::ExitCode;
 use std::sync::{Arc, Wait};
 use std::thread::Threads;
-use std::time::Clock;
+use std::time::{Clock, Duration};
 use std::{io, thread};
 use streams::{NULL, StandIns};
 
@@ -50,6 +53,9 @@ const FIRST_MOMENT: u64 = 1;
 
 /// That of the last record of a day that has none.
 const NO_MOMENT: Moment = 0;
+
+/// So many seconds behind its end a server waits for what it told to be written.
+const FAREWELL: u64 = 1;
 
 /// The words of the command line; `None` where one is not UTF-8.
 fn words_of(rt: &HostRuntime) -> Result<Option<Vec<String>>, OutOfMemory> {
@@ -182,39 +188,6 @@ fn tell_listening<'a>(rt: &HostRuntime, port: u16) -> Result<(), Ended<'a>> {
     }
 }
 
-/// Asks for the end of a server once the reader's input has ended or fails.
-fn await_end<I: Read>(reader: &mut I, lobby: &Lobby) {
-    let mut room = [0u8; 256];
-    for _ in 0..u64::MAX {
-        match reader.read(&mut room) {
-            Ok(n) if n > 0 => {}
-            _ => break,
-        }
-    }
-    lobby.end();
-}
-
-/// How many connections a server takes, where it is not ended before.
-fn connections_of(until: Until) -> u64 {
-    match until {
-        Until::Connections(connections) => u64::from(connections),
-        Until::InputEnds => u64::MAX,
-    }
-}
-
-/// Has the end of a server asked for at the end of standard input, which a thread of its own awaits.
-fn end_with_input<R: Threads>(
-    rt: &R,
-    host: HostRuntime,
-    lobby: &Arc<Lobby, Global>,
-) -> Result<(), OutOfMemory> {
-    let theirs = Arc::try_clone(lobby)?;
-    match thread::spawn(rt, move || await_end(&mut host.reader(), &theirs)) {
-        Ok(_) => Ok(()),
-        Err(_) => Err(OutOfMemory),
-    }
-}
-
 /// Listens for connections, and tells so: the listener, and the lobby of the server, which ends as was asked for. Its clock
 /// begins, no earlier than at the moment `last`.
 fn open_lobby<'a, R>(
@@ -222,21 +195,30 @@ fn open_lobby<'a, R>(
     host: &HostRuntime,
     serving: &Serving<'a>,
     last: Moment,
+    log: &Arc<Log, Global>,
 ) -> Result<(TcpListener, Arc<Lobby, Global>), Ended<'a>>
 where
-    R: Net<Listener = TcpListener, Stream = TcpStream> + Threads + Wait + Clock + Eprint + Sync,
+    R: Net<Listener = TcpListener, Stream = TcpStream>
+        + Threads
+        + Wait
+        + Clock
+        + Copy
+        + Send
+        + Sync
+        + 'static,
 {
     let listener = listen(rt, serving.port)?;
     let alloc = host.alloc();
-    let places = places_for(host, serving.at_once);
+    let places = places_for(rt, host, log, serving.at_once);
     let clock = DayClock::begin(rt, serving.midnight, last);
-    let lobby = Lobby::new(alloc, clock, places, u64::from(serving.login_within));
+    let Ok(log) = Arc::try_clone(log) else {
+        return Err(OutOfMemory.into());
+    };
+    let lobby = Lobby::new(alloc, clock, places, u64::from(serving.login_within), log);
     let Ok(lobby) = Arc::new(alloc, lobby) else {
         return Err(OutOfMemory.into());
     };
-    if let Until::InputEnds = serving.until {
-        end_with_input(rt, *host, &lobby)?;
-    }
+    await_ends(*rt, *host, serving.ends, &lobby)?;
     tell_listening(host, serving.port)?;
     Ok((listener, lobby))
 }
@@ -247,12 +229,20 @@ fn serve_on<'a, R>(
     host: &HostRuntime,
     policy: &Policy,
     serving: &Serving<'a>,
+    log: &Arc<Log, Global>,
 ) -> Result<Served<Gate>, Ended<'a>>
 where
-    R: Net<Listener = TcpListener, Stream = TcpStream> + Threads + Wait + Clock + Eprint + Sync,
+    R: Net<Listener = TcpListener, Stream = TcpStream>
+        + Threads
+        + Wait
+        + Clock
+        + Copy
+        + Send
+        + Sync
+        + 'static,
 {
-    let (listener, lobby) = open_lobby(rt, host, serving, NO_MOMENT)?;
-    let connections = connections_of(serving.until);
+    let (listener, lobby) = open_lobby(rt, host, serving, NO_MOMENT, log)?;
+    let connections = connections_of(serving.ends);
     Ok(serve(rt, host.alloc(), policy, &lobby, listener, connections)?)
 }
 
@@ -271,12 +261,20 @@ fn serve_under<'a, R>(
     policy: &Policy,
     serving: &Serving<'a>,
     named: Named<'a>,
+    log: &Arc<Log, Global>,
 ) -> Result<(), Ended<'a>>
 where
-    R: Net<Listener = TcpListener, Stream = TcpStream> + Threads + Wait + Clock + Eprint + Sync,
+    R: Net<Listener = TcpListener, Stream = TcpStream>
+        + Threads
+        + Wait
+        + Clock
+        + Copy
+        + Send
+        + Sync
+        + 'static,
 {
     let audit = open_audit(host, named)?;
-    match serve_on(rt, host, policy, serving) {
+    match serve_on(rt, host, policy, serving, log) {
         Ok(Served { gate, ended }) => {
             let audited = close_audited(host, gate, audit);
             served(ended).and(audited)
@@ -294,16 +292,24 @@ fn go_on<'a, R>(
     host: &HostRuntime,
     serving: &Serving<'a>,
     day: Day,
+    log: &Arc<Log, Global>,
 ) -> Result<(Kept<Gate, Noted<JournalDevice>>, Ending), Ended<'a>>
 where
-    R: Net<Listener = TcpListener, Stream = TcpStream> + Threads + Wait + Clock + Eprint + Sync,
+    R: Net<Listener = TcpListener, Stream = TcpStream>
+        + Threads
+        + Wait
+        + Clock
+        + Copy
+        + Send
+        + Sync
+        + 'static,
 {
     let Day { gate, cut, device } = day;
-    match open_lobby(rt, host, serving, gate.last_moment()) {
+    match open_lobby(rt, host, serving, gate.last_moment(), log) {
         Ok((listener, lobby)) => {
             let count = gate.length();
-            tell_cut(host, count, cut);
-            let connections = connections_of(serving.until);
+            tell_cut(rt, host, log, count, cut);
+            let connections = connections_of(serving.ends);
             let alloc = host.alloc();
             let kept = serve_journaled(
                 rt,
@@ -384,12 +390,20 @@ fn serve_kept<'a, R>(
     serving: &Serving<'a>,
     journal: JournalFile<'a>,
     named: Named<'a>,
+    log: &Arc<Log, Global>,
 ) -> Result<(), Ended<'a>>
 where
-    R: Net<Listener = TcpListener, Stream = TcpStream> + Threads + Wait + Clock + Eprint + Sync,
+    R: Net<Listener = TcpListener, Stream = TcpStream>
+        + Threads
+        + Wait
+        + Clock
+        + Copy
+        + Send
+        + Sync
+        + 'static,
 {
     let (day, audit) = open_day(host, policy, journal, named)?;
-    match go_on(rt, host, serving, day) {
+    match go_on(rt, host, serving, day, log) {
         Ok((left, ended)) => close_server(host, journal.path, left, ended, audit),
         Err(ended) => {
             leave_audit(host, audit);
@@ -399,16 +413,28 @@ where
 }
 
 /// Serves connections, and writes the audit.
-fn serve_port<'a, R>(rt: &R, host: &HostRuntime, serving: Serving<'a>) -> Result<(), Ended<'a>>
+fn serve_port<'a, R>(
+    rt: &R,
+    host: &HostRuntime,
+    serving: Serving<'a>,
+    log: &Arc<Log, Global>,
+) -> Result<(), Ended<'a>>
 where
-    R: Net<Listener = TcpListener, Stream = TcpStream> + Threads + Wait + Clock + Eprint + Sync,
+    R: Net<Listener = TcpListener, Stream = TcpStream>
+        + Threads
+        + Wait
+        + Clock
+        + Copy
+        + Send
+        + Sync
+        + 'static,
 {
     let path = serving.journal.map(|journal| journal.path);
     let named = names_of(host, serving.files, path)?;
     let policy = policy_of(host, serving.files.policy)?;
     match serving.journal {
-        Some(journal) => serve_kept(rt, host, &policy, &serving, journal, named),
-        None => serve_under(rt, host, &policy, &serving, named),
+        Some(journal) => serve_kept(rt, host, &policy, &serving, journal, named, log),
+        None => serve_under(rt, host, &policy, &serving, named, log),
     }
 }
 
@@ -538,11 +564,67 @@ fn run<'a>(rt: &HostRuntime, asked: Asked<'a>) -> Result<ExitCode, Ended<'a>> {
     Ok(ExitCode::SUCCESS)
 }
 
-/// The status of a server that has ended.
-fn status_of_server(rt: &HostRuntime, ended: Result<(), Ended>) -> ExitCode {
-    match ended {
+/// Starts the thread that writes on standard error what is told in the log.
+fn start_log<R: Threads + Wait + Clock + Copy + Send + 'static>(
+    rt: R,
+    host: HostRuntime,
+    log: &Arc<Log, Global>,
+) -> Result<(), OutOfMemory> {
+    let theirs = Arc::try_clone(log)?;
+    match thread::spawn(
+        &rt,
+        move || write_on(&rt, &theirs, &mut io::writer(&host.stderr())),
+    ) {
+        Ok(_) => Ok(()),
+        Err(_) => Err(OutOfMemory),
+    }
+}
+
+/// Serves connections, and tells in the log how that ended: the status that says so. Whatever is not written a while behind
+/// the end is let go.
+fn serve_logged<R>(
+    rt: &R,
+    host: &HostRuntime,
+    serving: Serving<'_>,
+    log: &Arc<Log, Global>,
+) -> ExitCode
+where
+    R: Net<Listener = TcpListener, Stream = TcpStream>
+        + Threads
+        + Wait
+        + Clock
+        + Copy
+        + Send
+        + Sync
+        + 'static,
+{
+    let status = match serve_port(rt, host, serving, log) {
         Ok(()) => ExitCode::SUCCESS,
-        Err(ended) => tell(rt, ended),
+        Err(ended) => tell_in(rt, host, log, ended),
+    };
+    log.close(rt);
+    log.await_written(rt, Duration::from_secs(FAREWELL));
+    status
+}
+
+/// Serves connections: the status that says how that ended.
+fn serve_told<R>(rt: &R, host: &HostRuntime, serving: Serving<'_>) -> ExitCode
+where
+    R: Net<Listener = TcpListener, Stream = TcpStream>
+        + Threads
+        + Wait
+        + Clock
+        + Copy
+        + Send
+        + Sync
+        + 'static,
+{
+    let Ok(log) = Arc::new(host.alloc(), Log::new(serving.log)) else {
+        return tell(host, OutOfMemory.into());
+    };
+    match start_log(*rt, *host, &log) {
+        Ok(()) => serve_logged(rt, host, serving, &log),
+        Err(refused) => tell(host, refused.into()),
     }
 }
 
@@ -583,7 +665,7 @@ fn asked_of<'a>(rt: &HostRuntime, words: &'a [String]) -> Result<Asked<'a>, Exit
         Ok(Some(asked)) => Ok(asked),
         Ok(None) => Err(ExitCode::SUCCESS),
         Err(BadCall::Words(error)) => Err(tell_usage(rt, &error)),
-        Err(BadCall::Midnight(bad)) => {
+        Err(BadCall::Value(bad)) => {
             let _ = eprint!(rt; "{bad}");
             Err(ExitCode::from(2))
         }
@@ -601,7 +683,7 @@ fn main(rt: HostRuntime) -> ExitCode {
         Err(refused) => return tell(&rt, refused.into()),
     };
     match asked_of(&rt, words.as_slice()) {
-        Ok(Asked::Serve(serving)) => status_of_server(&rt, serve_port(&rt, &rt, serving)),
+        Ok(Asked::Serve(serving)) => serve_told(&rt, &rt, serving),
         Ok(asked) => done(&rt, asked),
         Err(status) => status,
     }

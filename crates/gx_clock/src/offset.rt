@@ -16,7 +16,7 @@ pub enum UtcOffset {
 }
 
 /// The number that two decimal digits spell.
-fn two_digits(tens: u8, ones: u8) -> Option<u16>
+pub(crate) fn two_digits(tens: u8, ones: u8) -> Option<u16>
     ensures { result ≡ two_digits tens ones }
 {
     if tens.is_ascii_digit() && ones.is_ascii_digit() {

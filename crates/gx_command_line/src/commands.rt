@@ -50,6 +50,8 @@ enum Kind {
     Word,
     /// An option with a text.
     Text,
+    /// An option with one of these words.
+    Choice(&'static [&'static str]),
     /// An option with a number from 1 to 65,535, which has to be there.
     Port,
     /// An option with a number from 1 to the most, and the one that holds without it.
@@ -60,6 +62,8 @@ enum Kind {
     FlagBeside(&'static str),
     /// An option with nothing, which stands in place of the option of this name.
     FlagInPlaceOf(&'static str),
+    /// An option with a text, which stands in place of the option of this name.
+    TextInPlaceOf(&'static str),
 }
 
 /// An argument of a command.
@@ -118,6 +122,16 @@ const POLICY_FILE: Argument = Argument {
 /// The name of the option `--midnight`, whose value is read by itself.
 pub(crate) const MIDNIGHT: &str = "midnight";
 
+/// The name of the option `--log`, and its values.
+pub(crate) const LOG: &str = "log";
+
+pub(crate) const TEXT: &str = "text";
+
+pub(crate) const JSON: &str = "json";
+
+/// The name of the option `--until`, whose value is read by itself too.
+pub(crate) const UNTIL: &str = "until";
+
 const PIPE: Subcommand = Subcommand {
     name: "pipe",
     about: "Serves one SoupBinTCP connection: client packets on standard input, server packets on standard output",
@@ -146,6 +160,18 @@ const SERVE: Subcommand = Subcommand {
             value: "",
             kind: Kind::FlagInPlaceOf("connections"),
             help: "Take connections until standard input ends, and count none; without it standard input is not read",
+        },
+        Argument {
+            name: UNTIL,
+            value: "TIME",
+            kind: Kind::TextInPlaceOf("connections"),
+            help: "Take connections until it is HH:MM or HH:MM:SS by the clock of --midnight, and count none",
+        },
+        Argument {
+            name: "stop-file",
+            value: "FILE",
+            kind: Kind::TextInPlaceOf("connections"),
+            help: "Take connections until there is such a file, which is looked for ten times a second, and count none",
         },
         Argument {
             name: "connections-at-once",
@@ -179,6 +205,13 @@ const SERVE: Subcommand = Subcommand {
             value: "",
             kind: Kind::FlagBeside("journal"),
             help: "Force the journal to the disk too, before anything is sent",
+        },
+        Argument {
+            name: LOG,
+            value: "FORM",
+            kind: Kind::Choice(&[TEXT, JSON]),
+            help: "Write a log on standard error, a line an event: logins, commands of officers, ended connections, \
+                   faults, and why the server ends",
         },
         RUN_POLICY,
         RUN_AUDIT,
@@ -255,11 +288,20 @@ fn build_argument<'a>(alloc: Global, asked: &Argument) -> Result<Arg<'a>, AllocE
     match asked.kind {
         Kind::Word => Ok(made.value_name(asked.value).required(true)),
         Kind::Text => Ok(made.long(asked.name).value_name(asked.value)),
+        Kind::Choice(words) => Ok(
+            made.long(asked.name)
+                .value_name(asked.value)
+                .value_parser(words),
+        ),
         Kind::Port => Ok(number(made.required(true), asked, 65_535)),
         Kind::Count(most, default) => Ok(number(made.default_values(default), asked, most)),
         Kind::Offset(default) => Ok(offset(made.default_values(default), asked)),
         Kind::FlagBeside(other) => flag(made, asked).requires_arg(other),
         Kind::FlagInPlaceOf(other) => flag(made, asked).conflicts_with(other),
+        Kind::TextInPlaceOf(other) => made
+            .long(asked.name)
+            .value_name(asked.value)
+            .conflicts_with(other),
     }
 }
 

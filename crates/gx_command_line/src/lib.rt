@@ -2,16 +2,17 @@
 #![tactic(auto)]
 
 mod commands;
-mod midnight;
 mod refused;
+mod values;
 mod words;
 
 use clap::{ArgMatches, Error};
-use commands::{MIDNIGHT, command_line};
-use gx_clock::UtcOffset;
-pub use midnight::BadOffset;
+use commands::{JSON, LOG, MIDNIGHT, UNTIL, command_line};
+use gx_clock::{TimeOfDay, UtcOffset};
+use gx_text::Form;
 use refused::told_of;
 use std::alloc::Global;
+pub use values::{BadValue, ReadOption};
 pub use words::{BadWord, LONGEST_WORD, first_bad_word};
 
 /// The files of a run.
@@ -40,7 +41,7 @@ pub struct Serving<'a> {
     /// The port to listen on.
     pub port: u16,
     /// When it ends.
-    pub until: Until,
+    pub ends: Ends<'a>,
     /// How many connections to serve at once.
     pub at_once: u16,
     /// How many seconds a connection has for its login.
@@ -49,15 +50,21 @@ pub struct Serving<'a> {
     pub midnight: UtcOffset,
     /// The journal of the day, if one is kept.
     pub journal: Option<JournalFile<'a>>,
+    /// How a log is written on standard error, if one is.
+    pub log: Option<Form>,
 }
 
-/// When a server ends by itself.
+/// When a server ends by itself: as soon as one of these is so.
 #[derive(Clone, Copy, Debug)]
-pub enum Until {
-    /// Once so many connections were taken and have ended.
-    Connections(u16),
-    /// Once standard input has ended, however many connections were taken.
-    InputEnds,
+pub struct Ends<'a> {
+    /// So many connections were taken and have ended; `None` where they are not counted.
+    pub connections: Option<u16>,
+    /// Standard input has ended, where that is asked for.
+    pub with_input: bool,
+    /// It is this time for the first time since the start.
+    pub at: Option<TimeOfDay>,
+    /// There is this file.
+    pub stop_file: Option<&'a str>,
 }
 
 /// Where a server keeps the journal of its day, and what that outlives.
@@ -102,8 +109,8 @@ pub enum Asked<'a> {
 pub enum BadCall<'a> {
     /// What `clap` says: what is wrong with the words, the help or the version that they ask for, or that memory was refused.
     Words(Error),
-    /// What `--midnight` is given is no offset.
-    Midnight(BadOffset<'a>),
+    /// What `--midnight` or `--until` is given can't be read.
+    Value(BadValue<'a>),
 }
 
 impl<'a> From<Error> for BadCall<'a> {
@@ -125,20 +132,43 @@ fn server_options<'a>(given: &ArgMatches<'a>) -> Option<Serving<'a>> {
     Some(Serving {
         files: run_files(given),
         port: given.get_one::<u16>("port")?,
-        until: end_of_server(given)?,
+        ends: ends_of_server(given),
         at_once: given.get_one::<u16>("connections-at-once")?,
         login_within: given.get_one::<u16>("login-within")?,
         midnight: UtcOffset::parse(given.get_str(MIDNIGHT)?)?,
         journal: journal_file(given),
+        log: form_of_log(given),
     })
 }
 
 /// When a server ends.
-fn end_of_server<'a>(given: &ArgMatches<'a>) -> Option<Until> {
-    if given.get_flag("until-input-ends") {
-        Some(Until::InputEnds)
+fn ends_of_server<'a>(given: &ArgMatches<'a>) -> Ends<'a> {
+    let ends = Ends {
+        connections: None,
+        with_input: given.get_flag("until-input-ends"),
+        at: time_to_end(given),
+        stop_file: given.get_str("stop-file"),
+    };
+    if ends.with_input || ends.at.is_some() || ends.stop_file.is_some() {
+        ends
     } else {
-        Some(Until::Connections(given.get_one::<u16>("connections")?))
+        Ends {
+            connections: given.get_one::<u16>("connections"),
+            ..ends
+        }
+    }
+}
+
+/// When a server is to end by the clock, if that is asked for.
+fn time_to_end<'a>(given: &ArgMatches<'a>) -> Option<TimeOfDay> {
+    TimeOfDay::parse(given.get_str(UNTIL)?)
+}
+
+/// How a log is written, if one is wanted.
+fn form_of_log<'a>(given: &ArgMatches<'a>) -> Option<Form> {
+    match given.get_str(LOG)? {
+        JSON => Some(Form::Json),
+        _ => Some(Form::Text),
     }
 }
 
@@ -182,9 +212,15 @@ fn asked_for<'a>(given: &ArgMatches<'a>) -> Option<Asked<'a>> {
 }
 
 /// The value of `--midnight`, where one is given that is no offset.
-fn bad_midnight<'a>(given: &ArgMatches<'a>) -> Option<BadOffset<'a>> {
+fn bad_midnight<'a>(given: &ArgMatches<'a>) -> Option<BadValue<'a>> {
     let (_name, given) = given.subcommand()?;
-    BadOffset::of(given.get_str(MIDNIGHT)?)
+    BadValue::of_midnight(given.get_str(MIDNIGHT)?)
+}
+
+/// The value of `--until`, where one is given that is no time of day.
+fn bad_until<'a>(given: &ArgMatches<'a>) -> Option<BadValue<'a>> {
+    let (_name, given) = given.subcommand()?;
+    BadValue::of_until(given.get_str(UNTIL)?)
 }
 
 /// The words of a call, as the command line has them. The error is `clap`'s: what is wrong with the words, the help or the
@@ -199,8 +235,8 @@ fn matches_of<'a>(alloc: Global, words: &'a [String]) -> Result<ArgMatches<'a>, 
 /// What the words of a call ask for, the program's name being the first.
 pub fn read<'a>(alloc: Global, words: &'a [String]) -> Result<Option<Asked<'a>>, BadCall<'a>> {
     let given = matches_of(alloc, words)?;
-    match bad_midnight(&given) {
-        Some(bad) => Err(BadCall::Midnight(bad)),
+    match bad_midnight(&given).or(bad_until(&given)) {
+        Some(bad) => Err(BadCall::Value(bad)),
         None => Ok(asked_for(&given)),
     }
 }

@@ -6,7 +6,6 @@ ghost use Rattle.gx_clock.specs.Moments.{last_shown};
 use gx_clock::DayClock;
 use gx_door::Dial;
 use gx_units::Moment;
-use std::fmt::Display;
 use std::io;
 use std::sync::Wait;
 use std::thread::Threads;
@@ -46,16 +45,6 @@ impl<R: Clock> Clock for Dated<'_, R> {
 
     fn sleep(&self, duration: Duration) {
         self.rt.sleep(duration)
-    }
-}
-
-impl<R: Eprint> Eprint for Dated<'_, R> {
-    fn eprint<D: Display + Drop>(&self, value: D) -> io::Result<()> {
-        self.rt.eprint(value)
-    }
-
-    fn eprintln<D: Display + Drop>(&self, value: D) -> io::Result<()> {
-        self.rt.eprintln(value)
     }
 }
 

@@ -33,7 +33,7 @@ struct Guest<'x, R: Wait> {
 }
 
 /// Serves a peer to his end, and tells why it ended, where that is told. His place is given back.
-fn serve_peer<D: Door + Sync, A: Admits<D>, R: Threads + Wait + Clock + Eprint + Sync>(
+fn serve_peer<D: Door + Sync, A: Admits<D>, R: Threads + Wait + Clock + Sync>(
     hall: &Hall<'_, D, A, R>,
     guest: Guest<'_, R>,
 )
@@ -49,13 +49,7 @@ where
 }
 
 /// The peer of this number, with a place; `None` where there is no memory for him. He is hung up on then.
-fn next_guest<
-    'x,
-    T: Drop + Send,
-    D: Door<Ticket = T> + Sync,
-    A,
-    R: Threads + Wait + Clock + Eprint + Sync,
->(
+fn next_guest<'x, T: Drop + Send, D: Door<Ticket = T> + Sync, A, R: Threads + Wait + Clock + Sync>(
     hall: &'x Hall<'x, D, A, R>,
     listener: &TcpListener,
     number: u64,
@@ -86,16 +80,28 @@ fn look_after<R: Wait + Clock>(rt: &R, lobby: &Lobby) {
 }
 
 /// Looks after newcomers until their door is closed, and tells each second what went wrong.
-fn watch_newcomers<R: Wait + Clock + Eprint>(rt: &R, lobby: &Lobby) {
+fn watch_newcomers<R: Wait + Clock>(rt: &R, alloc: Global, lobby: &Lobby) {
     for turn in 0..u64::MAX {
         look_after(rt, lobby);
         if turn % TURNS == 0 || lobby.newcomers.is_closed() {
-            lobby.tally.tell(rt);
+            lobby.tell_mishaps(rt, alloc);
         }
         if lobby.newcomers.is_closed() {
             return;
         }
         thread::sleep(rt, Duration::from_millis(LOOK));
+    }
+}
+
+/// Keeps what is done until the bell of that is closed, and tells at once where it can't be kept.
+fn keep_all<D: Door, R: Wait + Clock>(rt: &R, alloc: Global, door: &D, lobby: &Lobby) {
+    if !keep_on(rt, door, lobby) {
+        lobby.tell(
+            rt,
+            alloc,
+            "journal",
+            "gate: the journal can't be written: the server ends",
+        );
     }
 }
 
@@ -114,7 +120,7 @@ fn take_guests<
     T: Drop + Send,
     D: Door<Ticket = T> + Sync,
     A: Admits<D> + Sync,
-    R: Threads + Wait + Clock + Eprint + Sync,
+    R: Threads + Wait + Clock + Sync,
 >(hall: &'x Hall<'x, D, A, R>, listener: TcpListener, connections: u64) -> Ending {
     let rt = hall.rt;
     thread::scope(thread::scope_env(), rt, |scope| {
@@ -130,6 +136,12 @@ fn take_guests<
             }
         }
         drop(listener);
+        hall.lobby.note(
+            rt,
+            hall.alloc,
+            "end",
+            "gate: the server ends: it has taken as many connections as it was to",
+        );
         Ending::of_all_taken()
     })
 }
@@ -139,7 +151,7 @@ fn take_connections<
     T: Drop + Send,
     D: Door<Ticket = T> + Sync,
     A: Admits<D> + Sync,
-    R: Threads + Wait + Clock + Eprint + Sync,
+    R: Threads + Wait + Clock + Sync,
 >(
     rt: &R,
     alloc: Global,
@@ -166,7 +178,7 @@ fn take_watched<
     T: Drop + Send,
     D: Door<Ticket = T> + Sync,
     A: Admits<D> + Sync,
-    R: Threads + Wait + Clock + Eprint + Sync,
+    R: Threads + Wait + Clock + Sync,
 >(
     rt: &'x R,
     alloc: Global,
@@ -177,10 +189,10 @@ fn take_watched<
     connections: u64,
 ) -> Result<Ending, Unserved> {
     thread::scope(thread::scope_env(), rt, |scope| {
-        let Ok(_watching) = (&*scope).spawn(move || watch_newcomers(rt, lobby)) else {
+        let Ok(_watching) = (&*scope).spawn(move || watch_newcomers(rt, alloc, lobby)) else {
             return Err(Unserved::of_fault(ServeFault::OutOfMemory));
         };
-        let Ok(_keeping) = (&*scope).spawn(move || keep_on(rt, door, lobby)) else {
+        let Ok(_keeping) = (&*scope).spawn(move || keep_all(rt, alloc, door, lobby)) else {
             lobby.newcomers.close();
             return Err(Unserved::of_fault(ServeFault::OutOfMemory));
         };
@@ -198,7 +210,7 @@ fn run<
     T: Drop + Send,
     D: Door<Ticket = T> + Sync,
     A: Admits<D> + Sync,
-    R: Threads + Wait + Clock + Eprint + Sync,
+    R: Threads + Wait + Clock + Sync,
 >(
     rt: &'x R,
     alloc: Global,
@@ -243,7 +255,7 @@ pub fn serve_door<
     T: Drop + Send,
     D: Door<Ticket = T> + Sync,
     I: Issuer<D> + Drop + Send,
-    R: Threads + Wait + Clock + Eprint + Sync,
+    R: Threads + Wait + Clock + Sync,
 >(
     rt: &R,
     alloc: Global,

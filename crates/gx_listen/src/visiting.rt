@@ -11,7 +11,7 @@ use gx_lobby::{Chime, Lobby, Mishap, Peer, words_of};
 use gx_pass::PassFault;
 use gx_reception::{Admits, LineFault, NoLine, Opening};
 use gx_serve::{
-    Cut, Exclusion, Gone, HangUp, Link, Received, converse, let_go_of, receive, turn_away,
+    Cut, Exclusion, Farewell, Gone, HangUp, Link, Received, converse, let_go_of, receive, turn_away,
 };
 use gx_soup::LoginRequest;
 use gx_units::OutOfMemory;
@@ -100,20 +100,18 @@ fn turn_stranger_away<D: Door, A: Admits<D>, R: Wait + Clock>(
     )
 }
 
-/// Serves a user who has a line to his end. Answers why it ended.
+/// Serves a user who has a line to his end. Answers why he was cut off, if he was.
 fn serve_user<D: Door + Sync, A, R: Threads + Wait + Clock + Sync>(
     hall: &Hall<'_, D, A, R>,
-    pass: D::Ticket,
-    caller: Caller,
+    link: &Link<D::Ticket>,
     opening: Opening,
     stream: &TcpStream,
     chime: &Chime,
-) -> Gone
+) -> Option<Cut>
 where
     D::Ticket: Send,
 {
     let rt = &Dated::new(hall.rt, &hall.lobby.clock);
-    let link = Link::new(rt, pass, caller);
     let (_hung_up, listening) = converse(
         rt,
         hall.alloc,
@@ -121,16 +119,13 @@ where
         &hall.lobby.bell,
         chime,
         &hall.lobby.stop,
-        &link,
+        link,
         opening,
         Counted::new(stream),
         stream,
         stream,
     );
-    match listening.cut() {
-        Some(cut) => Gone::Cut(cut),
-        None => Gone::Quietly,
-    }
+    listening.cut()
 }
 
 /// The chime of the connection of this number, which is rung from now on for what others do.
@@ -154,9 +149,25 @@ where
     let Ok(chime) = hang_chime(hall, peer.number) else {
         return Gone::Quietly;
     };
-    let gone = serve_user(hall, pass, caller, opening, &peer.stream, &chime);
+    let link = Link::new(&Dated::new(hall.rt, &hall.lobby.clock), pass, caller);
+    let cut = serve_user(hall, &link, opening, &peer.stream, &chime);
+    let farewell = link.farewell(hall.rt);
     hall.lobby.chimes.take_down(hall.rt, peer.number);
-    gone
+    match cut {
+        Some(cut) => Gone::Cut(cut),
+        None => {
+            tell_of(
+                hall.rt,
+                hall.alloc,
+                hall.lobby,
+                peer,
+                "ended",
+                farewell.words(),
+                false,
+            );
+            Gone::Quietly
+        }
+    }
 }
 
 /// Lets go of what comes, once nothing more is written, until the peer has ended or was hung up on.
@@ -182,6 +193,8 @@ where
     match receive(hall.rt, hall.alloc, hall.door, hall.reception, &mut reader) {
         Received::Admitted(pass, caller, opening) => {
             hall.lobby.newcomers.leave(hall.rt, peer.number);
+            let line = hall.door.line_of(&pass);
+            tell_line(hall.rt, hall.alloc, hall.lobby, peer, line);
             serve_admitted(hall, peer, pass, caller, opening)
         }
         Received::Stranger(login) => {
@@ -192,45 +205,78 @@ where
     }
 }
 
-/// What is told of a connection that was cut off.
-fn tell_cut<R: Eprint>(rt: &R, alloc: Global, peer: &Peer, cut: Cut) {
+/// Tells what became of a connection, of this kind, in these words; where `is_owed` is not so, only where a log is asked for.
+fn tell_of<R: Wait + Clock>(
+    rt: &R,
+    alloc: Global,
+    lobby: &Lobby,
+    peer: &Peer,
+    kind: &str,
+    words: &str,
+    is_owed: bool,
+) {
+    if !is_owed && lobby.log.form().is_none() {
+        return;
+    }
+    match peer.words(alloc, kind, words) {
+        Ok(words) => lobby.tell(rt, alloc, kind, words.as_str()),
+        Err(_) => lobby.log.leave_out(rt),
+    }
+}
+
+/// Why somebody is put out.
+fn words_of_exclusion(why: Exclusion) -> &'static str {
+    match why {
+        Exclusion::Silent => "1000 requests in a row were denied in silence",
+        Exclusion::Kept => "the day's last records are for officers and readers",
+    }
+}
+
+/// Tells that a connection was cut off, and why.
+fn tell_cut<R: Wait + Clock>(rt: &R, alloc: Global, lobby: &Lobby, peer: &Peer, cut: Cut) {
     match cut {
-        Cut::Broken(fault) => peer.tell(rt, alloc, "no packets", words_of(fault)),
-        Cut::Excluded(Exclusion::Silent) => {
-            peer.tell(
-                rt,
-                alloc,
-                "put out",
-                "1000 requests in a row were denied in silence",
-            );
-        }
-        Cut::Excluded(Exclusion::Kept) => {
-            peer.tell(
-                rt,
-                alloc,
-                "put out",
-                "the day's last records are for officers and readers",
-            );
+        Cut::Broken(fault) => tell_of(rt, alloc, lobby, peer, "no packets", words_of(fault), true),
+        Cut::Excluded(why) => {
+            let words = words_of_exclusion(why);
+            tell_of(rt, alloc, lobby, peer, "put out", words, true);
         }
     }
 }
 
-/// What is told of a connection whose user has no line.
-fn tell_no_line<R: Eprint>(rt: &R, alloc: Global, peer: &Peer, why: NoLine) {
+/// Tells that a connection's user has no line, and why.
+fn tell_no_line<R: Wait + Clock>(rt: &R, alloc: Global, lobby: &Lobby, peer: &Peer, why: NoLine) {
     let words = match why.why() {
         LineFault::Kept => "the day's last lines and records are for officers and readers",
         LineFault::Unissued(PassFault::NoLines) => "the day has none left",
         LineFault::Unissued(PassFault::OutOfMemory) => "there is no memory for one",
     };
-    peer.tell(rt, alloc, "no line", words);
+    tell_of(rt, alloc, lobby, peer, "no line", words, true);
+}
+
+/// Tells on which line of the day a connection's user is, where a log is asked for.
+fn tell_line<R: Wait + Clock>(rt: &R, alloc: Global, lobby: &Lobby, peer: &Peer, line: u16) {
+    if lobby.log.form().is_none() {
+        return;
+    }
+    match format!(in alloc; "{line}") {
+        Ok(words) => tell_of(rt, alloc, lobby, peer, "line", words.as_str(), false),
+        Err(_) => lobby.log.leave_out(rt),
+    }
 }
 
 /// Tells why a connection has ended, where that is told.
-pub(crate) fn tell_gone<R: Eprint>(rt: &R, alloc: Global, lobby: &Lobby, peer: &Peer, gone: Gone) {
+pub(crate) fn tell_gone<R: Wait + Clock>(
+    rt: &R,
+    alloc: Global,
+    lobby: &Lobby,
+    peer: &Peer,
+    gone: Gone,
+) {
     match gone {
-        Gone::Cut(cut) => tell_cut(rt, alloc, peer, cut),
-        Gone::NoLine(why) => tell_no_line(rt, alloc, peer, why),
+        Gone::Cut(cut) => tell_cut(rt, alloc, lobby, peer, cut),
+        Gone::NoLine(why) => tell_no_line(rt, alloc, lobby, peer, why),
         Gone::Spared => lobby.tally.note(Mishap::Spared, 1),
-        Gone::Denied | Gone::Quietly => {}
+        Gone::Denied => tell_of(rt, alloc, lobby, peer, "ended", "no user's password", false),
+        Gone::Quietly => {}
     }
 }

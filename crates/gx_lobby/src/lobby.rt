@@ -6,9 +6,12 @@ use crate::chime::Chimes;
 use crate::newcomers::Newcomers;
 use crate::places::Places;
 use crate::stop::Stop;
-use crate::tally::Tally;
+use crate::tally::{MISHAPS, Mishap, Tally};
 use gx_clock::DayClock;
+use gx_log::Log;
 use std::alloc::Global;
+use std::sync::{Arc, Wait};
+use std::time::Clock;
 
 /// What the threads of a server share beside its gate.
 #[derive(Drop)]
@@ -31,12 +34,20 @@ pub struct Lobby {
     pub tally: Tally,
     /// Whether the server is to end.
     pub stop: Stop,
+    /// What is told on standard error.
+    pub log: Arc<Log, Global>,
 }
 
 impl Lobby {
     /// The lobby of one run of a server by this clock, with so many places for connections at once, each of which has so
-    /// many seconds for its login.
-    pub fn new(alloc: Global, clock: DayClock, at_once: u16, login_within: u64) -> Lobby {
+    /// many seconds for its login. What is told goes to this log.
+    pub fn new(
+        alloc: Global,
+        clock: DayClock,
+        at_once: u16,
+        login_within: u64,
+        log: Arc<Log, Global>,
+    ) -> Lobby {
         Lobby {
             clock,
             bell: Bell::new(),
@@ -47,11 +58,45 @@ impl Lobby {
             attempts: Attempts::new(alloc),
             tally: Tally::new(),
             stop: Stop::new(),
+            log,
         }
     }
 
     /// Asks the server to end: it takes no connection any more, and those that it serves end.
     pub fn end(&self) {
         self.stop.ask();
+    }
+
+    /// Tells what happened, in these words.
+    pub fn tell<R: Wait + Clock>(&self, rt: &R, alloc: Global, kind: &str, words: &str) {
+        self.log
+            .tell_event(rt, alloc, self.clock.now(rt), kind, words);
+    }
+
+    /// Tells what happened where a log is asked for, and nothing without one.
+    pub fn note<R: Wait + Clock>(&self, rt: &R, alloc: Global, kind: &str, words: &str) {
+        if self.log.form().is_some() {
+            self.tell(rt, alloc, kind, words);
+        }
+    }
+
+    /// Tells how often this went wrong since it was told last; nothing where it did not.
+    fn tell_mishap<R: Wait + Clock>(&self, rt: &R, alloc: Global, mishap: Mishap) {
+        let times = self.tally.take(mishap);
+        if times == 0 {
+            return;
+        }
+        let words = mishap.words();
+        match format!(in alloc; "gate: {times} {words}") {
+            Ok(words) => self.tell(rt, alloc, mishap.kind(), words.as_str()),
+            Err(_) => self.log.leave_out(rt),
+        }
+    }
+
+    /// Tells how often each thing went wrong at the door since it was told last, a line each.
+    pub fn tell_mishaps<R: Wait + Clock>(&self, rt: &R, alloc: Global) {
+        for mishap in MISHAPS {
+            self.tell_mishap(rt, alloc, mishap);
+        }
     }
 }

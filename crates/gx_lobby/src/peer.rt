@@ -1,6 +1,7 @@
 //! Who is connected, and what is told of him.
 
 use gx_soup::SoupFault;
+use gx_units::OutOfMemory;
 use std::alloc::Global;
 use std::net::{Shutdown, SocketAddr, TcpStream};
 
@@ -28,15 +29,13 @@ impl Peer {
         let _ = self.stream.shutdown(Shutdown::Both);
     }
 
-    /// Tells why the connection ended: a line, in one call, so that those of several connections stay apart; nothing where
-    /// there is no memory for it.
-    pub fn tell<R: Eprint>(&self, rt: &R, alloc: Global, why: &str, words: &str) {
+    /// Words on the connection, of this kind: `connection 9 from 127.0.0.1:51514: no line: ..`.
+    pub fn words(&self, alloc: Global, kind: &str, words: &str) -> Result<String, OutOfMemory> {
         let number = self.number;
         let address = self.address;
-        if let Ok(line) = format!(in alloc;
-            "connection {number} from {address}: {why}: {words}\n"
-        ) {
-            let _ = eprint!(rt; "{line}");
+        match format!(in alloc; "connection {number} from {address}: {kind}: {words}") {
+            Ok(words) => Ok(words),
+            Err(_) => Err(OutOfMemory),
         }
     }
 }

@@ -18,7 +18,7 @@ pub enum Mishap {
 }
 
 /// All of them.
-const MISHAPS: [Mishap; 5] = [
+pub(crate) const MISHAPS: [Mishap; 5] = [
     Mishap::Crowded,
     Mishap::Late,
     Mishap::Wanting,
@@ -27,8 +27,19 @@ const MISHAPS: [Mishap; 5] = [
 ];
 
 impl Mishap {
+    /// What kind of event it is.
+    pub(crate) fn kind(self) -> &'static str {
+        match self {
+            Mishap::Crowded => "crowded",
+            Mishap::Late => "late",
+            Mishap::Wanting => "wanting",
+            Mishap::Unserved => "unserved",
+            Mishap::Spared => "spared",
+        }
+    }
+
     /// What is told of so many.
-    fn words(self) -> &'static str {
+    pub(crate) fn words(self) -> &'static str {
         match self {
             Mishap::Crowded =>
                 "connections without a login were hung up on: their places were wanted",
@@ -80,14 +91,8 @@ impl Tally {
         self.count(mishap).fetch_add(times, Ordering::SeqCst);
     }
 
-    /// Tells on standard error how often each went wrong since it was told last, a line each; nothing where none did.
-    pub fn tell<R: Eprint>(&self, rt: &R) {
-        for mishap in MISHAPS {
-            let times = self.count(mishap).swap(0, Ordering::SeqCst);
-            if times > 0 {
-                let words = mishap.words();
-                let _ = eprintln!(rt; "gate: {times} {words}");
-            }
-        }
+    /// How often it went wrong since this was asked last.
+    pub fn take(&self, mishap: Mishap) -> u64 {
+        self.count(mishap).swap(0, Ordering::SeqCst)
     }
 }

@@ -175,7 +175,7 @@ fn play_at<
     pass: T,
     own: T,
 ) -> Option<Vain> {
-    let house = House::new(rt, alloc, door, reception);
+    let house = House::new(rt, alloc, door, reception).ok()?;
     play_with(&Stage::new(&house, script), Director::new(own), pass)
 }
 

@@ -4,7 +4,10 @@ use crate::clock::{Looks, PlayClock};
 use crate::peer::Peer;
 use gx_clock::{DayClock, UtcOffset};
 use gx_lobby::Lobby;
+use gx_log::Log;
+use gx_units::OutOfMemory;
 use std::alloc::Global;
+use std::sync::Arc;
 
 /// More places than a play has peers.
 const PLACES: u16 = 100;
@@ -32,8 +35,9 @@ impl<'x, D, A, R> House<'x, D, A, R> {
         alloc: Global,
         door: &'x D,
         reception: &'x A,
-    ) -> House<'x, D, A, R> {
-        House {
+    ) -> Result<House<'x, D, A, R>, OutOfMemory> {
+        let log = Arc::new(alloc, Log::new(None))?;
+        Ok(House {
             rt,
             alloc,
             door,
@@ -45,8 +49,9 @@ impl<'x, D, A, R> House<'x, D, A, R> {
                 DayClock::at(UtcOffset::UTC, None, None, 0),
                 PLACES,
                 LOGIN_WITHIN,
+                log,
             ),
-        }
+        })
     }
 }
 

@@ -1,5 +1,5 @@
 -- What a reader has heard, piece by piece.
-use Rattle.std.proofs.Common.{◌≡◌, ◌<◌, ℕ, inl, inr, ◌⊎◌, List, [], ◌++◌, Option, Some, None, refl, sym, ap, ◌∙◌, subst, append-nil, append_assoc, arith}
+use Rattle.std.proofs.Common.{◌≡◌, ◌<◌, ℕ, inl, inr, ◌⊎◌, List, [], ◌++◌, Option, sym, ap, ◌∙◌, subst, append-nil, append_assoc, arith}
 use Rattle.std.specs.Io.KnownBytes.{Consumes, IsAtEnd}
 use Rattle.std.proofs.KnownBytes.{Consumes-nil, Consumes-trans}
 use Rattle.gx_devices.specs.Devices.{one_more}

@@ -1,5 +1,5 @@
 -- What a piece of a connection's bytes leaves of its session.
-use Rattle.std.specs.Prelude.{◌≡◌, ◌<◌, ℕ, ◌⊎◌, List, [], ◌++◌, Option, Some, None}
+use Rattle.std.specs.Prelude.{◌≡◌, ◌<◌, ℕ, ◌⊎◌, List, ◌++◌, Option, Some, None}
 use Rattle.std.specs.Io.KnownBytes.{Consumes, IsAtEnd}
 use Rattle.gx_soup.specs.Feeding.{Held, HasRead}
 use Rattle.gx_soup.specs.Packets.{packets_of}

@@ -1,5 +1,5 @@
 -- What a writer is given to do: the answer to a login, and then what is due to its user.
-use Rattle.std.specs.Prelude.{◌≡◌, ◌≢◌, ◌==◌, ◌≤◌, ℕ, ◌⊎◌, Bool, true, false, ◌&&◌, not, cond, IsFalse, IsTrue, Option, Some, None, length}
+use Rattle.std.specs.Prelude.{◌≡◌, ◌≢◌, ◌==◌, ℕ, ◌⊎◌, Bool, true, false, ◌&&◌, not, cond, IsFalse, IsTrue, Option, Some, None, length}
 use Rattle.gx_units.specs.declared.names.UserName.{UserName}
 use Rattle.gx_units.specs.Spelling.{folded_user}
 use Rattle.gx_policy.specs.declared.policy.PolicyData.{PolicyData}

@@ -11,13 +11,17 @@ use std::time::{Clock, Duration};
 const PAUSE: u64 = 5;
 
 /// Keeps what was done, whenever its bell is rung, until that is closed, so that whoever is told something waits for no more than
-/// what was done just before. Where it can't be kept, the server is asked to end.
-pub fn keep_on<D: Door, R: Wait + Clock>(rt: &R, door: &D, lobby: &Lobby) {
+/// what was done just before. Where it can't be kept, the server is asked to end. Answers whether all was kept.
+pub fn keep_on<D: Door, R: Wait + Clock>(rt: &R, door: &D, lobby: &Lobby) -> bool {
     for _ in rt.forever() {
         let heard = lobby.keeping.hear(rt, false);
-        if heard.closed || !is_kept(rt, door, &lobby.stop) {
-            return;
+        if !is_kept(rt, door, &lobby.stop) {
+            return false;
+        }
+        if heard.closed {
+            return true;
         }
         thread::sleep(rt, Duration::from_millis(PAUSE));
     }
+    unreachable!()
 }

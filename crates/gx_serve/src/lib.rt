@@ -21,7 +21,7 @@ mod writing;
 pub use conduct::Exclusion;
 pub use connection::{HangUp, Listening, converse};
 pub use keeping::keep_on;
-pub use link::Link;
+pub use link::{Farewell, Link};
 pub use matching::match_on;
 pub use reading::{Cut, read_on};
 pub use receiving::{Gone, Received, let_go_of, receive, turn_away};

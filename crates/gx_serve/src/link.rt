@@ -48,10 +48,53 @@ pub(crate) fn is_farewell(packet: &ClientPacket) -> bool {
     }
 }
 
+/// Why a connection ends, as a log tells it.
+#[derive(Clone, Copy, PartialEq, Eq)]
+pub enum Farewell {
+    /// Its user has asked for it.
+    LoggedOut,
+    /// Its input has ended, or failed.
+    Left,
+    /// Its bytes are no packets, or can't be written.
+    Broken,
+    /// Memory was refused, or the day is full.
+    Refused,
+    /// The server ends.
+    ServerEnds,
+    /// Its user was silent for too long, was logged in nowhere, or was told that the day has ended.
+    Over,
+}
+
+impl Farewell {
+    /// What is told of it.
+    pub fn words(self) -> &'static str {
+        match self {
+            Farewell::LoggedOut => "logged out",
+            Farewell::Left => "the client has closed it, or the line broke",
+            Farewell::Broken => "what came were no packets, or nothing could be written",
+            Farewell::Refused => "memory was refused, or the day is full",
+            Farewell::ServerEnds => "the server ends",
+            Farewell::Over => "the session was over: silence, the end of the day, or no login",
+        }
+    }
+}
+
+impl Break {
+    /// Why a connection ends that is broken off for this.
+    fn farewell(self) -> Farewell {
+        match self {
+            Break::Refused(_) => Farewell::Refused,
+            Break::Fault => Farewell::Broken,
+        }
+    }
+}
+
 /// What the two threads of a connection share.
 #[derive(Drop)]
 pub struct Link<T: Drop> {
     seat: Mutex<Seat<T>>,
+    /// Why it ends: what was known of that first.
+    farewell: Mutex<Option<Farewell>>,
     /// Wakes who waits for the reader's end.
     news: Condvar,
 }
@@ -61,8 +104,22 @@ impl<T: Drop> Link<T> {
     pub fn new<R: Dial>(rt: &R, pass: T, caller: Caller) -> Link<T> {
         Link {
             seat: Mutex::new(Seat::new(rt, pass, caller, rt.moment())),
+            farewell: Mutex::new(None),
             news: Condvar::new(),
         }
+    }
+
+    /// Notes why the connection ends, unless that is known.
+    fn note<R: Wait>(&self, rt: &R, farewell: Farewell) {
+        let mut known = self.farewell.lock(rt);
+        if known.is_none() {
+            *known = Some(farewell);
+        }
+    }
+
+    /// Why the connection ends, as far as that is known.
+    pub fn farewell<R: Wait>(&self, rt: &R) -> Farewell {
+        self.farewell.lock(rt).unwrap_or(Farewell::Over)
     }
 
     /// Waits until the writer has looked for reports that this connection's own steps made, or a while has passed:
@@ -91,6 +148,7 @@ impl<T: Drop> Link<T> {
     {
         if is_farewell(packet) {
             self.await_look(rt);
+            self.note(rt, Farewell::LoggedOut);
         }
         self.seat.lock(rt).take_in(rt, door, packet, rt.moment())
     }
@@ -115,6 +173,7 @@ impl<T: Drop> Link<T> {
     ) -> BrokenOff
         ensures { result ≡ break_of cause }
     {
+        self.note(rt, cause.farewell());
         self.seat.lock(rt).break_off(rt, door, cause, rt.moment())
     }
 
@@ -139,6 +198,7 @@ impl<T: Drop> Link<T> {
     /// The reader has ended: its input has no more. The user is told of his steps before.
     pub fn end<D: Door<Ticket = T>, R: Wait + Clock + Dial>(&self, rt: &R, door: &D) -> Ended {
         self.await_look(rt);
+        self.note(rt, Farewell::Left);
         let ended = self.seat.lock(rt).end(rt, door, rt.moment());
         self.news.notify_one();
         ended
@@ -177,6 +237,18 @@ impl<T: Drop> Link<T> {
         unreachable!()
     }
 
+    /// Notes that the session is over, if that is what is due.
+    fn note_over<R: Wait>(&self, rt: &R, stop: &Stop, due: &Due) {
+        if !matches!(due, Due::Over(_)) {
+            return;
+        }
+        if stop.is_asked().is_yes() {
+            self.note(rt, Farewell::ServerEnds);
+        } else {
+            self.note(rt, Farewell::Over);
+        }
+    }
+
     /// What the writer has to do for the bookmark's user, and so many nanoseconds he may rest where that is nothing. The
     /// session is told of the server's end, where that was asked for. Where the session may have packets
     /// unread, its reader is given time to take them.
@@ -199,7 +271,10 @@ impl<T: Drop> Link<T> {
         }
         let heeded = seat.heed(rt, door, stop.is_asked(), moment);
         let due = seat.due(rt, door, heeded, bookmark, moment);
-        (due, seat.rest(moment))
+        let rest = seat.rest(moment);
+        MutexGuard::unlock(seat);
+        self.note_over(rt, stop, &due);
+        (due, rest)
     }
 
     /// Waits, woken by this chime, until the writer has something to do for the bookmark's user, or the session is over, which it is soon

@@ -30,11 +30,7 @@ pub struct Served<G> {
 }
 
 /// Serves at a gate of this name. Gives a pass too, which has met all that was done, and how many records that are.
-fn serve_shared<
-    G: AccessGate + Send,
-    N: GateName + Send + Sync,
-    R: Threads + Wait + Clock + Eprint + Sync,
->(
+fn serve_shared<G: AccessGate + Send, N: GateName + Send + Sync, R: Threads + Wait + Clock + Sync>(
     rt: &R,
     alloc: Global,
     policy: &Policy,
@@ -71,11 +67,7 @@ fn serve_shared<
 }
 
 /// Serves at a gate of this name.
-fn serve_named<
-    G: AccessGate + Send,
-    N: GateName + Send + Sync,
-    R: Threads + Wait + Clock + Eprint + Sync,
->(
+fn serve_named<G: AccessGate + Send, N: GateName + Send + Sync, R: Threads + Wait + Clock + Sync>(
     rt: &R,
     alloc: Global,
     policy: &Policy,
@@ -110,7 +102,7 @@ fn serve_named<
 
 /// Takes connections under the policy, and serves each until it ends: so many of them, or
 /// fewer where the lobby is asked to end. Gives the gate back, also where it gave up.
-pub fn serve<G: AccessGate + Send, R: Threads + Wait + Clock + Eprint + Sync>(
+pub fn serve<G: AccessGate + Send, R: Threads + Wait + Clock + Sync>(
     rt: &R,
     alloc: Global,
     policy: &Policy,

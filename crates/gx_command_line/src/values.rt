@@ -1,0 +1,91 @@
+//! Values of options that are read by themselves, where they can't be.
+
+ghost use Rattle.std.specs.Prelude.{◌≡◌, ◌↔◌, IsSome, IfSome, None};
+ghost use Rattle.gx_clock.specs.Offsets.{offset_of};
+ghost use Rattle.gx_clock.specs.Times.{time_of};
+
+use gx_clock::{TimeOfDay, UtcOffset};
+use std::fmt;
+
+/// So many bytes of a value are shown at most.
+const SHOWN: usize = 64;
+
+/// An option whose value is read by itself.
+#[derive(Clone, Copy, Debug, PartialEq, Eq)]
+pub enum ReadOption {
+    /// `--midnight <OFFSET>`.
+    Midnight,
+    /// `--until <TIME>`.
+    Until,
+}
+
+impl ReadOption {
+    /// As it stands in the help.
+    fn name(self) -> &'static str {
+        match self {
+            ReadOption::Midnight => "--midnight <OFFSET>",
+            ReadOption::Until => "--until <TIME>",
+        }
+    }
+
+    /// What is told of a value that can't be read.
+    fn wanted(self) -> &'static str {
+        match self {
+            ReadOption::Midnight => "it is not +HH:MM or -HH:MM of at most 14 hours",
+            ReadOption::Until => "it is not a time of day, HH:MM or HH:MM:SS",
+        }
+    }
+}
+
+/// A value that can't be read. Its `Display` is the text for the user, with each byte that is no visible ASCII character as
+/// `\xNN`.
+#[derive(Clone, Copy, Debug)]
+pub struct BadValue<'a> {
+    option: ReadOption,
+    text: &'a str,
+}
+
+impl<'a> BadValue<'a> {
+    /// The value of `--midnight`, if it is no offset.
+    pub fn of_midnight(text: &'a str) -> Option<BadValue<'a>>
+        ensures bad { IsSome result ↔ offset_of text.entry.now ≡ None }
+        ensures text { IfSome result (λ bad. bad.text ≡ text.entry) }
+    {
+        match UtcOffset::parse(text) {
+            Some(_) => None,
+            None => Some(BadValue {
+                option: ReadOption::Midnight,
+                text,
+            }),
+        }
+    }
+
+    /// The value of `--until`, if it is no time of day.
+    pub fn of_until(text: &'a str) -> Option<BadValue<'a>>
+        ensures bad { IsSome result ↔ time_of text.entry.now ≡ None }
+        ensures text { IfSome result (λ bad. bad.text ≡ text.entry) }
+    {
+        match TimeOfDay::parse(text) {
+            Some(_) => None,
+            None => Some(BadValue {
+                option: ReadOption::Until,
+                text,
+            }),
+        }
+    }
+}
+
+impl fmt::Display for BadValue<'_> {
+    fn fmt<W: fmt::Write>(&self, f: &mut fmt::Formatter<W>) -> fmt::Result {
+        let name = self.option.name();
+        let wanted = self.option.wanted();
+        let bytes = self.text.as_bytes();
+        let shown = bytes[..bytes.len().min(SHOWN)].escape_ascii();
+        let rest = if bytes.len() > SHOWN { ".." } else { "" };
+        writeln!(
+            f,
+            "error: invalid value '{shown}{rest}' for '{name}': {wanted}"
+        )?;
+        write!(f, "\nFor more information, try '--help'.\n")
+    }
+}

@@ -1,0 +1,61 @@
+//! Who writes what is told.
+
+ghost use Rattle.std.specs.Prelude.{◌≡◌, ◌<◌, ◌^◌, ◌-◌, OnErr, OnOk};
+ghost use Rattle.std.specs.Io.KnownBytes.{Appends};
+ghost use Rattle.gx_devices.specs.Devices.{IsFront};
+ghost use Rattle.gx_log.specs.Queues.{left_out_line, written};
+
+use crate::log::Log;
+use crate::queue::{Batch, LOG_ROOM};
+use gx_devices::{Counted, WriteFailed, write_whole};
+use itoa::Buffer;
+use std::io::Write;
+use std::sync::Wait;
+use std::thread;
+use std::time::{Clock, Duration};
+
+/// So many microseconds lie at least between two times that lines are written, for each byte of the first: at most some 65,000 bytes
+/// are written a second.
+const REST: u64 = 15;
+
+/// Writes how many lines were left out; nothing where none was.
+fn write_left_out<W: Write>(count: u64, writer: &mut Counted<W>) -> Result<(), WriteFailed>
+    requires { writer.old.failed < 2 ^ 64 - 1 }
+    ensures written { OnOk result (Appends
+        (W.contents writer.old.device) (W.contents writer.new.device) (left_out_line count)) }
+{
+    if count == 0 {
+        return Ok(());
+    }
+    let mut digits = Buffer::new();
+    write_whole(writer, b"gate: ")?;
+    write_whole(writer, digits.format(count).as_bytes())?;
+    write_whole(
+        writer,
+        b" lines were left out: standard error was not read in time\n",
+    )
+}
+
+/// Writes lines that were taken, and behind them how many were left out.
+pub fn write_batch<W: Write>(batch: &Batch, writer: &mut Counted<W>) -> Result<(), WriteFailed>
+    requires { writer.old.failed < 2 ^ 64 - 1 }
+    ensures written { OnOk result (Appends
+        (W.contents writer.old.device) (W.contents writer.new.device) (written batch.now)) }
+{
+    write_whole(writer, batch.text())?;
+    write_left_out(batch.left_out(), writer)
+}
+
+/// Writes what is told, until the log is closed. What can't be written is let go.
+pub fn write_on<W: Write, R: Wait + Clock>(rt: &R, log: &Log, writer: &mut W) {
+    for _ in rt.forever() {
+        let closed = log.is_closed();
+        let batch = log.take(rt);
+        let _ = write_batch(&batch, &mut Counted::new(&mut *writer));
+        let count = batch.text().len().min(LOG_ROOM) as u64;
+        if closed && count == 0 {
+            return;
+        }
+        thread::sleep(rt, Duration::from_micros(REST * count));
+    }
+}
