@@ -20,6 +20,8 @@ const NOT_REGULAR: &str = "not a regular file";
 pub(crate) enum Content {
     /// A policy.
     Policy,
+    /// A password, in its first line.
+    Password,
     /// The records of a day: an audit or a journal.
     Records,
 }
@@ -30,6 +32,7 @@ impl Content {
     fn most(self) -> usize {
         match self {
             Content::Policy => 16_777_216,
+            Content::Password => 4_096,
             Content::Records => 2_147_524_864,
         }
     }
@@ -38,6 +41,7 @@ impl Content {
     fn too_long(self) -> &'static str {
         match self {
             Content::Policy => "longer than a policy may be, 16777216 bytes",
+            Content::Password => "longer than a password's file may be, 4096 bytes",
             Content::Records => "longer than a day's records can be, 2147524864 bytes",
         }
     }

@@ -4,6 +4,7 @@
 ghost use Rattle.std.specs.Prelude.{◌-◌, ◌^◌, ◌<◌};
 
 mod auditing;
+mod desk;
 mod ending;
 mod ends;
 mod files;
@@ -14,6 +15,7 @@ mod streams;
 use auditing::{AuditFile, close_audited, leave_audit, open_audit};
 use clap::Error;
 use clap::error::ErrorKind as UsageFault;
+use desk::desk_told;
 use ending::{Ended, Place, tell, tell_in};
 use ends::{await_ends, connections_of};
 use files::{Content, Named, bytes_of, tell_apart};
@@ -556,8 +558,8 @@ fn run<'a>(rt: &HostRuntime, asked: Asked<'a>) -> Result<ExitCode, Ended<'a>> {
         Asked::Script(files) => run_files(rt, Input::Lines, files)?,
         Asked::Policy(file) => policy(rt, file)?,
         Asked::Migrate(file) => migrate(rt, file)?,
-        // served by `main`, which alone may start threads
-        Asked::Serve(_) => {}
+        // by `main`, which alone may start threads
+        Asked::Serve(_) | Asked::Desk(_) => {}
         Asked::Check(files) => return check(rt, files),
         Asked::Show(files, wanted) => return show(rt, files, wanted),
     }
@@ -684,6 +686,7 @@ fn main(rt: HostRuntime) -> ExitCode {
     };
     match asked_of(&rt, words.as_slice()) {
         Ok(Asked::Serve(serving)) => serve_told(&rt, &rt, serving),
+        Ok(Asked::Desk(desk)) => desk_told(&rt, &rt, desk),
         Ok(asked) => done(&rt, asked),
         Err(status) => status,
     }

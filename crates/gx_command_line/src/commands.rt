@@ -40,16 +40,23 @@ a matching step `N filled TAKER MAKER SHARES PRICE`, `N rested ORDER`, `N expire
 const SHOWN_LINES: &str =
     "Each line is a line of a script, and behind the last ` # ` what became of it: the line and the moment,
 and then the number of the record and its verdict, as a script prints them. An audit holds no password:
-RIGHT and WRONG stand in its place. What no line of a script asks for is a comment. To run a day again:
-  gate show AUDIT | sed 's/\\(.*\\) # .*/\\1/' | sed 's/ login RIGHT / login PASSWORD /' | gate script";
+RIGHT and WRONG stand in its place. What no line of a script asks for is a comment. To run a day again,
+under a copy of its policy in which each user has the password RIGHT:
+  gate show AUDIT --policy DAY | sed 's/\\(.*\\) # .*/\\1/' | gate script --policy COPY";
 
 /// What an argument is, and what stands behind it.
 #[derive(Clone, Copy)]
 enum Kind {
     /// A word that is known by its place, and has to be there.
     Word,
+    /// Words known by their place, all that stand behind the options.
+    Words,
     /// An option with a text.
     Text,
+    /// An option with a text, which has to be there.
+    NeededText,
+    /// An option with nothing.
+    Flag,
     /// An option with one of these words.
     Choice(&'static [&'static str]),
     /// An option with a number from 1 to 65,535, which has to be there.
@@ -128,6 +135,9 @@ pub(crate) const LOG: &str = "log";
 pub(crate) const TEXT: &str = "text";
 
 pub(crate) const JSON: &str = "json";
+
+/// The name of the words of a command.
+pub(crate) const WORDS: &str = "words";
 
 /// The name of the option `--until`, whose value is read by itself too.
 pub(crate) const UNTIL: &str = "until";
@@ -282,12 +292,82 @@ const SHOW: Subcommand = Subcommand {
     lines: Some(SHOWN_LINES),
 };
 
+/// What `gate desk --help` says of the password and of the lines.
+const DESK_LINES: &str =
+    "The password is the first line of --password-file, else the variable GATE_PASSWORD, else the first line of standard
+input. It is never an argument, which others could see.
+WORDS are one command, as `kill ALFA` or `buy 100 TEST 10.50`; `help` shows all of them. Without them commands come from
+standard input, a line each. Answers are written on standard output, all else on standard error. The status is
+  0  all was done                          1  the line failed, or no answer came
+  2  a line can't be read                  5  something was denied or rejected
+  6  the login was rejected";
+
+const DESK: Subcommand = Subcommand {
+    name: "desk",
+    about: "Logs in to a gate, sends commands of an officer or orders of a trader, and shows the answers",
+    arguments: &[
+        Argument {
+            name: "port",
+            value: "P",
+            kind: Kind::Port,
+            help: "The port that the gate listens on",
+        },
+        Argument {
+            name: "host",
+            value: "ADDRESS",
+            kind: Kind::Text,
+            help: "The gate's address; without it 127.0.0.1, this machine's own",
+        },
+        Argument {
+            name: "user",
+            value: "USER",
+            kind: Kind::NeededText,
+            help: "The user to log in as",
+        },
+        Argument {
+            name: "password-file",
+            value: "FILE",
+            kind: Kind::Text,
+            help: "The file whose first line is the password",
+        },
+        Argument {
+            name: "policy",
+            value: "FILE",
+            kind: Kind::Text,
+            help: "The policy file whose accounts `kill --all` kills; needed for that alone",
+        },
+        Argument {
+            name: JSON,
+            value: "",
+            kind: Kind::Flag,
+            help: "Write each answer as a JSON object",
+        },
+        Argument {
+            name: "reconnect",
+            value: "",
+            kind: Kind::Flag,
+            help: "Where the line breaks, connect again, each second for a minute, and go on; \
+                   what was asked is not asked again",
+        },
+        Argument {
+            name: WORDS,
+            value: "WORDS",
+            kind: Kind::Words,
+            help: "One command; options stand in front of it",
+        },
+    ],
+    lines: Some(DESK_LINES),
+};
+
 /// The argument, with its help.
 fn build_argument<'a>(alloc: Global, asked: &Argument) -> Result<Arg<'a>, AllocError> {
     let made = Arg::new(alloc, asked.name).help(asked.help);
     match asked.kind {
         Kind::Word => Ok(made.value_name(asked.value).required(true)),
+        Kind::Words => Ok(trailing_words(made, asked)),
         Kind::Text => Ok(made.long(asked.name).value_name(asked.value)),
+        Kind::NeededText => Ok(made.long(asked.name).value_name(asked.value).required(true)),
+        Kind::Flag => Ok(flag(made, asked)),
         Kind::Choice(words) => Ok(
             made.long(asked.name)
                 .value_name(asked.value)
@@ -308,6 +388,14 @@ fn build_argument<'a>(alloc: Global, asked: &Argument) -> Result<Arg<'a>, AllocE
 /// The argument as an option with nothing behind it.
 fn flag<'a>(made: Arg<'a>, asked: &Argument) -> Arg<'a> {
     made.long(asked.name).action(ArgAction::SetTrue)
+}
+
+/// The argument as all words that stand behind the options, some of which may begin with `-`.
+fn trailing_words<'a>(made: Arg<'a>, asked: &Argument) -> Arg<'a> {
+    made.value_name(asked.value)
+        .num_args(1..)
+        .trailing_var_arg(true)
+        .allow_hyphen_values(true)
 }
 
 /// The argument as an option with an offset from UTC.
@@ -369,7 +457,7 @@ fn with_subcommand<'a>(
 /// The command line: what may be asked, with its help.
 pub(crate) fn command_line<'a>(alloc: Global) -> Result<Command<'a>, AllocError> {
     let mut gate = program(alloc);
-    for asked in &[PIPE, SERVE, SCRIPT, POLICY, MIGRATE, CHECK, SHOW] {
+    for asked in &[PIPE, SERVE, SCRIPT, POLICY, MIGRATE, CHECK, SHOW, DESK] {
         gate = with_subcommand(alloc, gate, asked)?;
     }
     Ok(gate)

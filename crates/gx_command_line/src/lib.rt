@@ -7,7 +7,7 @@ mod values;
 mod words;
 
 use clap::{ArgMatches, Error};
-use commands::{JSON, LOG, MIDNIGHT, UNTIL, command_line};
+use commands::{JSON, LOG, MIDNIGHT, UNTIL, WORDS, command_line};
 use gx_clock::{TimeOfDay, UtcOffset};
 use gx_text::Form;
 use refused::told_of;
@@ -85,6 +85,27 @@ pub struct Wanted<'a> {
     pub user: Option<&'a str>,
 }
 
+/// What a terminal client is to do.
+#[derive(Clone, Copy, Debug)]
+pub struct Desk<'a> {
+    /// The address of the gate, if it is not this machine's own.
+    pub host: Option<&'a str>,
+    /// The port that the gate listens on.
+    pub port: u16,
+    /// The user to log in as.
+    pub user: &'a str,
+    /// The file whose first line is the password, if there is one.
+    pub password_file: Option<&'a str>,
+    /// The policy whose accounts are known, if one is named.
+    pub policy: Option<&'a str>,
+    /// Whether answers are written as JSON.
+    pub is_json: bool,
+    /// Whether it connects again where the line breaks.
+    pub reconnects: bool,
+    /// The words of the one command; none where commands come from standard input.
+    pub words: &'a [String],
+}
+
 /// What a call asks for.
 #[derive(Clone, Copy, Debug)]
 pub enum Asked<'a> {
@@ -102,6 +123,8 @@ pub enum Asked<'a> {
     Check(AuditFiles<'a>),
     /// `gate show`: to show records of an audit.
     Show(AuditFiles<'a>, Wanted<'a>),
+    /// `gate desk`: to be a terminal of a gate.
+    Desk(Desk<'a>),
 }
 
 /// Why the words of a call ask for nothing.
@@ -196,8 +219,31 @@ fn wanted_records<'a>(given: &ArgMatches<'a>) -> Wanted<'a> {
     }
 }
 
+/// The last so many words.
+fn last_words<'a>(words: &'a [String], count: usize) -> &'a [String] {
+    &words[words.len().saturating_sub(count)..]
+}
+
+/// What a terminal client is to do. The words of its command stand behind all others of the call.
+fn desk_options<'a>(given: &ArgMatches<'a>, words: &'a [String]) -> Option<Desk<'a>> {
+    let count = match given.get_strs(WORDS) {
+        Some(command) => command.len(),
+        None => 0,
+    };
+    Some(Desk {
+        host: given.get_str("host"),
+        port: given.get_one::<u16>("port")?,
+        user: given.get_str("user")?,
+        password_file: given.get_str("password-file"),
+        policy: given.get_str("policy"),
+        is_json: given.get_flag(JSON),
+        reconnects: given.get_flag("reconnect"),
+        words: last_words(words, count),
+    })
+}
+
 /// What was asked for; `None` where no command was named, which the command line refuses beforehand.
-fn asked_for<'a>(given: &ArgMatches<'a>) -> Option<Asked<'a>> {
+fn asked_for<'a>(given: &ArgMatches<'a>, words: &'a [String]) -> Option<Asked<'a>> {
     let (name, given) = given.subcommand()?;
     match name {
         "pipe" => Some(Asked::Pipe(run_files(given))),
@@ -207,6 +253,7 @@ fn asked_for<'a>(given: &ArgMatches<'a>) -> Option<Asked<'a>> {
         "migrate" => Some(Asked::Migrate(given.get_str("file")?)),
         "check" => Some(Asked::Check(audit_files(given)?)),
         "show" => Some(Asked::Show(audit_files(given)?, wanted_records(given))),
+        "desk" => Some(Asked::Desk(desk_options(given, words)?)),
         _ => None,
     }
 }
@@ -237,6 +284,6 @@ pub fn read<'a>(alloc: Global, words: &'a [String]) -> Result<Option<Asked<'a>>,
     let given = matches_of(alloc, words)?;
     match bad_midnight(&given).or(bad_until(&given)) {
         Some(bad) => Err(BadCall::Value(bad)),
-        None => Ok(asked_for(&given)),
+        None => Ok(asked_for(&given, words)),
     }
 }

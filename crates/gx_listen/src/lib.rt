@@ -3,6 +3,7 @@
 //! - `accepting`: connections are taken, and each has a place;
 //! - `visiting`: a connection from its beginning to its end;
 //! - `serving`: the threads of a server;
+//! - `telling`: the log of the day's records, as they are made;
 //! - `ending`, `fault`: how a server ended.
 //!
 //! Nobody keeps an officer out: whoever has not logged in is hung up on for the next who comes.
@@ -13,8 +14,9 @@ mod dated;
 mod ending;
 mod fault;
 mod serving;
+mod telling;
 mod visiting;
 
 pub use ending::{Ending, Unserved};
 pub use fault::ServeFault;
-pub use serving::serve_door;
+pub use serving::{DayLog, serve_door};

@@ -1,15 +1,20 @@
 //! The threads of a server.
 
-ghost use Rattle.std.specs.Prelude.{IfErr};
+ghost use Rattle.std.specs.Prelude.{◌≡◌, [], IfErr, IfSome};
+ghost use Rattle.gx_events.specs.Known.{known_of};
 ghost use Rattle.gx_listen.specs.Endings.{IsHalted};
 
 use crate::accepting::{accept, take_place};
 use crate::dated::Dated;
 use crate::ending::{Ending, Halt, Unserved};
 use crate::fault::ServeFault;
+use crate::telling::{Telling, tell_records};
 use crate::visiting::{Hall, serve_stream, tell_gone};
 use gx_door::{Door, Issuer};
+use gx_events::EventLog;
 use gx_lobby::{Lobby, Mishap, Peer, Place};
+use gx_logging::RecordLog;
+use gx_pass::PassFault;
 use gx_reception::{Admits, Reception};
 use gx_serve::{keep_on, match_on};
 use std::alloc::Global;
@@ -171,8 +176,66 @@ fn take_connections<
     take_guests(&hall, listener, connections)
 }
 
+/// The log of a day's records, and how many of them an earlier run has told.
+#[derive(Drop)]
+pub struct DayLog {
+    /// What is told of records: it stands in front of the day's first.
+    pub events: EventLog,
+    /// So many records were there before this run.
+    pub earlier: u64,
+}
+
+/// The log of the records at the door, if one is asked for, with a pass of its own.
+fn open_log<D: Door, I: Issuer<D>, R: Wait>(
+    rt: &R,
+    issuer: &mut I,
+    log: Option<DayLog>,
+) -> Result<Option<Telling<D>>, PassFault>
+    requires known { IfSome log (λ l. l.events.known ≡ known_of D.policy []) }
+{
+    match log {
+        Some(DayLog { events, earlier }) => {
+            let log = RecordLog::new(issuer.issue(rt)?, events);
+            Ok(Some(Telling { log, earlier }))
+        }
+        None => Ok(None),
+    }
+}
+
+/// Takes connections at the door, beside who tells of the records, if a log is asked for: how this ended; `OutOfMemory`
+/// where no thread could be made for him.
+fn take_told<
+    'x,
+    T: Drop + Send,
+    D: Door<Ticket = T> + Sync,
+    A: Admits<D> + Sync,
+    R: Threads + Wait + Clock + Sync,
+>(
+    rt: &'x R,
+    alloc: Global,
+    door: &'x D,
+    reception: &A,
+    lobby: &'x Lobby,
+    telling: Option<Telling<D>>,
+    listener: TcpListener,
+    connections: u64,
+) -> Result<Ending, Unserved> {
+    let Some(telling) = telling else {
+        return Ok(take_connections(rt, alloc, door, reception, lobby, listener, connections));
+    };
+    thread::scope(thread::scope_env(), rt, |scope| {
+        let Ok(_telling) = (&*scope).spawn(move || tell_records(rt, alloc, door, lobby, telling))
+        else {
+            return Err(Unserved::of_fault(ServeFault::OutOfMemory));
+        };
+        let taken = take_connections(rt, alloc, door, reception, lobby, listener, connections);
+        lobby.newcomers.close();
+        Ok(taken)
+    })
+}
+
 /// Takes connections at the door, beside who looks after newcomers and who keeps what is done: how this ended;
-/// `OutOfMemory` where no thread could be made for one of these.
+/// `OutOfMemory` where no thread could be made for one of these, or for who tells of the records.
 fn take_watched<
     'x,
     T: Drop + Send,
@@ -185,6 +248,7 @@ fn take_watched<
     door: &'x D,
     reception: &A,
     lobby: &'x Lobby,
+    telling: Option<Telling<D>>,
     listener: TcpListener,
     connections: u64,
 ) -> Result<Ending, Unserved> {
@@ -196,10 +260,19 @@ fn take_watched<
             lobby.newcomers.close();
             return Err(Unserved::of_fault(ServeFault::OutOfMemory));
         };
-        let taken = take_connections(rt, alloc, door, reception, lobby, listener, connections);
+        let taken = take_told(
+            rt,
+            alloc,
+            door,
+            reception,
+            lobby,
+            telling,
+            listener,
+            connections,
+        );
         lobby.newcomers.close();
         lobby.keeping.close(rt);
-        Ok(taken)
+        taken
     })
 }
 
@@ -218,6 +291,7 @@ fn run<
     reception: &A,
     lobby: &'x Lobby,
     pass: T,
+    telling: Option<Telling<D>>,
     listener: TcpListener,
     connections: u64,
 ) -> Result<(T, Ending), Unserved> {
@@ -230,7 +304,16 @@ fn run<
         )) else {
             return Err(Unserved::of_fault(ServeFault::OutOfMemory));
         };
-        let taken = take_watched(rt, alloc, door, reception, lobby, listener, connections);
+        let taken = take_watched(
+            rt,
+            alloc,
+            door,
+            reception,
+            lobby,
+            telling,
+            listener,
+            connections,
+        );
         lobby.bell.close(rt);
         let pass = matcher.join(rt);
         match taken {
@@ -243,7 +326,8 @@ fn run<
 /// Serves at any door, with passes of its gate: takes connections, each in threads of its own, and makes matching steps,
 /// until so many were served, or the lobby was asked to end. All threads have ended then.
 ///
-/// A connection has a line from its login on, if its user has the right password.
+/// A connection has a line from its login on, if its user has the right password. The log of the records, if one is asked
+/// for, is told in the lobby's.
 ///
 /// Gives back a pass, and how the server ended.
 ///
@@ -262,12 +346,19 @@ pub fn serve_door<
     door: &D,
     issuer: I,
     lobby: &Lobby,
+    log: Option<DayLog>,
     listener: TcpListener,
     connections: u64,
-) -> Result<(T, Ending), Unserved> {
+) -> Result<(T, Ending), Unserved>
+    requires known { IfSome log (λ l. l.events.known ≡ known_of D.policy []) }
+{
     let mut issuer = issuer;
     let pass = match issuer.issue(rt) {
         Ok(pass) => pass,
+        Err(fault) => return Err(Unserved::of_fault(fault.into())),
+    };
+    let telling = match open_log(rt, &mut issuer, log) {
+        Ok(telling) => telling,
         Err(fault) => return Err(Unserved::of_fault(fault.into())),
     };
     let reception = match Reception::open(rt, door, issuer) {
@@ -287,6 +378,7 @@ pub fn serve_door<
         &reception,
         lobby,
         pass,
+        telling,
         listener,
         connections,
     )

@@ -2,7 +2,7 @@
 use Rattle.std.specs.Prelude.{ℕ, List, ◌++◌, codes, Option, Some, None}
 use Rattle.gx_text.specs.declared.form.Form.{Form}
 use Rattle.gx_text.specs.declared.form.Form.TheVariants.{Text, Json}
-use Rattle.gx_text.specs.declared.moments.Decimals.TheVariants.{Six}
+use Rattle.gx_text.specs.declared.moments.Decimals.TheVariants.{Nine, Six}
 use Rattle.gx_text.specs.Moments.{moment_text}
 use Rattle.gx_text.specs.Shown.{json_string}
 
@@ -11,4 +11,4 @@ unfoldable pub event_line : Option Form → ℕ → List ℕ → List ℕ → Li
 event_line None moment kind words = words ++ codes "\n"
 event_line (Some Text) moment kind words = moment_text Six moment ++ codes " " ++ words ++ codes "\n"
 event_line (Some Json) moment kind words =
-    codes "{\"at\":\"" ++ moment_text Six moment ++ codes "\",\"event\":" ++ json_string kind ++ codes ",\"text\":" ++ json_string words ++ codes "}\n"
+    codes "{\"at\":\"" ++ moment_text Nine moment ++ codes "\",\"event\":" ++ json_string kind ++ codes ",\"text\":" ++ json_string words ++ codes "}\n"

@@ -43,7 +43,7 @@ fn json_line(alloc: Global, moment: Moment, kind: &str, words: &str) -> Result<V
 {
     let mut line = Vec::new(alloc);
     append(&mut line, b"{\"at\":\"")?;
-    append_moment(&mut line, moment, Decimals::Six)?;
+    append_moment(&mut line, moment, Decimals::Nine)?;
     append(&mut line, b"\",\"event\":")?;
     append_json_string(&mut line, kind.as_bytes())?;
     append(&mut line, b",\"text\":")?;

@@ -5,15 +5,18 @@
 //! - `queue`: the text that waits, and how many lines were left out;
 //! - `event`: the lines of events;
 //! - `log`: what the threads of a server share of it;
+//! - `pieces`: long texts, told in pieces of whole lines;
 //! - `teller`: the thread that writes.
 #![tactic(auto)]
 
 mod event;
 mod log;
+mod pieces;
 mod queue;
 mod teller;
 
 pub use event::event_line;
 pub use log::Log;
+pub use pieces::piece_size;
 pub use queue::{Batch, LOG_ROOM, Queue};
 pub use teller::{write_batch, write_on};

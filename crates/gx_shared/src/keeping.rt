@@ -1,6 +1,7 @@
 //! A server whose day is kept.
 
-ghost use Rattle.std.specs.Prelude.{◌≡◌, ◌≤◌, drop, length, IfOk, None};
+ghost use Rattle.std.specs.Prelude.{◌≡◌, ◌≤◌, [], drop, length, IfOk, IfSome, None};
+ghost use Rattle.gx_events.specs.Known.{known_of};
 ghost use mathlib.Core.List.{IsPrefix};
 ghost use Rattle.gx_history.specs.Verdicts.{IsLegal};
 ghost use Rattle.gx_shared.specs.Permits.{all_parts};
@@ -8,6 +9,7 @@ ghost use Rattle.gx_journal.specs.Journals.{journal_bytes, IsGrown};
 ghost use Rattle.gx_shared.specs.GoingOn.{GoesOn};
 
 use crate::entrance::Entrance;
+use crate::logging::day_log;
 use crate::permit::{BlankLedgers, Permits};
 use crate::rest::put_rest;
 use crate::shared::SharedGate;
@@ -15,7 +17,7 @@ use crate::ticket::Ticket;
 use gx_answers::AccessGate;
 use gx_journal::{Journal, JournalFault, JournalName, Journaled};
 use gx_leaving::log_out_at_last;
-use gx_listen::{Ending, serve_door};
+use gx_listen::{DayLog, Ending, serve_door};
 use gx_lobby::Lobby;
 use gx_pass::{Blank, GateName, PassFault};
 use std::alloc::Global;
@@ -80,9 +82,11 @@ fn serve_kept<
     count: u64,
     device: W,
     lobby: &Lobby,
+    log: Option<DayLog>,
     listener: TcpListener,
     connections: u64,
 ) -> (Kept<G, W>, Ticket<N>, Total<N>, Ending)
+    requires known { IfSome log (λ l. l.events.known ≡ known_of N.policy []) }
     requires begun { W.contents device ≡ J.begun }
     requires count { count ≡ J.count }
     requires met { pass.held.front ≡ J.earlier }
@@ -100,7 +104,16 @@ fn serve_kept<
         alloc, &shared, pass, count, device,
     );
     let entrance = Entrance::new(&shared, permits);
-    let served = serve_door(rt, alloc, &door, entrance, lobby, listener, connections);
+    let served = serve_door(
+        rt,
+        alloc,
+        &door,
+        entrance,
+        lobby,
+        log,
+        listener,
+        connections,
+    );
     let ended = match served {
         Ok((_pass, ended)) => ended,
         Err(unserved) => unserved.ending(),
@@ -144,6 +157,10 @@ fn serve_named<
         (W.contents left.0.device)
         (journal_bytes (drop J.count (G.seen left.0.gate).records))) }
 {
+    let Ok(log) = day_log(alloc, gate.policy(), lobby, count) else {
+        gate.close();
+        return Err(PassFault::OutOfMemory);
+    };
     match SharedGate::<G, N>::over(gate, blank, ledgers) {
         Ok((shared, permits, pass)) => {
             let (kept, _met, _total, ended) = serve_kept::<G, N, J, W, R>(
@@ -155,6 +172,7 @@ fn serve_named<
                 count,
                 device,
                 lobby,
+                log,
                 listener,
                 connections,
             );

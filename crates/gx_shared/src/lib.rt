@@ -27,6 +27,7 @@ mod counting;
 mod desk;
 mod entrance;
 mod keeping;
+mod logging;
 mod permit;
 mod rest;
 mod resuming;

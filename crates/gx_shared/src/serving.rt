@@ -5,6 +5,7 @@ ghost use Rattle.gx_history.specs.Verdicts.{IsLegal};
 ghost use Rattle.gx_shared.specs.Permits.{all_parts};
 
 use crate::entrance::Entrance;
+use crate::logging::day_log;
 use crate::permit::BlankLedgers;
 use crate::shared::SharedGate;
 use crate::ticket::Ticket;
@@ -51,9 +52,19 @@ fn serve_shared<G: AccessGate + Send, N: GateName + Send + Sync, R: Threads + Wa
     ensures total { IfOk result
         (λ left. left.2.amount ≡ length (G.seen left.0.gate).records) }
 {
+    let log = day_log(alloc, policy, lobby, 0)?;
     let (door, permits) = SharedGate::<G, N>::new(alloc, policy, blank, ledgers)?;
     let entrance = Entrance::new(&door, permits);
-    let served = serve_door(rt, alloc, &door, entrance, lobby, listener, connections);
+    let served = serve_door(
+        rt,
+        alloc,
+        &door,
+        entrance,
+        lobby,
+        log,
+        listener,
+        connections,
+    );
     match served {
         Ok((pass, ended)) => {
             let (gate, pass, total) = door.close(pass);

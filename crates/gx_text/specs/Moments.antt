@@ -8,7 +8,7 @@ abbrev pub with_zeros : ℕ → ℕ → List ℕ
 with_zeros width number = replicate (width - length (decimal number)) 48 ++ decimal number
 
 -- a minute behind midnight, as 10:29; the hours go on past 23
-abbrev pub minute_text : ℕ → List ℕ
+unfoldable pub minute_text : ℕ → List ℕ
 minute_text minute = with_zeros 2 (minute / 60) ++ codes ":" ++ with_zeros 2 (minute % 60)
 
 -- what stands behind the point: microseconds, or nanoseconds

@@ -6,6 +6,10 @@ use Rattle.gx_units.specs.Spelling.{without_right_spaces}
 abbrev pub is_visible : ℕ → Bool
 is_visible byte = nat_le 33 byte && nat_le byte 126
 
+-- a character that is seen, or a space
+abbrev pub is_printed : ℕ → Bool
+is_printed byte = is_visible byte || byte == 32
+
 -- 0 to 9, a to f
 abbrev pub hex_digit : ℕ → ℕ
 hex_digit digit = if nat_lt digit 10 then 48 + digit else 87 + digit
@@ -23,7 +27,7 @@ shown bytes = flat_map shown_byte bytes
 -- `"` and `\` behind a `\`, any other visible byte and a space as they are, all others as \u00NN
 abbrev pub json_byte : ℕ → List ℕ
 json_byte byte =
-    if byte == 34 || byte == 92 then 92 ∷ byte ∷ [] else (if is_visible byte || byte == 32 then byte ∷ [] else codes "\\u00" ++ hex_pair byte)
+    if byte == 34 || byte == 92 then 92 ∷ byte ∷ [] else (if is_printed byte then byte ∷ [] else codes "\\u00" ++ hex_pair byte)
 
 abbrev pub json_string : List ℕ → List ℕ
 json_string bytes = codes "\"" ++ flat_map json_byte bytes ++ codes "\""

@@ -22,6 +22,7 @@ pub enum Decimals {
 }
 
 /// Puts a minute at the end of the text, as `10:29`. Minutes count from midnight; the hours go on past 23.
+#[tactic(auto, unfolding(crate::specs::Moments::minute_text))]
 pub fn append_minute(text: &mut Vec<u8>, minute: u64) -> Result<(), OutOfMemory>
     ensures { OnOk result (text.new.items ≡ text.old.items ++ minute_text minute) }
 {

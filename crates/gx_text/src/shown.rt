@@ -1,7 +1,7 @@
 //! Bytes that a peer chose, shown in a text and in JSON.
 
 ghost use Rattle.std.specs.Prelude.{◌≡◌, ◌<◌, ◌++◌, flat_map, OnOk};
-ghost use Rattle.gx_text.specs.Shown.{is_visible, hex_digit, hex_pair, shown_byte, shown, json_byte, json_string, shown_name, json_name};
+ghost use Rattle.gx_text.specs.Shown.{is_printed, is_visible, hex_digit, hex_pair, shown_byte, shown, json_byte, json_string, shown_name, json_name};
 
 use crate::appending::append;
 use gx_units::{OutOfMemory, unpadded};
@@ -11,6 +11,13 @@ fn is_visible(byte: u8) -> bool
     ensures { result ≡ is_visible byte }
 {
     byte >= b'!' && byte <= b'~'
+}
+
+/// Whether the byte is a character that is seen, or a space.
+fn is_printed(byte: u8) -> bool
+    ensures { result ≡ is_printed byte }
+{
+    is_visible(byte) || byte == b' '
 }
 
 fn hex_digit(digit: u8) -> u8
@@ -64,7 +71,7 @@ fn append_json_byte(text: &mut Vec<u8>, byte: u8) -> Result<(), OutOfMemory>
     if byte == b'"' || byte == b'\\' {
         return append(text, &[b'\\', byte]);
     }
-    if is_visible(byte) || byte == b' ' {
+    if is_printed(byte) {
         return append(text, &[byte]);
     }
     append(text, b"\\u00")?;

@@ -1,0 +1,12 @@
+pub mod ReadBack
+pub mod OfficersBack
+pub mod ToldApart
+pub mod Written
+pub mod ServerSoups
+pub mod ServerSteps
+pub mod ServerBounds
+pub mod SessionNames
+pub mod ServerWritten
+pub mod PacketLaws
+pub mod Hearing
+pub mod ReportsBack

@@ -1,0 +1,6 @@
+use Rattle.gx_client.proofs.ServerSoups.{packets_nil}
+use Rattle.gx_client.proofs.feeder.ServerFeeder.new.Goals as goal
+
+pub returns : goal.returns
+returns c =
+    record { rest = rw (c.new.ensures.items, packets_nil); fault = rw packets_nil }

@@ -1,0 +1,5 @@
+use Rattle.gx_client.proofs.PacketLaws.{little_is_held_back}
+use Rattle.gx_client.proofs.laws.little_is_held_back.Goals as goal
+
+pub returns : goal.returns
+returns c = little_is_held_back

@@ -1,0 +1,5 @@
+use Rattle.gx_client.proofs.PacketLaws.{nothing_follows_a_fault}
+use Rattle.gx_client.proofs.laws.nothing_follows_a_fault.Goals as goal
+
+pub returns : goal.returns
+returns c = nothing_follows_a_fault

@@ -1,0 +1,5 @@
+use Rattle.gx_client.proofs.ServerWritten.{packet_read}
+use Rattle.gx_client.proofs.laws.packets_are_read_back.Goals as goal
+
+pub returns : goal.returns
+returns c = packet_read

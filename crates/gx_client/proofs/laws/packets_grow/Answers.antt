@@ -1,0 +1,5 @@
+use Rattle.gx_client.proofs.PacketLaws.{packets_grow}
+use Rattle.gx_client.proofs.laws.packets_grow.Goals as goal
+
+pub returns : goal.returns
+returns c = packets_grow

@@ -1,0 +1,134 @@
+//! What the lines ask for, done.
+
+use crate::fault::Fault;
+use crate::run::{Phase, Run};
+use crate::timer::Timer;
+use crossbeam_channel::Receiver;
+use gx_desk::Action;
+use gx_terminal::{HELP, Wish, Wrong};
+use gx_units::AccountName;
+use std::alloc::Global;
+use std::io::{Read, Write};
+use std::sync::Wait;
+use std::time::Clock;
+
+/// What is told of `kill --all` where no accounts are known.
+pub const NO_ACCOUNTS: &str = "kill --all wants --policy FILE, which has the accounts";
+
+impl<S: Read + Write + Drop, O: Write + Drop, E: Write + Drop> Run<S, O, E> {
+    /// Obeys the command or the next line, if nothing waits for an answer.
+    pub(crate) fn obey_next<R: Wait + Clock>(
+        &mut self,
+        rt: &R,
+        lines: &Receiver<Option<Vec<u8>>, Global>,
+    ) -> Result<(), Fault> {
+        if self.phase != Phase::Talking || !self.operator.waiting().is_empty() {
+            return Ok(());
+        }
+        match self.command.take() {
+            Some(line) => self.obey(rt, line.as_slice()),
+            None => self.obey_line(rt, lines),
+        }
+    }
+
+    /// Obeys the next of the lines that come, if one has come.
+    fn obey_line<R: Wait + Clock>(
+        &mut self,
+        rt: &R,
+        lines: &Receiver<Option<Vec<u8>>, Global>,
+    ) -> Result<(), Fault> {
+        if self.is_single && !self.operator.is_watching() {
+            return self.leave(rt);
+        }
+        match lines.try_recv(rt) {
+            Ok(Some(line)) => self.obey(rt, line.as_slice()),
+            Ok(None) => self.leave(rt),
+            Err(error) if error.is_empty() => Ok(()),
+            Err(_) => self.leave(rt),
+        }
+    }
+
+    /// Waits for the end of the lines, behind the end of the session: none can be obeyed any more.
+    pub(crate) fn await_no_line<R: Wait>(
+        &mut self,
+        rt: &R,
+        lines: &Receiver<Option<Vec<u8>>, Global>,
+    ) -> Result<(), Fault> {
+        match lines.recv(rt) {
+            Ok(Some(_)) => Err(Fault::SessionEnded),
+            Ok(None) | Err(_) => {
+                self.phase = Phase::Over;
+                Ok(())
+            }
+        }
+    }
+
+    fn obey<R: Clock>(&mut self, rt: &R, line: &[u8]) -> Result<(), Fault> {
+        match Wish::read(line) {
+            Ok(wish) => self.do_wish(rt, &wish),
+            Err(wrong) => {
+                self.tell_wrong(wrong);
+                Ok(())
+            }
+        }
+    }
+
+    fn tell_wrong(&mut self, wrong: Wrong) {
+        self.has_bad_words = true;
+        let _ = writeln!(self.err, "gate: {wrong}");
+    }
+
+    fn do_wish<R: Clock>(&mut self, rt: &R, wish: &Wish) -> Result<(), Fault> {
+        match wish {
+            Wish::Nothing => Ok(()),
+            Wish::Watch => {
+                self.operator.watch();
+                Ok(())
+            }
+            Wish::Help => self.show(HELP.as_bytes()),
+            Wish::Quit => self.leave(rt),
+            Wish::KillAll => self.kill_all(rt),
+            Wish::Ask(_) | Wish::Enter(_) | Wish::Replace(_) | Wish::Cancel(_) => {
+                self.ask(rt, wish)
+            }
+        }
+    }
+
+    /// Asks for a single command or order.
+    fn ask<R: Clock>(&mut self, rt: &R, wish: &Wish) -> Result<(), Fault> {
+        let Some(asked) = self.operator.asked(wish) else {
+            return Ok(());
+        };
+        let packet = self.operator.ask(&asked)?;
+        self.asked = Timer::start(rt);
+        self.send(rt, packet.as_slice())
+    }
+
+    /// The account at this place of those that are known.
+    fn account_at(&self, place: usize) -> Option<AccountName> {
+        match &self.accounts {
+            Some(accounts) => accounts.as_slice().get(place).copied(),
+            None => None,
+        }
+    }
+
+    /// Asks for a Kill of each account, all at once.
+    fn kill_all<R: Clock>(&mut self, rt: &R) -> Result<(), Fault> {
+        if self.accounts.is_none() {
+            self.has_bad_words = true;
+            let _ = writeln!(self.err, "gate: {NO_ACCOUNTS}");
+            return Ok(());
+        }
+        self.kill_each(rt)
+    }
+
+    fn kill_each<R: Clock>(&mut self, rt: &R) -> Result<(), Fault> {
+        for place in 0..usize::MAX {
+            match self.account_at(place) {
+                Some(account) => self.ask(rt, &Wish::Ask(Action::Kill(account)))?,
+                None => break,
+            }
+        }
+        Ok(())
+    }
+}

@@ -1,0 +1,288 @@
+//! A run over a stream.
+
+use crate::fault::Fault;
+use crate::named::{all_name_orders, named_order};
+use crate::timer::Timer;
+use crossbeam_channel::Receiver;
+use gx_client::{ClientSession, ServerFeeder, heartbeat_packet, logout_packet};
+use gx_lines::Form;
+use gx_operator::Operator;
+use gx_soup::LoginRequest;
+use gx_units::{AccountName, unpadded};
+use std::alloc::Global;
+use std::io::{Read, Write};
+use std::sync::Wait;
+use std::time::Clock;
+
+/// So many milliseconds behind the last packet it sent, a client sends a heartbeat.
+const BEAT: u64 = 1_000;
+
+/// Behind so many milliseconds in which nothing was heard the line is taken for broken.
+const SILENCE: u64 = 15_000;
+
+/// An answer is waited for so many milliseconds.
+const PATIENCE: u64 = 5_000;
+
+/// That of a replace or a cancel, which may never come, so many.
+const SHORT_PATIENCE: u64 = 1_000;
+
+/// Behind its logout a client waits so many milliseconds for the server to close the line.
+const FAREWELL: u64 = 1_000;
+
+/// What is told of what was asked on a line that broke, and never answered.
+const LOST: &[u8] =
+    b"gate: no answer to what was asked when the line broke: the gate may not have heard it\n";
+
+/// Where a run stands.
+#[derive(Clone, Copy, PartialEq, Eq)]
+pub(crate) enum Phase {
+    /// The login is not answered yet.
+    LoggingIn,
+    /// Lines are obeyed.
+    Talking,
+    /// The server has ended the session; lines may come all the same.
+    Ended,
+    /// It has logged out, and waits for the server to close the line.
+    Leaving,
+    /// It is over.
+    Over,
+}
+
+/// What a run begins with.
+#[derive(Drop)]
+pub struct Setup {
+    pub login: LoginRequest,
+    /// How lines are written.
+    pub form: Form,
+    /// The milliseconds past midnight, of which its tags and tokens are made.
+    pub start: u32,
+    /// The accounts that `kill --all` kills, where they are known.
+    pub accounts: Option<Vec<AccountName>>,
+    /// The one command, where there is but one; behind `watch` lines come all the same.
+    pub command: Option<Vec<u8>>,
+}
+
+/// A run of the client over a stream, whose reads end in time where nothing comes. Answers go to `out`, all else to `err`.
+#[derive(Drop)]
+pub struct Run<S: Drop, O: Drop, E: Drop> {
+    pub(crate) alloc: Global,
+    pub(crate) stream: S,
+    pub(crate) out: O,
+    pub(crate) err: E,
+    pub(crate) feeder: ServerFeeder,
+    pub(crate) session: ClientSession,
+    pub(crate) operator: Operator,
+    pub(crate) accounts: Option<Vec<AccountName>>,
+    /// The one command, until it is obeyed.
+    pub(crate) command: Option<Vec<u8>>,
+    /// Whether no line is obeyed behind it.
+    pub(crate) is_single: bool,
+    pub(crate) phase: Phase,
+    pub(crate) has_bad_words: bool,
+    pub(crate) is_unmet: bool,
+    /// The number of the report that the gate sends again behind the login, if it has sent one before.
+    pub(crate) repeated: Option<u64>,
+    /// Whether it goes on over another stream than it began on.
+    pub(crate) is_taken_up: bool,
+    /// Whether anything was asked on a line that broke, and never answered.
+    pub(crate) is_lost: bool,
+    /// When something was sent last.
+    pub(crate) sent: Timer,
+    /// When something was heard last.
+    pub(crate) heard: Timer,
+    /// When what is waited for was asked.
+    pub(crate) asked: Timer,
+}
+
+impl<S: Read + Write + Drop, O: Write + Drop, E: Write + Drop> Run<S, O, E> {
+    pub fn new<R: Clock>(
+        rt: &R,
+        alloc: Global,
+        setup: Setup,
+        stream: S,
+        out: O,
+        err: E,
+    ) -> Run<S, O, E> {
+        let now = Timer::start(rt);
+        Run {
+            alloc,
+            stream,
+            out,
+            err,
+            feeder: ServerFeeder::new(alloc),
+            session: ClientSession::new(setup.login),
+            operator: Operator::new(alloc, setup.form, setup.start),
+            accounts: setup.accounts,
+            is_single: setup.command.is_some(),
+            command: setup.command,
+            phase: Phase::LoggingIn,
+            has_bad_words: false,
+            is_unmet: false,
+            repeated: None,
+            is_taken_up: false,
+            is_lost: false,
+            sent: now,
+            heard: now,
+            asked: now,
+        }
+    }
+
+    /// Logs in, and waits until that is answered.
+    pub fn log_in<R: Wait + Clock>(&mut self, rt: &R) -> Result<(), Fault> {
+        let packet = self.session.login_packet(self.alloc)?;
+        self.send(rt, packet.as_slice())?;
+        for _ in rt.forever() {
+            self.listen(rt)?;
+            self.keep_time(rt)?;
+            if self.phase != Phase::LoggingIn {
+                break;
+            }
+        }
+        Ok(())
+    }
+
+    /// Goes on over another stream, from the report behind the last one that it heard: logs in, and waits until that is
+    /// answered. What waits for an answer is not asked again: its answer may come among these reports.
+    pub fn take_up<R: Wait + Clock>(&mut self, rt: &R, stream: S) -> Result<(), Fault> {
+        self.stream = stream;
+        self.feeder = ServerFeeder::new(self.alloc);
+        self.session = ClientSession::new(self.session.login_request());
+        self.phase = Phase::LoggingIn;
+        self.is_taken_up = true;
+        self.asked = Timer::start(rt);
+        self.heard = self.asked;
+        self.log_in(rt)
+    }
+
+    /// Obeys the one command, or the lines that come, each once the one before is answered, until a None comes or nobody
+    /// sends any more; then it logs out.
+    pub fn follow<R: Wait + Clock>(
+        &mut self,
+        rt: &R,
+        lines: &Receiver<Option<Vec<u8>>, Global>,
+    ) -> Result<(), Fault> {
+        for _ in rt.forever() {
+            if self.phase == Phase::Over {
+                break;
+            }
+            self.turn(rt, lines)?;
+        }
+        Ok(())
+    }
+
+    /// The status of what was answered so far: 0; 1 where something was lost with a line; 2 where a line could not be read;
+    /// 5 where anything was denied or rejected, or not answered since there was no such order.
+    pub fn status(&self) -> u8 {
+        let lost = if self.is_lost { 1 } else { 0 };
+        let words = if self.has_bad_words { 2 } else { 0 };
+        let unmet = if self.is_unmet { 5 } else { 0 };
+        self.operator.status().max(lost).max(words).max(unmet)
+    }
+
+    fn turn<R: Wait + Clock>(
+        &mut self,
+        rt: &R,
+        lines: &Receiver<Option<Vec<u8>>, Global>,
+    ) -> Result<(), Fault> {
+        if self.phase == Phase::Ended {
+            return self.await_no_line(rt, lines);
+        }
+        self.listen(rt)?;
+        self.keep_time(rt)?;
+        self.obey_next(rt, lines)
+    }
+
+    pub(crate) fn send<R: Clock>(&mut self, rt: &R, packet: &[u8]) -> Result<(), Fault> {
+        self.sent = Timer::start(rt);
+        match self.stream.write_all(packet) {
+            Ok(()) => Ok(()),
+            Err(_) => Err(Fault::LineBroke),
+        }
+    }
+
+    /// Logs out.
+    pub(crate) fn leave<R: Clock>(&mut self, rt: &R) -> Result<(), Fault> {
+        self.phase = Phase::Leaving;
+        self.asked = Timer::start(rt);
+        let packet = logout_packet(self.alloc)?;
+        self.send(rt, packet.as_slice())
+    }
+
+    fn keep_time<R: Clock>(&mut self, rt: &R) -> Result<(), Fault> {
+        if self.heard.has_passed(rt, SILENCE) {
+            return Err(Fault::LineBroke);
+        }
+        match self.phase {
+            Phase::LoggingIn => self.await_login(rt),
+            Phase::Talking => self.await_answers(rt),
+            Phase::Leaving => {
+                self.await_close(rt);
+                Ok(())
+            }
+            Phase::Ended | Phase::Over => Ok(()),
+        }
+    }
+
+    fn await_login<R: Clock>(&mut self, rt: &R) -> Result<(), Fault> {
+        if self.asked.has_passed(rt, PATIENCE) {
+            return Err(Fault::NoAnswer);
+        }
+        Ok(())
+    }
+
+    fn await_close<R: Clock>(&mut self, rt: &R) {
+        if self.asked.has_passed(rt, FAREWELL) {
+            self.phase = Phase::Over;
+        }
+    }
+
+    fn await_answers<R: Clock>(&mut self, rt: &R) -> Result<(), Fault> {
+        if !self.operator.waiting().is_empty() {
+            if self.asked.has_passed(rt, PATIENCE) {
+                self.lose()?;
+            }
+            self.look_for_unmet(rt);
+        }
+        self.beat(rt)
+    }
+
+    /// What waits is not answered in time: behind a line that broke that is told, and the run goes on.
+    fn lose(&mut self) -> Result<(), Fault> {
+        if !self.is_taken_up {
+            return Err(Fault::NoAnswer);
+        }
+        self.is_lost = true;
+        self.operator.give_up();
+        let _ = self.err.write_all(LOST);
+        Ok(())
+    }
+
+    fn beat<R: Clock>(&mut self, rt: &R) -> Result<(), Fault> {
+        if !self.sent.has_passed(rt, BEAT) {
+            return Ok(());
+        }
+        let packet = heartbeat_packet(self.alloc)?;
+        self.send(rt, packet.as_slice())
+    }
+
+    /// A replace or a cancel that is not answered in a second names no live order.
+    fn look_for_unmet<R: Clock>(&mut self, rt: &R) {
+        if all_name_orders(self.operator.waiting()) && self.asked.has_passed(rt, SHORT_PATIENCE) {
+            self.tell_unmet();
+            self.operator.give_up();
+            self.is_unmet = true;
+        }
+    }
+
+    fn tell_unmet(&mut self) {
+        for asked in self.operator.waiting() {
+            if let Some(token) = named_order(asked) {
+                let _ = self
+                    .err
+                    .write_all(b"gate: no order of yours is live under ");
+                let _ = self.err.write_all(unpadded(&token.bytes));
+                let _ = self.err.write_all(b"\n");
+            }
+        }
+    }
+}

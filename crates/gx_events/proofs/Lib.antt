@@ -1,0 +1,6 @@
+mod Limiting
+mod Counting
+mod Knowing
+mod Going
+mod Sampling
+mod Lining

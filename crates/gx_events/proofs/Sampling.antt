@@ -1,0 +1,30 @@
+-- The lines of the sample day, computed.
+use Rattle.std.proofs.Common.{refl}
+use Rattle.std.specs.Fmt.{digits}
+use Rattle.gx_history.specs.InForce.{rules_in_force}
+use Rattle.gx_text.specs.Moments.{minute_text, moment_text}
+use Rattle.gx_events.specs.Known.{known_of}
+use Rattle.gx_events.specs.Words.{asked_text, done_text, event_text}
+use Rattle.gx_events.specs.Fields.{event_fields, named_fields}
+use Rattle.gx_events.specs.Lines.{event_line}
+use Rattle.gx_events.specs.Sample.{CommandsAreTold, CommandsAreToldInJson, FullDaysAreTold, PeopleAreTold, PeopleAreToldInJson}
+
+pub people_are_told : PeopleAreTold
+unfolding digits rules_in_force minute_text moment_text known_of asked_text done_text event_text event_line
+people_are_told = refl
+
+pub people_are_told_in_json : PeopleAreToldInJson
+unfolding digits rules_in_force minute_text moment_text known_of event_fields named_fields event_line
+people_are_told_in_json = refl
+
+pub commands_are_told : CommandsAreTold
+unfolding digits rules_in_force minute_text moment_text known_of asked_text done_text event_text event_line
+commands_are_told = refl
+
+pub commands_are_told_in_json : CommandsAreToldInJson
+unfolding digits rules_in_force minute_text moment_text known_of event_fields named_fields event_line
+commands_are_told_in_json = refl
+
+pub full_days_are_told : FullDaysAreTold
+unfolding digits rules_in_force minute_text moment_text known_of asked_text done_text event_text event_line
+full_days_are_told = refl

@@ -1,0 +1,111 @@
+-- What the log knows of the records so far.
+use Rattle.std.specs.Prelude.{ℕ, ◌+◌, ◌/◌, ◌==◌, Bool, true, false, not, ◌&&◌, max, min, fold, if◌then◌else◌, List, map, find, length, filter, Option, Some, is_some, unwrap_or, option_and_then, option_map}
+use Rattle.std.specs.Option.{option_map_or}
+use Rattle.std.specs.List.{filter_map}
+use Rattle.gx_units.specs.Names.{same_rule}
+use Rattle.gx_units.specs.declared.names.RuleId.{RuleId}
+use Rattle.gx_desk.specs.declared.Action.{Action}
+use Rattle.gx_desk.specs.declared.Action.TheVariants as actions
+use Rattle.gx_policy.specs.declared.policy.FileRule.{FileRule}
+use Rattle.gx_policy.specs.declared.policy.PolicyData.{PolicyData}
+use Rattle.gx_policy.specs.Lists.{behind_last, where_true}
+use Rattle.gx_history.specs.declared.record.Asked.{Asked}
+use Rattle.gx_history.specs.declared.record.RecordData.{RecordData}
+use Rattle.gx_history.specs.declared.record.Verdict.{Verdict}
+use Rattle.gx_history.specs.declared.record.Verdict.TheVariants as verdicts
+use Rattle.gx_history.specs.InForce.{limit_of, rules_in_force}
+use Rattle.gx_history.specs.Requests.{asked, granted_action, is_login}
+use Rattle.gx_history.specs.Verdicts.{last_moment}
+use Rattle.gx_events.specs.declared.limits.RuleLimit.{RuleLimit}
+
+-- the minute behind midnight
+abbrev pub minute_of : ℕ → ℕ
+minute_of moment = moment / 60000000000
+
+-- the records that stand last, all of them within this minute
+abbrev pub within : ℕ → List RecordData → List RecordData
+within minute records = unwrap_or (behind_last (λ (r : RecordData). not (minute_of r.moment == minute)) records) records
+
+-- the request was denied
+abbrev pub is_denied : Verdict → Bool
+is_denied (verdicts.Denied rule) = true
+is_denied other = false
+
+-- the login that is asked for, if one is
+abbrev pub login_asked : RecordData → Option Asked
+login_asked r = option_and_then (λ (a : Asked). where_true (is_login a.request) a) (asked r.step)
+
+-- the record denies a login
+abbrev pub denies_login : RecordData → Bool
+denies_login r = is_some (login_asked r) && is_denied r.verdict
+
+-- the most that is counted
+abbrev pub most_counted : ℕ
+most_counted = 18446744073709551615
+
+-- how many logins were denied within the minute
+abbrev pub denied_within : ℕ → List RecordData → ℕ
+denied_within minute records = min most_counted (length (filter denies_login (within minute records)))
+
+-- the line on which a login was asked for
+abbrev pub login_line : RecordData → Option ℕ
+login_line r = option_map (λ (a : Asked). a.line) (login_asked r)
+
+-- the highest line on which a login was asked for, or 0
+abbrev pub highest_line : List RecordData → ℕ
+highest_line records = fold max 0 (filter_map login_line records)
+
+-- a rule's name and its limit, if it has one that Set Limit may change
+abbrev pub limit_entry : FileRule → RuleLimit
+limit_entry rule = record { rule = rule.name; limit = limit_of rule.kind }
+
+abbrev pub limits_of : List FileRule → List RuleLimit
+limits_of rules = map limit_entry rules
+
+-- the limit of the rule of this name
+abbrev pub limit_named : List RuleLimit → RuleId → Option ℕ
+limit_named limits name = option_and_then (λ (l : RuleLimit). l.limit) (find (λ (l : RuleLimit). same_rule l.rule name) limits)
+
+pub record Known : Type 0 where
+  -- the limits in force
+  pub limits : List RuleLimit
+  -- the minute of the last record
+  pub minute : ℕ
+  -- how many logins were denied within it
+  pub denied : ℕ
+  pub highest : ℕ
+
+unfoldable pub known_of : PolicyData → List RecordData → Known
+known_of policy records = record {
+  limits = limits_of (rules_in_force policy records);
+  minute = minute_of (last_moment records);
+  denied = denied_within (minute_of (last_moment records)) records;
+  highest = highest_line records;
+}
+
+-- What one more record makes of it.
+
+-- the limit, set if the rule has this name and a limit
+abbrev pub limit_set : RuleId → ℕ → RuleLimit → RuleLimit
+limit_set name limit l = if same_rule l.rule name && is_some l.limit then record { rule = l.rule; limit = Some limit } else l
+
+-- the limits after a granted command
+abbrev pub limits_after : List RuleLimit → Action → List RuleLimit
+limits_after limits (actions.SetLimit name limit) = map (limit_set name limit) limits
+limits_after limits other = limits
+
+-- how many logins were denied so far within the minute
+abbrev pub denied_so_far : Known → ℕ → ℕ
+denied_so_far known minute = if known.minute == minute then known.denied else 0
+
+-- the count with one more, where there is one
+abbrev pub counted : Bool → ℕ → ℕ
+counted one_more count = if one_more then min most_counted (count + 1) else count
+
+abbrev pub known_next : Known → RecordData → Known
+known_next known r = record {
+  limits = option_map_or (limits_after known.limits) (granted_action r) known.limits;
+  minute = minute_of r.moment;
+  denied = counted (denies_login r) (denied_so_far known (minute_of r.moment));
+  highest = option_map_or (max known.highest) (login_line r) known.highest;
+}

@@ -1,0 +1,61 @@
+-- The lines of the log.
+use Rattle.std.specs.Prelude.{ℕ, Bool, true, false, if◌then◌else◌, List, [], ◌++◌, codes, decimal, flat_map, Option}
+use Rattle.std.specs.Option.{option_map_or}
+use Rattle.gx_policy.specs.declared.policy.PolicyData.{PolicyData}
+use Rattle.gx_policy.specs.Lists.{each_after}
+use Rattle.gx_history.specs.declared.record.RecordData.{RecordData}
+use Rattle.gx_text.specs.Moments.{moment_text}
+use Rattle.gx_text.specs.declared.moments.Decimals.TheVariants.{Six, Nine}
+use Rattle.gx_events.specs.declared.event.Event.{Event}
+use Rattle.gx_events.specs.declared.event.Event.TheVariants as events
+use Rattle.gx_text.specs.declared.form.Form.{Form}
+use Rattle.gx_text.specs.declared.form.Form.TheVariants.{Text, Json}
+use Rattle.gx_events.specs.Known.{Known, known_of}
+use Rattle.gx_events.specs.Events.{own_event, more_denied, records_used, lines_used}
+use Rattle.gx_events.specs.Words.{event_text}
+use Rattle.gx_events.specs.Fields.{event_fields, number_field}
+
+-- the event is this record's, and not of the minute before it
+abbrev pub is_of_record : Event → Bool
+is_of_record (events.MoreDenied count minute) = false
+is_of_record other = true
+
+-- the number of the record, where the event is the record's
+abbrev pub record_text : Event → ℕ → List ℕ
+record_text event number = if is_of_record event then codes ", record " ++ decimal number else []
+
+abbrev pub record_field : Event → ℕ → List ℕ
+record_field event number = if is_of_record event then number_field (codes "record") number else []
+
+-- an event, told with a record: its moment and what happened
+unfoldable pub event_line : Form → RecordData → Event → List ℕ
+event_line Text r event = moment_text Six r.moment ++ codes " " ++ event_text event ++ record_text event r.number ++ codes "\n"
+event_line Json r event =
+    codes "{\"at\":\"" ++ moment_text Nine r.moment ++ codes "\"" ++ event_fields event ++ record_field event r.number ++ codes "}\n"
+
+-- the line of an event, if there is one
+abbrev pub maybe_line : Form → RecordData → Option Event → List ℕ
+maybe_line form r event = option_map_or (event_line form r) event []
+
+-- the lines of a record, by what is known of the records before it
+abbrev pub record_lines : Form → Known → RecordData → List ℕ
+record_lines form known r =
+    maybe_line form r (more_denied known r) ++ maybe_line form r (own_event known r)
+    ++ maybe_line form r (lines_used known r) ++ maybe_line form r (records_used r)
+
+-- the lines of a record behind those before it
+abbrev pub line_of : Form → PolicyData → List RecordData → RecordData → List ℕ
+line_of form policy before r = record_lines form (known_of policy before) r
+
+-- the lines of these records behind those before them
+abbrev pub lines_behind : Form → PolicyData → List RecordData → List RecordData → List ℕ
+lines_behind form policy before records = flat_map (λ (e : List RecordData × RecordData). line_of form policy e.0 e.1) (each_after before records)
+
+-- the log of a day
+abbrev pub log_of : Form → PolicyData → List RecordData → List ℕ
+log_of form policy records = lines_behind form policy [] records
+
+-- the form of a log, and what it knows of the records that were told or passed over
+pub record Standing : Type 0 where
+  pub form : Form
+  pub known : Known

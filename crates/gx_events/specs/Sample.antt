@@ -1,0 +1,153 @@
+-- The log of a sample day, line by line.
+use Rattle.std.specs.Prelude.{ℕ, ◌≡◌, true, List, [], ◌∷◌, ◌++◌, codes, take}
+use Rattle.gx_units.specs.declared.names.AccountName.{AccountName}
+use Rattle.gx_units.specs.declared.names.RuleId.{RuleId}
+use Rattle.gx_units.specs.declared.names.Symbol.{Symbol}
+use Rattle.gx_units.specs.declared.names.UserName.{UserName}
+use Rattle.gx_desk.specs.declared.Action.{Action}
+use Rattle.gx_desk.specs.declared.Action.TheVariants as actions
+use Rattle.gx_policy.specs.declared.policy.PolicyData.{PolicyData}
+use Rattle.gx_policy.specs.declared.policy.Count.TheVariants.{Each}
+use Rattle.gx_policy.specs.declared.policy.Lifters.TheVariants.{Two}
+use Rattle.gx_policy.specs.declared.policy.RuleKind.TheVariants as kinds
+use Rattle.gx_policy.specs.declared.policy.Scope.TheVariants as scopes
+use Rattle.gx_policy.specs.declared.rule_name.RuleName.TheVariants as names
+use Rattle.gx_history.specs.declared.record.RecordData.{RecordData}
+use Rattle.gx_history.specs.declared.record.Request.{Request}
+use Rattle.gx_history.specs.declared.record.Request.TheVariants as requests
+use Rattle.gx_history.specs.declared.record.Step.TheVariants as steps
+use Rattle.gx_history.specs.declared.record.Verdict.{Verdict}
+use Rattle.gx_history.specs.declared.record.Verdict.TheVariants as verdicts
+use Rattle.gx_text.specs.declared.form.Form.TheVariants.{Text, Json}
+use Rattle.gx_events.specs.Lines.{log_of}
+
+-- a policy with the rules GROSS, of 4,000,000 shares, and HALT
+abbrev pub sample : PolicyData
+sample = record {
+  session = record { bytes = codes "GATE01    " };
+  lifters = Two;
+  accounts = [];
+  stocks = [];
+  users = [];
+  rules =
+      record { name = record { bytes = codes "GROSS   " }; kind = kinds.GrossShares 4000000 Each; scope = scopes.All }
+      ∷ record { name = record { bytes = codes "HALT    " }; kind = kinds.Halt []; scope = scopes.All }
+      ∷ [];
+}
+
+abbrev pub alfa : AccountName
+alfa = record { bytes = codes "ALFA    " }
+
+abbrev pub gross : RuleId
+gross = record { bytes = codes "GROSS   " }
+
+abbrev pub halt : RuleId
+halt = record { bytes = codes "HALT    " }
+
+abbrev pub test_stock : Symbol
+test_stock = record { bytes = codes "TEST    " }
+
+abbrev pub olga : UserName
+olga = record { bytes = codes "OLGA  " }
+
+abbrev pub bob : UserName
+bob = record { bytes = codes "BOB   " }
+
+-- a name that is to do harm
+abbrev pub mallory : UserName
+mallory = record { bytes = codes "M\",\\ A" }
+
+-- 10:29:43.698373412
+abbrev pub morning : ℕ
+morning = 37783698373412
+
+-- 24:00:01, behind midnight
+abbrev pub night : ℕ
+night = 86401000000000
+
+abbrev pub shown : ℕ → ℕ → UserName → ℕ → Request → Verdict → RecordData
+shown number moment user line request verdict = record {
+  number = number;
+  moment = moment;
+  step = steps.Asked (record { line = line; user = user; request = request; handed = moment });
+  verdict = verdict;
+}
+
+abbrev pub login : Request
+login = requests.Login (record { password_is_right = true; session_is_right = true; wanted = 1 })
+
+abbrev pub command : Action → Request
+command action = requests.Command (record { tag = record { bytes = codes "T             " }; action = action })
+
+-- a login, four that are denied within one minute, and the first record of another minute; two changes of one limit
+abbrev pub people : List RecordData
+people =
+    shown 1 morning olga 7 login verdicts.Granted
+    ∷ shown 2 morning mallory 8 login (verdicts.Denied names.L1)
+    ∷ shown 3 morning mallory 9 login (verdicts.Denied names.L1)
+    ∷ shown 4 morning mallory 10 login (verdicts.Denied names.L1)
+    ∷ shown 5 morning olga 7 (command (actions.SetLimit gross 5000000)) verdicts.Granted
+    ∷ shown 6 night olga 7 (command (actions.SetLimit gross 6000000)) verdicts.Granted
+    ∷ shown 7 night mallory 11 login (verdicts.Denied names.L3)
+    ∷ shown 8 night olga 7 requests.Logout verdicts.Granted
+    ∷ []
+
+-- each command that is not Set Limit, a denied one, an order's cancel and a matching step
+abbrev pub commands : List RecordData
+commands =
+    shown 1 morning olga 7 (command (actions.Kill alfa)) verdicts.Granted
+    ∷ shown 2 morning bob 6 (command (actions.Kill alfa)) (verdicts.Denied names.Q2)
+    ∷ shown 3 morning bob 6 (command (actions.SetLimit gross 9)) (verdicts.Denied names.Q3)
+    ∷ record { number = 4; moment = morning; step = steps.Matching morning; verdict = verdicts.Rested 1 }
+    ∷ shown 5 morning olga 7 (command (actions.Lift alfa)) verdicts.Granted
+    ∷ shown 6 morning olga 7 (command (actions.Restrict halt test_stock)) verdicts.Granted
+    ∷ shown 7 morning olga 7 (command (actions.Grant (record { bytes = codes "rita  " }) alfa)) verdicts.Granted
+    ∷ shown 8 morning olga 7 (command actions.CloseDay) verdicts.Granted
+    ∷ shown 9 morning olga 7 (requests.Unreadable (record { length = 1; first = 63 })) (verdicts.Denied names.G3)
+    ∷ []
+
+-- the first record at 90 hundredths of the day's records, with a login on the last line
+abbrev pub full : List RecordData
+full = shown 15099495 morning olga 65535 login verdicts.Granted ∷ []
+
+abbrev pub PeopleAreTold : Type 0
+PeopleAreTold = log_of Text sample people ≡
+    codes "10:29:43.698373 OLGA logged in on line 7, record 1\n"
+    ++ codes "10:29:43.698373 login of M\",\\x5c\\x20A on line 8 denied by L1, record 2\n"
+    ++ codes "10:29:43.698373 limit of GROSS set from 4000000 to 5000000 by OLGA, record 5\n"
+    ++ codes "24:00:01.000000 more logins denied within the minute of 10:29: 2\n"
+    ++ codes "24:00:01.000000 limit of GROSS set from 5000000 to 6000000 by OLGA, record 6\n"
+    ++ codes "24:00:01.000000 login of M\",\\x5c\\x20A on line 11 denied by L3, record 7\n"
+    ++ codes "24:00:01.000000 OLGA logged out on line 7, record 8\n"
+
+abbrev pub PeopleAreToldInJson : Type 0
+PeopleAreToldInJson = log_of Json sample people ≡
+    codes "{\"at\":\"10:29:43.698373412\",\"event\":\"login\",\"user\":\"OLGA\",\"line\":7,\"record\":1}\n"
+    ++ codes "{\"at\":\"10:29:43.698373412\",\"event\":\"login_denied\",\"user\":\"M\\\",\\\\ A\",\"line\":8,\"denied_by\":\"L1\",\"record\":2}\n"
+    ++ codes "{\"at\":\"10:29:43.698373412\",\"event\":\"limit\",\"user\":\"OLGA\",\"rule\":\"GROSS\",\"from\":4000000,\"to\":5000000,\"record\":5}\n"
+    ++ codes "{\"at\":\"24:00:01.000000000\",\"event\":\"more_logins_denied\",\"minute\":\"10:29\",\"count\":2}\n"
+    ++ codes "{\"at\":\"24:00:01.000000000\",\"event\":\"limit\",\"user\":\"OLGA\",\"rule\":\"GROSS\",\"from\":5000000,\"to\":6000000,\"record\":6}\n"
+    ++ codes "{\"at\":\"24:00:01.000000000\",\"event\":\"login_denied\",\"user\":\"M\\\",\\\\ A\",\"line\":11,\"denied_by\":\"L3\",\"record\":7}\n"
+    ++ codes "{\"at\":\"24:00:01.000000000\",\"event\":\"logout\",\"user\":\"OLGA\",\"line\":7,\"record\":8}\n"
+
+abbrev pub CommandsAreTold : Type 0
+CommandsAreTold = log_of Text sample commands ≡
+    codes "10:29:43.698373 ALFA killed by OLGA, record 1\n"
+    ++ codes "10:29:43.698373 Kill of ALFA by BOB denied by Q2, record 2\n"
+    ++ codes "10:29:43.698373 Set Limit of GROSS to 9 by BOB denied by Q3, record 3\n"
+    ++ codes "10:29:43.698373 Lift of ALFA given by OLGA, record 5\n"
+    ++ codes "10:29:43.698373 TEST restricted under HALT by OLGA, record 6\n"
+    ++ codes "10:29:43.698373 ALFA granted to rita by OLGA, record 7\n"
+    ++ codes "10:29:43.698373 day closed by OLGA, record 8\n"
+
+abbrev pub CommandsAreToldInJson : Type 0
+CommandsAreToldInJson = log_of Json sample (take 3 commands) ≡
+    codes "{\"at\":\"10:29:43.698373412\",\"event\":\"kill\",\"user\":\"OLGA\",\"account\":\"ALFA\",\"record\":1}\n"
+    ++ codes "{\"at\":\"10:29:43.698373412\",\"event\":\"kill_denied\",\"user\":\"BOB\",\"account\":\"ALFA\",\"denied_by\":\"Q2\",\"record\":2}\n"
+    ++ codes "{\"at\":\"10:29:43.698373412\",\"event\":\"limit_denied\",\"user\":\"BOB\",\"rule\":\"GROSS\",\"to\":9,\"denied_by\":\"Q3\",\"record\":3}\n"
+
+abbrev pub FullDaysAreTold : Type 0
+FullDaysAreTold = log_of Text sample full ≡
+    codes "10:29:43.698373 OLGA logged in on line 65535, record 15099495\n"
+    ++ codes "10:29:43.698373 99 % of the day's lines are used, 0 are left, record 15099495\n"
+    ++ codes "10:29:43.698373 90 % of the day's records are used, 1677721 are left, record 15099495\n"

@@ -1,0 +1,4 @@
+pub mod Visible
+pub mod Plain
+pub mod PlainAnswers
+pub mod PlainOrders

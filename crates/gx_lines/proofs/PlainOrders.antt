@@ -1,0 +1,198 @@
+-- Whatever names and numbers a message to a trader or a drop copy shows, its line is one line.
+use Rattle.std.proofs.Common.{◌≡◌, ℕ, ◌^◌, ◌<◌, true, List, [], ◌∷◌, ◌++◌, refl, decimal}
+use Rattle.std.specs.Prelude.{◌==◌, codes}
+use Rattle.hex.specs.Hex.{IsBytes}
+use Rattle.gx_desk.specs.declared.DropCopy.{DropCopy}
+use Rattle.gx_ouch.specs.declared.letters.Liquidity.{Liquidity}
+use Rattle.gx_ouch.specs.declared.letters.Liquidity.TheVariants as liquidities
+use Rattle.gx_ouch.specs.declared.letters.CancelReason.{CancelReason}
+use Rattle.gx_ouch.specs.declared.letters.CancelReason.TheVariants as cancels
+use Rattle.gx_ouch.specs.declared.letters.RejectReason.{RejectReason}
+use Rattle.gx_ouch.specs.declared.letters.RejectReason.TheVariants as rejects
+use Rattle.gx_ouch.specs.declared.outbound.OrderTerms.{OrderTerms}
+use Rattle.gx_ouch.specs.declared.outbound.Executed.{Executed}
+use Rattle.gx_ouch.specs.declared.outbound.Outbound.{Outbound}
+use Rattle.gx_ouch.specs.declared.outbound.Outbound.TheVariants as outbounds
+use Rattle.gx_ouch.specs.Letters.{reject_letter}
+use Rattle.gx_history.specs.OuchValues.{side_buy, side_sell, side_sell_short, side_sell_short_exempt}
+use Rattle.gx_lines.specs.declared.showing.Form.{Form}
+use Rattle.gx_lines.specs.declared.showing.Form.TheVariants.{Text, Json}
+use Rattle.gx_lines.specs.Showing.{shown, shown_byte, moment_text, price_text, text_field}
+use Rattle.gx_lines.specs.OrderLines.{side_words, liquidity_word, cancel_words, reject_words, shares_text, terms_text, match_text, told_text, time_text, token_field, terms_fields, executed_fields, event_word, told_fields, copy_text, copy_fields}
+use Rattle.gx_lines.specs.LineLaws.{AreTermsInRange, IsExecutedInRange, IsMessageInRange, IsCopyInRange, OrdersAreOneLine, CopiesAreOneLine}
+use Rattle.gx_lines.proofs.Plain.{are_plain, joined, named, numbered, moment_plain, price_plain, IsPlain, ◌&◌, plain, byte_plain, chosen, json_is_line, name_field, word_field, decimal_field, price_field}
+
+side_plain : (form : Form) (side : ℕ) → side < 256 → are_plain (side_words form side) ≡ true
+unfolding side_words
+side_plain form side h =
+    chosen (side == side_buy) _ _ refl (chosen (side == side_sell) _ _ refl (chosen (side == side_sell_short) _ _ refl
+    (chosen (side == side_sell_short_exempt) _ _ refl (joined (codes "side ") (shown_byte form side) refl (byte_plain form side h)))))
+
+liquidity_plain : (liquidity : Liquidity) → are_plain (liquidity_word liquidity) ≡ true
+unfolding liquidity_word
+liquidity_plain liquidities.Added = refl
+liquidity_plain liquidities.Removed = refl
+
+cancel_plain : (reason : CancelReason) → are_plain (cancel_words reason) ≡ true
+unfolding cancel_words
+cancel_plain cancels.UserRequested = refl
+cancel_plain cancels.ImmediateOrCancel = refl
+cancel_plain cancels.Supervisory = refl
+
+reject_plain : (reason : RejectReason) → are_plain (reject_words reason) ≡ true
+unfolding reject_words
+reject_plain rejects.Closed = refl
+reject_plain rejects.RejectAll = refl
+reject_plain rejects.FirmNotAuthorized = refl
+reject_plain rejects.InvalidStock = refl
+reject_plain rejects.SharesExceedSafety = refl
+reject_plain rejects.InvalidPrice = refl
+reject_plain rejects.InvalidDisplay = refl
+reject_plain rejects.InvalidMinimumQuantity = refl
+reject_plain rejects.NotAllowedInCross = refl
+reject_plain rejects.Other = refl
+reject_plain rejects.Halted = refl
+reject_plain rejects.RestrictedStock = refl
+reject_plain rejects.ShortSale = refl
+reject_plain rejects.IntermarketSweep = refl
+reject_plain rejects.OddLot = refl
+reject_plain rejects.SharesLimit = refl
+reject_plain rejects.DollarLimit = refl
+
+letter_plain : (reason : RejectReason) → are_plain (reject_letter reason ∷ []) ≡ true
+letter_plain rejects.Closed = refl
+letter_plain rejects.RejectAll = refl
+letter_plain rejects.FirmNotAuthorized = refl
+letter_plain rejects.InvalidStock = refl
+letter_plain rejects.SharesExceedSafety = refl
+letter_plain rejects.InvalidPrice = refl
+letter_plain rejects.InvalidDisplay = refl
+letter_plain rejects.InvalidMinimumQuantity = refl
+letter_plain rejects.NotAllowedInCross = refl
+letter_plain rejects.Other = refl
+letter_plain rejects.Halted = refl
+letter_plain rejects.RestrictedStock = refl
+letter_plain rejects.ShortSale = refl
+letter_plain rejects.IntermarketSweep = refl
+letter_plain rejects.OddLot = refl
+letter_plain rejects.SharesLimit = refl
+letter_plain rejects.DollarLimit = refl
+
+number : (n : ℕ) → n < 2 ^ 64 → IsPlain (decimal n)
+number n h = plain (decimal n) (numbered n h)
+
+price : (n : ℕ) → n < 2 ^ 64 → IsPlain (price_text n)
+price n h = plain (price_text n) (price_plain n h)
+
+shares : (n p : ℕ) → n < 2 ^ 64 → p < 2 ^ 64 → IsPlain (shares_text n p)
+unfolding shares_text
+shares n p h k = plain _ (number n h & plain (codes " at ") refl & price p k).is
+
+terms : (t : OrderTerms) (n : ℕ) → AreTermsInRange t → n < 2 ^ 64 → IsPlain (terms_text t n)
+unfolding terms_text
+terms t n r h =
+    plain _ (plain (side_words Text t.side) (side_plain Text t.side r.side) & plain (codes " ") refl & number t.shares r.shares & plain (codes " ") refl
+    & plain (shown Text t.stock.bytes) (named Text t.stock.bytes r.stock) & plain (codes " at ") refl & price t.price r.price
+    & plain (codes ", order ") refl & number n h).is
+
+match : (m : Executed) → IsExecutedInRange m → IsPlain (match_text m)
+unfolding match_text
+match m r =
+    plain _ (plain (codes ", match ") refl & number m.match_number r.match_number & plain (codes ", ") refl
+    & plain (liquidity_word m.liquidity) (liquidity_plain m.liquidity) & plain (codes " liquidity") refl).is
+
+told_plain : (message : Outbound) → IsMessageInRange message → are_plain (told_text message) ≡ true
+unfolding told_text
+told_plain (outbounds.SystemEvent event) r = refl
+told_plain (outbounds.Accepted m) r =
+    (plain (shown Text m.token.bytes) (named Text m.token.bytes r.0) & plain (codes " accepted: ") refl & terms m.terms m.order_reference r.1 r.2).is
+told_plain (outbounds.Replaced m) r =
+    (plain (shown Text m.token.bytes) (named Text m.token.bytes r.0) & plain (codes " replaces ") refl
+    & plain (shown Text m.previous_token.bytes) (named Text m.previous_token.bytes r.3) & plain (codes ": ") refl & terms m.terms m.order_reference r.1 r.2).is
+told_plain (outbounds.Canceled m) r =
+    (plain (shown Text m.token.bytes) (named Text m.token.bytes r.0) & plain (codes " canceled: ") refl & number m.decrement r.1
+    & plain (codes ", ") refl & plain (cancel_words m.reason) (cancel_plain m.reason)).is
+told_plain (outbounds.Executed m) r =
+    (plain (shown Text m.token.bytes) (named Text m.token.bytes r.token) & plain (codes " executed: ") refl
+    & shares m.shares m.price r.shares r.price & match m r).is
+told_plain (outbounds.Rejected m) r =
+    (plain (shown Text m.token.bytes) (named Text m.token.bytes r) & plain (codes " rejected: ") refl
+    & plain (reject_letter m.reason ∷ codes ", ") (joined (reject_letter m.reason ∷ []) (codes ", ") (letter_plain m.reason) refl)
+    & plain (reject_words m.reason) (reject_plain m.reason)).is
+
+time : (moment : ℕ) → moment < 2 ^ 64 → IsPlain (time_text moment)
+time moment h = plain _ (plain (codes ", at ") refl & plain (moment_text moment) (moment_plain moment h)).is
+
+token : (field : List ℕ) → IsBytes field → IsPlain (token_field field)
+token field h = name_field (codes "token") field refl h
+
+side_field : (side : ℕ) → side < 256 → IsPlain (text_field (codes "side") (side_words Json side))
+side_field side h = word_field (codes "side") (side_words Json side) refl (side_plain Json side h)
+
+terms_of : (t : OrderTerms) (n : ℕ) → AreTermsInRange t → n < 2 ^ 64 → IsPlain (terms_fields t n)
+unfolding terms_fields
+terms_of t n r h =
+    plain _ (side_field t.side r.side & decimal_field (codes "shares") t.shares refl r.shares & name_field (codes "stock") t.stock.bytes refl r.stock
+    & price_field (codes "price") t.price refl r.price & decimal_field (codes "time_in_force") t.time_in_force refl r.time_in_force
+    & decimal_field (codes "order") n refl h).is
+
+executed : (m : Executed) → IsExecutedInRange m → IsPlain (executed_fields m)
+unfolding executed_fields
+executed m r =
+    plain _ (token m.token.bytes r.token & decimal_field (codes "shares") m.shares refl r.shares & price_field (codes "price") m.price refl r.price
+    & decimal_field (codes "match") m.match_number refl r.match_number
+    & word_field (codes "liquidity") (liquidity_word m.liquidity) refl (liquidity_plain m.liquidity)).is
+
+event_plain : (message : Outbound) → are_plain (event_word message) ≡ true
+unfolding event_word
+event_plain (outbounds.SystemEvent event) = refl
+event_plain (outbounds.Accepted m) = refl
+event_plain (outbounds.Replaced m) = refl
+event_plain (outbounds.Canceled m) = refl
+event_plain (outbounds.Executed m) = refl
+event_plain (outbounds.Rejected m) = refl
+
+told_fields_plain : (message : Outbound) → IsMessageInRange message → are_plain (told_fields message) ≡ true
+unfolding told_fields
+told_fields_plain (outbounds.SystemEvent event) r = refl
+told_fields_plain (outbounds.Accepted m) r = (token m.token.bytes r.0 & terms_of m.terms m.order_reference r.1 r.2).is
+told_fields_plain (outbounds.Replaced m) r =
+    (token m.token.bytes r.0 & name_field (codes "previous") m.previous_token.bytes refl r.3 & terms_of m.terms m.order_reference r.1 r.2).is
+told_fields_plain (outbounds.Canceled m) r =
+    (token m.token.bytes r.0 & decimal_field (codes "shares") m.decrement refl r.1
+    & word_field (codes "reason") (cancel_words m.reason) refl (cancel_plain m.reason)).is
+told_fields_plain (outbounds.Executed m) r = (executed m r).is
+told_fields_plain (outbounds.Rejected m) r =
+    (token m.token.bytes r & word_field (codes "reason") (reject_letter m.reason ∷ []) refl (letter_plain m.reason)
+    & word_field (codes "text") (reject_words m.reason) refl (reject_plain m.reason)).is
+
+pub orders_are_one_line : OrdersAreOneLine
+orders_are_one_line Text moment message m r = record {
+  text = told_text message ++ time_text moment;
+  ends = refl;
+  plain = (plain (told_text message) (told_plain message r) & time moment m).is;
+}
+orders_are_one_line Json moment message m r =
+    json_is_line moment (event_word message) (told_fields message) m (event_plain message) (told_fields_plain message r)
+
+copy_plain : (copy : DropCopy) → IsCopyInRange copy → are_plain (copy_text copy) ≡ true
+unfolding copy_text
+copy_plain copy r =
+    (plain (shown Text copy.account.bytes) (named Text copy.account.bytes r.account) & plain (codes ": ") refl
+    & plain (side_words Text copy.side) (side_plain Text copy.side r.side) & plain (codes " ") refl
+    & shares copy.executed.shares copy.executed.price r.executed.shares r.executed.price & plain (codes ", token ") refl
+    & plain (shown Text copy.executed.token.bytes) (named Text copy.executed.token.bytes r.executed.token) & match copy.executed r.executed).is
+
+copy_fields_plain : (copy : DropCopy) → IsCopyInRange copy → are_plain (copy_fields copy) ≡ true
+unfolding copy_fields
+copy_fields_plain copy r =
+    (name_field (codes "account") copy.account.bytes refl r.account & side_field copy.side r.side & executed copy.executed r.executed).is
+
+pub copies_are_one_line : CopiesAreOneLine
+copies_are_one_line Text moment copy m r = record {
+  text = copy_text copy ++ time_text moment;
+  ends = refl;
+  plain = (plain (copy_text copy) (copy_plain copy r) & time moment m).is;
+}
+copies_are_one_line Json moment copy m r =
+    json_is_line moment (codes "fill") (copy_fields copy) m refl (copy_fields_plain copy r)

@@ -1,0 +1,5 @@
+pub mod Showing
+pub mod AnswerLines
+pub mod OrderLines
+pub mod NameLaws
+pub mod LineLaws

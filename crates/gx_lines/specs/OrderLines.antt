@@ -1,0 +1,150 @@
+-- The line that a trader is shown of what became of his orders, and a reader of a fill.
+use Rattle.std.specs.Prelude.{ℕ, ◌==◌, if◌then◌else◌, List, [], ◌∷◌, ◌++◌, codes, decimal}
+use Rattle.gx_desk.specs.declared.DropCopy.{DropCopy}
+use Rattle.gx_ouch.specs.declared.letters.Liquidity.{Liquidity}
+use Rattle.gx_ouch.specs.declared.letters.Liquidity.TheVariants as liquidities
+use Rattle.gx_ouch.specs.declared.letters.CancelReason.{CancelReason}
+use Rattle.gx_ouch.specs.declared.letters.CancelReason.TheVariants as cancels
+use Rattle.gx_ouch.specs.declared.letters.RejectReason.{RejectReason}
+use Rattle.gx_ouch.specs.declared.letters.RejectReason.TheVariants as rejects
+use Rattle.gx_ouch.specs.declared.outbound.OrderTerms.{OrderTerms}
+use Rattle.gx_ouch.specs.declared.outbound.Executed.{Executed}
+use Rattle.gx_ouch.specs.declared.outbound.Outbound.{Outbound}
+use Rattle.gx_ouch.specs.declared.outbound.Outbound.TheVariants as outbounds
+use Rattle.gx_ouch.specs.Letters.{reject_letter}
+use Rattle.gx_history.specs.OuchValues.{side_buy, side_sell, side_sell_short, side_sell_short_exempt}
+use Rattle.gx_script.specs.Printing.{line_end}
+use Rattle.gx_lines.specs.declared.showing.Form.{Form}
+use Rattle.gx_lines.specs.declared.showing.Form.TheVariants.{Text, Json}
+use Rattle.gx_lines.specs.Showing.{shown, shown_byte, moment_text, price_text, text_field, number_field, json_line}
+
+-- the side of an order, by its Buy/Sell Indicator
+unfoldable pub side_words : Form → ℕ → List ℕ
+side_words form side =
+    if side == side_buy then codes "buy"
+    else (if side == side_sell then codes "sell"
+    else (if side == side_sell_short then codes "sell short"
+    else (if side == side_sell_short_exempt then codes "sell short exempt"
+    else codes "side " ++ shown_byte form side)))
+
+-- whether an execution added liquidity to the book or removed it
+unfoldable pub liquidity_word : Liquidity → List ℕ
+liquidity_word liquidities.Added = codes "added"
+liquidity_word liquidities.Removed = codes "removed"
+
+-- why shares were canceled
+unfoldable pub cancel_words : CancelReason → List ℕ
+cancel_words cancels.UserRequested = codes "requested"
+cancel_words cancels.ImmediateOrCancel = codes "immediate or cancel"
+cancel_words cancels.Supervisory = codes "supervisory"
+
+-- why an order was rejected, behind the letter of the reason
+unfoldable pub reject_words : RejectReason → List ℕ
+reject_words rejects.Closed = codes "the day is closed"
+reject_words rejects.RejectAll = codes "all orders of the account are rejected"
+reject_words rejects.FirmNotAuthorized = codes "the firm is not the account's"
+reject_words rejects.InvalidStock = codes "the stock is not listed"
+reject_words rejects.SharesExceedSafety = codes "no shares, or more than is safe"
+reject_words rejects.InvalidPrice = codes "no order may have this price, or it is off its collar"
+reject_words rejects.InvalidDisplay = codes "there is no such display"
+reject_words rejects.InvalidMinimumQuantity = codes "a minimum quantity is not taken"
+reject_words rejects.NotAllowedInCross = codes "crosses are not taken"
+reject_words rejects.Other = codes "another reason"
+reject_words rejects.Halted = codes "the stock is halted"
+reject_words rejects.RestrictedStock = codes "the stock is restricted"
+reject_words rejects.ShortSale = codes "short sales are not taken"
+reject_words rejects.IntermarketSweep = codes "intermarket sweeps are not taken"
+reject_words rejects.OddLot = codes "odd lots are not taken"
+reject_words rejects.SharesLimit = codes "more shares than the limit"
+reject_words rejects.DollarLimit = codes "more dollars than the limit"
+
+-- so many shares at a price
+unfoldable pub shares_text : ℕ → ℕ → List ℕ
+shares_text shares price = decimal shares ++ codes " at " ++ price_text price
+
+-- what an order asks for, and its number
+unfoldable pub terms_text : OrderTerms → ℕ → List ℕ
+terms_text terms number =
+    side_words Text terms.side ++ codes " " ++ decimal terms.shares ++ codes " " ++ shown Text terms.stock.bytes
+    ++ codes " at " ++ price_text terms.price ++ codes ", order " ++ decimal number
+
+-- the number of a fill, and what its order did
+unfoldable pub match_text : Executed → List ℕ
+match_text m = codes ", match " ++ decimal m.match_number ++ codes ", " ++ liquidity_word m.liquidity ++ codes " liquidity"
+
+-- what a trader is told
+unfoldable pub told_text : Outbound → List ℕ
+told_text (outbounds.SystemEvent event) = codes "the day ends"
+told_text (outbounds.Accepted m) = shown Text m.token.bytes ++ codes " accepted: " ++ terms_text m.terms m.order_reference
+told_text (outbounds.Replaced m) =
+    shown Text m.token.bytes ++ codes " replaces " ++ shown Text m.previous_token.bytes ++ codes ": " ++ terms_text m.terms m.order_reference
+told_text (outbounds.Canceled m) =
+    shown Text m.token.bytes ++ codes " canceled: " ++ decimal m.decrement ++ codes ", " ++ cancel_words m.reason
+told_text (outbounds.Executed m) =
+    shown Text m.token.bytes ++ codes " executed: " ++ shares_text m.shares m.price ++ match_text m
+told_text (outbounds.Rejected m) =
+    shown Text m.token.bytes ++ codes " rejected: " ++ reject_letter m.reason ∷ codes ", " ++ reject_words m.reason
+
+-- when it was
+abbrev pub time_text : ℕ → List ℕ
+time_text moment = codes ", at " ++ moment_text moment
+
+-- the token of an order, a field of a JSON line
+abbrev pub token_field : List ℕ → List ℕ
+token_field token = text_field (codes "token") (shown Json token)
+
+-- the terms of an order that was taken, and its number
+unfoldable pub terms_fields : OrderTerms → ℕ → List ℕ
+terms_fields terms number =
+    text_field (codes "side") (side_words Json terms.side) ++ number_field (codes "shares") (decimal terms.shares)
+    ++ text_field (codes "stock") (shown Json terms.stock.bytes) ++ number_field (codes "price") (price_text terms.price)
+    ++ number_field (codes "time_in_force") (decimal terms.time_in_force) ++ number_field (codes "order") (decimal number)
+
+-- what was executed of an order
+unfoldable pub executed_fields : Executed → List ℕ
+executed_fields m =
+    token_field m.token.bytes ++ number_field (codes "shares") (decimal m.shares) ++ number_field (codes "price") (price_text m.price)
+    ++ number_field (codes "match") (decimal m.match_number) ++ text_field (codes "liquidity") (liquidity_word m.liquidity)
+
+-- the event of a message
+unfoldable pub event_word : Outbound → List ℕ
+event_word (outbounds.SystemEvent event) = codes "day_ends"
+event_word (outbounds.Accepted m) = codes "accepted"
+event_word (outbounds.Replaced m) = codes "replaced"
+event_word (outbounds.Canceled m) = codes "canceled"
+event_word (outbounds.Executed m) = codes "executed"
+event_word (outbounds.Rejected m) = codes "rejected"
+
+-- what a trader is told, behind the event
+unfoldable pub told_fields : Outbound → List ℕ
+told_fields (outbounds.SystemEvent event) = []
+told_fields (outbounds.Accepted m) = token_field m.token.bytes ++ terms_fields m.terms m.order_reference
+told_fields (outbounds.Replaced m) =
+    token_field m.token.bytes ++ text_field (codes "previous") (shown Json m.previous_token.bytes) ++ terms_fields m.terms m.order_reference
+told_fields (outbounds.Canceled m) =
+    token_field m.token.bytes ++ number_field (codes "shares") (decimal m.decrement) ++ text_field (codes "reason") (cancel_words m.reason)
+told_fields (outbounds.Executed m) = executed_fields m
+told_fields (outbounds.Rejected m) =
+    token_field m.token.bytes ++ text_field (codes "reason") (reject_letter m.reason ∷ []) ++ text_field (codes "text") (reject_words m.reason)
+
+-- the line of a message to a trader of this moment
+abbrev pub order_line : Form → ℕ → Outbound → List ℕ
+order_line Text moment message = told_text message ++ time_text moment ++ line_end
+order_line Json moment message = json_line moment (event_word message) (told_fields message)
+
+-- what a reader is told of one side of a fill
+unfoldable pub copy_text : DropCopy → List ℕ
+copy_text copy =
+    shown Text copy.account.bytes ++ codes ": " ++ side_words Text copy.side ++ codes " " ++ shares_text copy.executed.shares copy.executed.price
+    ++ codes ", token " ++ shown Text copy.executed.token.bytes ++ match_text copy.executed
+
+-- the same as fields of a JSON line
+unfoldable pub copy_fields : DropCopy → List ℕ
+copy_fields copy =
+    text_field (codes "account") (shown Json copy.account.bytes) ++ text_field (codes "side") (side_words Json copy.side)
+    ++ executed_fields copy.executed
+
+-- the line of a drop copy of this moment
+abbrev pub copy_line : Form → ℕ → DropCopy → List ℕ
+copy_line Text moment copy = copy_text copy ++ time_text moment ++ line_end
+copy_line Json moment copy = json_line moment (codes "fill") (copy_fields copy)

@@ -1,0 +1,18 @@
+//! What is so of every line.
+
+ghost use Rattle.gx_lines.specs.NameLaws.{NamesAreVisible};
+ghost use Rattle.gx_lines.specs.LineLaws.{AnswersAreOneLine, EarlierAnswersAreOneLine, OrdersAreOneLine, CopiesAreOneLine};
+
+/// Whatever bytes a peer put into a name, visible characters alone are shown of it: none ends a line, and none speaks to a
+/// terminal.
+pub fn names_are_visible()
+    ensures { NamesAreVisible }
+{}
+
+/// Each line is one line, whatever its message holds: visible characters and spaces, and an LF at its end.
+pub fn lines_are_whole()
+    ensures answers { AnswersAreOneLine }
+    ensures earlier_answers { EarlierAnswersAreOneLine }
+    ensures orders { OrdersAreOneLine }
+    ensures copies { CopiesAreOneLine }
+{}

@@ -1,0 +1,89 @@
+//! What is asked of the gate, and what answers it.
+
+ghost use Rattle.std.specs.Prelude.{◌≡◌, IfOk};
+ghost use Rattle.gx_operator.specs.Asking.{Carries, asked_of};
+ghost use Rattle.gx_operator.specs.Hearing.{decides, cancels, answers_order, answers};
+
+use crate::serial::serial;
+use gx_client::{command_packet, inbound_packet};
+use gx_desk::{Command, Tag};
+use gx_history::report::Message;
+use gx_ouch::{Inbound, Outbound};
+use gx_terminal::Wish;
+use gx_units::{OutOfMemory, Token};
+use std::alloc::Global;
+
+/// What is asked of the gate.
+#[derive(Clone, Copy, PartialEq, Eq)]
+pub enum Asked {
+    /// A command of an officer.
+    Command(Command),
+    /// A message of a trader.
+    Order(Inbound),
+}
+
+/// The command or the order that is wished, under the serial of this number; None where the wish is neither.
+pub(crate) fn asked_of(number: u64, wish: &Wish) -> Option<Asked>
+    ensures { result ≡ asked_of number wish.now }
+{
+    let bytes = serial(number);
+    if let Some(command) = wish.command(Tag { bytes }) {
+        return Some(Asked::Command(command));
+    }
+    let order = wish.order(Token { bytes })?;
+    Some(Asked::Order(order))
+}
+
+impl Asked {
+    /// The packet that carries it.
+    pub(crate) fn packet(&self, alloc: Global) -> Result<Vec<u8>, OutOfMemory>
+        ensures { IfOk result (λ bytes. Carries bytes.items self.now) }
+    {
+        match self {
+            Asked::Command(command) => command_packet(alloc, command),
+            Asked::Order(order) => inbound_packet(alloc, order),
+        }
+    }
+}
+
+fn decides(token: Token, message: &Outbound) -> bool
+    ensures { result ≡ decides token message.now }
+{
+    match message {
+        Outbound::Accepted(accepted) => accepted.token == token,
+        Outbound::Replaced(replaced) => replaced.token == token,
+        Outbound::Rejected(rejected) => rejected.token == token,
+        Outbound::SystemEvent(_) | Outbound::Canceled(_) | Outbound::Executed(_) => false,
+    }
+}
+
+fn cancels(token: Token, message: &Outbound) -> bool
+    ensures { result ≡ cancels token message.now }
+{
+    match message {
+        Outbound::Canceled(canceled) => canceled.token == token,
+        _ => false,
+    }
+}
+
+fn answers_order(message: &Outbound, order: &Inbound) -> bool
+    ensures { result ≡ answers_order message.now order.now }
+{
+    match order {
+        Inbound::Enter(order) => decides(order.token, message),
+        Inbound::Replace(order) => decides(order.replacement_token, message),
+        Inbound::Cancel(order) => cancels(order.token, message),
+    }
+}
+
+/// Whether the message answers what was asked: a command by its tag, a new order by its own token, a cancel by the token
+/// that it names.
+pub(crate) fn answers(message: &Message, asked: &Asked) -> bool
+    ensures { result ≡ answers message.now asked.now }
+{
+    match (message, asked) {
+        (Message::Answer(answer), Asked::Command(command)) => answer.tag == command.tag,
+        (Message::Order(message), Asked::Order(order)) => answers_order(message, order),
+        _ => false,
+    }
+}

@@ -1,0 +1,238 @@
+//! A run of the client: what it asks, what it waits for, and what it shows.
+
+ghost use Rattle.std.specs.Prelude.{◌≡◌, ◌∷◌, ◌++◌, ◌+◌, [], ℕ, List, Bool, min, option_map, IfOk, OnOk, OnErr, true, false};
+ghost use Rattle.std.specs.List.{list_any};
+ghost use Rattle.gx_soup.specs.Login.{greatest};
+ghost use Rattle.gx_history.specs.declared.report.Message.{Message};
+ghost use Rattle.gx_terminal.specs.Statuses.{status_of};
+ghost use Rattle.gx_operator.specs.Asking.{Carries, asked_of, first_of};
+ghost use Rattle.gx_operator.specs.Hearing.{answers, answered_by, still_waiting, own_answer, shown_line};
+
+use crate::asked::{Asked, answers, asked_of};
+use crate::telling::{is_of_run, shown_answer, shown_copy, shown_order};
+use gx_history::report::Message;
+use gx_lines::Form;
+use gx_terminal::{Status, Wish};
+use gx_units::{Moment, OutOfMemory};
+use std::alloc::Global;
+use std::marker::Model;
+
+/// A run of the client.
+#[derive(Drop)]
+pub struct Operator {
+    alloc: Global,
+    form: Form,
+    first: u64,
+    next: u64,
+    waiting: Vec<Asked>,
+    is_watching: bool,
+    status: Status,
+}
+
+impl Model for Operator {
+    ghost use Rattle.gx_operator.specs.Hearing.{Standing};
+
+    ghost Value = { Standing };
+
+    ghost view = { λ o. record {
+      form = o.form;
+      first = o.first;
+      next = o.next;
+      waiting = o.waiting.items;
+      is_watching = o.is_watching;
+      status = o.status;
+    } };
+}
+
+impl Operator {
+    /// A run that began so many milliseconds past midnight, and writes lines so. Nothing was asked.
+    pub fn new(alloc: Global, form: Form, start: u32) -> Operator
+        ensures { result ≡ record {
+          form = form;
+          first = first_of start;
+          next = first_of start;
+          waiting = [];
+          is_watching = false;
+          status = status_of [];
+        } }
+    {
+        let first = u64::from(start) * 1_000_000;
+        Operator {
+            alloc,
+            form,
+            first,
+            next: first,
+            waiting: Vec::new(alloc),
+            is_watching: false,
+            status: Status::new(),
+        }
+    }
+
+    /// The command or the order that is wished, under the next serial; None where the wish is neither.
+    pub fn asked(&self, wish: &Wish) -> Option<Asked>
+        ensures { result ≡ asked_of self.now.next wish.now }
+    {
+        asked_of(self.next, wish)
+    }
+
+    /// The packet that asks this. From now on its answer is waited for, and the next serial is the one behind.
+    pub fn ask(&mut self, asked: &Asked) -> Result<Vec<u8>, OutOfMemory>
+        ensures carries { IfOk result (λ bytes. Carries bytes.items asked.now) }
+        ensures waits { OnOk result (self.new ≡ record self.old {
+          waiting = self.old.waiting ++ asked.now ∷ [];
+          next = min (self.old.next + 1) greatest;
+        }) }
+        ensures unchanged { OnErr result (self.new ≡ self.old) }
+    {
+        let packet = asked.packet(self.alloc)?;
+        self.waiting.push(*asked)?;
+        self.next = self.next.saturating_add(1);
+        Ok(packet)
+    }
+
+    /// From now on all that comes is shown.
+    pub fn watch(&mut self)
+        ensures { self.new ≡ record self.old { is_watching = true } }
+    {
+        self.is_watching = true;
+    }
+
+    /// Whether all that comes is shown.
+    pub fn is_watching(&self) -> bool
+        ensures { result ≡ self.now.is_watching }
+    {
+        self.is_watching
+    }
+
+    /// What waits for an answer, what was asked first in front.
+    pub fn waiting(&self) -> &[Asked]
+        ensures { result.now ≡ self.now.waiting }
+    {
+        self.waiting.as_slice()
+    }
+
+    /// Waits for no answer any more.
+    pub fn give_up(&mut self)
+        ensures { self.new ≡ record self.old { waiting = [] } }
+    {
+        self.waiting.clear();
+    }
+
+    /// The status: 0, or 5 where anything was denied or rejected.
+    pub fn status(&self) -> u8
+        ensures { result ≡ self.now.status }
+    {
+        self.status.code()
+    }
+
+    /// Hears a message of this moment: the line that is shown of it, if one is. What it answers waits no longer, and counts
+    /// for the status.
+    pub fn hear(
+        &mut self,
+        moment: Moment,
+        message: &Message,
+    ) -> Result<Option<Vec<u8>>, OutOfMemory>
+        ensures line { IfOk result (λ line. option_map (λ l. l.items) line
+            ≡ shown_line self.old moment message.now) }
+        ensures waiting { OnOk result (self.new ≡ record self.old {
+          waiting = still_waiting message.now self.old.waiting;
+          status = self.new.status;
+        }) }
+        ensures status { OnOk result ((told : List Message) → self.old.status ≡ status_of told
+            → self.new.status ≡ status_of (told ++ own_answer message.now self.old.waiting)) }
+        ensures unchanged { OnErr result (self.new ≡ self.old) }
+    {
+        let line = self.line_of(moment, message)?;
+        self.note(message);
+        Ok(line)
+    }
+
+    /// The line that is shown of a message of this moment that was sent before the run, if one is: it answers nothing.
+    pub fn earlier_line(
+        &self,
+        moment: Moment,
+        message: &Message,
+    ) -> Result<Option<Vec<u8>>, OutOfMemory>
+        ensures { IfOk result (λ line. option_map (λ l. l.items) line
+            ≡ shown_line (record self.now { waiting = [] }) moment message.now) }
+    {
+        let (alloc, form, is_watching) = (self.alloc, self.form, self.is_watching);
+        match message {
+            Message::Answer(answer) => {
+                shown_answer(alloc, form, moment, is_watching, answer, None)
+            }
+            Message::Order(order) => {
+                let is_shown = is_watching || is_of_run(self.first, order);
+                shown_order(alloc, form, moment, is_shown, order)
+            }
+            Message::DropCopy(copy) => shown_copy(alloc, form, moment, is_watching, copy),
+        }
+    }
+
+    /// Whether the message answers anything that waits.
+    fn is_answer(&self, message: &Message) -> bool
+        ensures { result ≡ list_any (answers message.now) self.now.waiting }
+    {
+        self.waiting.iter().any(|asked| answers(message, asked))
+    }
+
+    /// What the message answers.
+    fn answered_by(&self, message: &Message) -> Option<Asked>
+        ensures { result ≡ answered_by message.now self.now.waiting }
+    {
+        self.waiting
+            .iter()
+            .copied()
+            .find(|asked| answers(message, asked))
+    }
+
+    fn line_of(&self, moment: Moment, message: &Message) -> Result<Option<Vec<u8>>, OutOfMemory>
+        ensures { IfOk result (λ line. option_map (λ l. l.items) line
+            ≡ shown_line self.now moment message.now) }
+    {
+        let (alloc, form, is_watching) = (self.alloc, self.form, self.is_watching);
+        match message {
+            Message::Answer(answer) => {
+                let asked = self.answered_by(message);
+                shown_answer(alloc, form, moment, is_watching, answer, asked)
+            }
+            Message::Order(order) => {
+                let is_shown = is_watching
+                    || is_of_run(self.first, order)
+                    || self.is_answer(message);
+                shown_order(alloc, form, moment, is_shown, order)
+            }
+            Message::DropCopy(copy) => shown_copy(alloc, form, moment, is_watching, copy),
+        }
+    }
+
+    fn note(&mut self, message: &Message)
+        ensures waiting { self.new ≡ record self.old {
+          waiting = still_waiting message.now self.old.waiting;
+          status = self.new.status;
+        } }
+        ensures status { (told : List Message) → self.old.status ≡ status_of told
+            → self.new.status ≡ status_of (told ++ own_answer message.now self.old.waiting) }
+    {
+        self.count(message);
+        let_go(&mut self.waiting, message);
+    }
+
+    /// Counts what answers anything.
+    fn count(&mut self, message: &Message)
+        ensures others { self.new ≡ record self.old { status = self.new.status } }
+        ensures status { (told : List Message) → self.old.status ≡ status_of told
+            → self.new.status ≡ status_of (told ++ own_answer message.now self.old.waiting) }
+    {
+        if self.is_answer(message) {
+            self.status.note(message);
+        }
+    }
+}
+
+/// Lets go of what the message answers.
+fn let_go(waiting: &mut Vec<Asked>, message: &Message)
+    ensures { waiting.new.items ≡ still_waiting message.now waiting.old.items }
+{
+    waiting.retain(|asked| !answers(message, asked));
+}

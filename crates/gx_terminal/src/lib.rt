@@ -1,0 +1,17 @@
+//! What a user asks for at a terminal, a line each, and the status of his run. Nothing here opens a connection.
+#![tactic(auto)]
+
+mod help;
+mod laws;
+mod price;
+mod reading;
+mod status;
+mod wish;
+mod words;
+mod wrong;
+
+pub use help::HELP;
+pub use laws::prices_are_read_back;
+pub use status::Status;
+pub use wish::{Lifetime, NewOrder, NewTerms, Side, Wish};
+pub use wrong::{Wanted, Wrong};

@@ -1,0 +1,360 @@
+//! A line of a terminal, read.
+
+ghost use Rattle.std.specs.Prelude.{◌≡◌, ◌+◌, [], bytes_eq, MatchResult};
+ghost use Rattle.gx_script.specs.ScriptLines.{without_cr};
+ghost use Rattle.gx_script.specs.Words.{name_of, number_of, itself};
+ghost use Rattle.gx_terminal.specs.Cursor.{Reads, next, next_or, ended, wrong_at, standing};
+ghost use Rattle.gx_terminal.specs.Prices.{price_of};
+ghost use Rattle.gx_terminal.specs.Wishes.{killed_of, kill_form, lift_form, limit_form, stock_form, reader_form, close_of, close_form, command_form, lifetime_of, enter_form, replace_form, cancel_form, order_form, wish_form, is_comment, wish_of};
+ghost use Rattle.gx_terminal.specs.declared.wish.Lifetime.TheVariants.{Day};
+ghost use Rattle.gx_terminal.specs.declared.wrong.Wanted.TheVariants as places;
+
+use crate::price::price;
+use crate::wish::{Lifetime, NewOrder, NewTerms, Side, Wish};
+use crate::words::{Words, name, number32, number64};
+use crate::wrong::{Wanted, Wrong};
+use gx_desk::{Action, WrittenName};
+use gx_ouch::CancelOrder;
+use gx_units::{AccountName, RuleId, Symbol, Token};
+
+/// What the last word taken stands for, or that it is wrong.
+fn standing<T: Drop>(words: &Words, found: Option<T>, wanted: Wanted) -> Result<T, Wrong>
+    ensures { Reads (standing wanted found words.now) words.now result }
+{
+    found.ok_or(Wrong {
+        word: words.taken(),
+        wanted,
+    })
+}
+
+fn take_word<'a>(words: &mut Words<'a>, wanted: Wanted) -> Result<&'a [u8], Wrong>
+    ensures { MatchResult result
+        (λ word. next wanted itself words.old ≡ Ok (word.now, words.new))
+        (λ wrong. (words.old.words ≡ []) × (wrong ≡ wrong_at (words.old.taken + 1) wanted)) }
+{
+    match words.next() {
+        Some(word) => Ok(word),
+        None => Err(Wrong {
+            word: words.taken() + 1,
+            wanted,
+        }),
+    }
+}
+
+fn take_name<const N: usize>(words: &mut Words, wanted: Wanted) -> Result<[u8; N], Wrong>
+    ensures { Reads (next wanted (name_of N) words.old) words.new result }
+{
+    let word = take_word(words, wanted)?;
+    standing(words, name(word), wanted)
+}
+
+fn take_number64(words: &mut Words, wanted: Wanted) -> Result<u64, Wrong>
+    ensures { Reads (next wanted (number_of 64) words.old) words.new result }
+{
+    let word = take_word(words, wanted)?;
+    standing(words, number64(word), wanted)
+}
+
+fn take_number32(words: &mut Words, wanted: Wanted) -> Result<u32, Wrong>
+    ensures { Reads (next wanted (number_of 32) words.old) words.new result }
+{
+    let word = take_word(words, wanted)?;
+    standing(words, number32(word), wanted)
+}
+
+fn take_price(words: &mut Words) -> Result<u32, Wrong>
+    ensures { Reads (next places.Price price_of words.old) words.new result }
+{
+    let word = take_word(words, Wanted::Price)?;
+    standing(words, price(word), Wanted::Price)
+}
+
+/// The value, where no word is left.
+fn ended<T: Drop>(words: &mut Words, value: T) -> Result<T, Wrong>
+    ensures { result ≡ ended value words.old }
+{
+    match words.next() {
+        None => Ok(value),
+        Some(_) => Err(Wrong {
+            word: words.taken(),
+            wanted: Wanted::End,
+        }),
+    }
+}
+
+fn is(word: &[u8], name: &[u8]) -> bool
+    ensures { result ≡ bytes_eq word.now name.now }
+{
+    word == name
+}
+
+/// A Kill of the account, or of each one.
+fn killed(word: &[u8]) -> Option<Wish>
+    ensures { result ≡ killed_of word.now }
+{
+    if is(word, b"--all") {
+        return Some(Wish::KillAll);
+    }
+    let bytes = name(word)?;
+    Some(Wish::Ask(Action::Kill(AccountName { bytes })))
+}
+
+#[tactic(auto, unfolding(crate::specs::Wishes::kill_form))]
+fn kill_form(words: &mut Words) -> Result<Wish, Wrong>
+    ensures { result ≡ kill_form words.old }
+{
+    let word = take_word(words, Wanted::AccountOrAll)?;
+    let kill = standing(words, killed(word), Wanted::AccountOrAll)?;
+    ended(words, kill)
+}
+
+#[tactic(auto, unfolding(crate::specs::Wishes::lift_form))]
+fn lift_form(words: &mut Words) -> Result<Wish, Wrong>
+    ensures { result ≡ lift_form words.old }
+{
+    let bytes = take_name(words, Wanted::Account)?;
+    ended(words, Wish::Ask(Action::Lift(AccountName { bytes })))
+}
+
+#[tactic(auto, unfolding(crate::specs::Wishes::limit_form))]
+fn limit_form(words: &mut Words) -> Result<Wish, Wrong>
+    ensures { result ≡ limit_form words.old }
+{
+    let bytes = take_name(words, Wanted::Rule)?;
+    let limit = take_number64(words, Wanted::Value)?;
+    ended(words, Wish::Ask(Action::SetLimit(RuleId { bytes }, limit)))
+}
+
+/// A rule and a stock.
+#[tactic(auto, unfolding(crate::specs::Wishes::stock_form))]
+fn stock_form(words: &mut Words) -> Result<(RuleId, Symbol), Wrong>
+    ensures { result ≡ stock_form words.old }
+{
+    let rule = take_name(words, Wanted::Rule)?;
+    let stock = take_name(words, Wanted::Stock)?;
+    ended(words, (RuleId { bytes: rule }, Symbol { bytes: stock }))
+}
+
+/// A reader and an account.
+#[tactic(auto, unfolding(crate::specs::Wishes::reader_form))]
+fn reader_form(words: &mut Words) -> Result<(WrittenName, AccountName), Wrong>
+    ensures { result ≡ reader_form words.old }
+{
+    let reader = take_name(words, Wanted::Reader)?;
+    let account = take_name(words, Wanted::Account)?;
+    let named = (
+        WrittenName { bytes: reader },
+        AccountName { bytes: account },
+    );
+    ended(words, named)
+}
+
+/// That the day is to be closed.
+#[tactic(auto, unfolding(crate::specs::Wishes::close_of))]
+fn closing(word: &[u8]) -> Option<Wish>
+    ensures { result ≡ close_of word.now }
+{
+    if is(word, b"--yes") {
+        return Some(Wish::Ask(Action::CloseDay));
+    }
+    None
+}
+
+#[tactic(auto, unfolding(crate::specs::Wishes::close_form))]
+fn close_form(words: &mut Words) -> Result<Wish, Wrong>
+    ensures { result ≡ close_form words.old }
+{
+    let word = take_word(words, Wanted::Yes)?;
+    let close = standing(words, closing(word), Wanted::Yes)?;
+    ended(words, close)
+}
+
+/// The command that the word names, of the words behind it.
+#[tactic(auto, unfolding(crate::specs::Wishes::command_form))]
+fn command_form(form: &[u8], words: &mut Words) -> Result<Wish, Wrong>
+    ensures { result ≡ command_form form.now words.old }
+{
+    if is(form, b"kill") {
+        return kill_form(words);
+    }
+    if is(form, b"lift") {
+        return lift_form(words);
+    }
+    if is(form, b"limit") {
+        return limit_form(words);
+    }
+    if is(form, b"restrict") {
+        let (rule, stock) = stock_form(words)?;
+        return Ok(Wish::Ask(Action::Restrict(rule, stock)));
+    }
+    if is(form, b"unrestrict") {
+        let (rule, stock) = stock_form(words)?;
+        return Ok(Wish::Ask(Action::Unrestrict(rule, stock)));
+    }
+    if is(form, b"grant") {
+        let (reader, account) = reader_form(words)?;
+        return Ok(Wish::Ask(Action::Grant(reader, account)));
+    }
+    if is(form, b"revoke") {
+        let (reader, account) = reader_form(words)?;
+        return Ok(Wish::Ask(Action::Revoke(reader, account)));
+    }
+    if is(form, b"close") {
+        return close_form(words);
+    }
+    Err(Wrong {
+        word: words.taken(),
+        wanted: Wanted::Form,
+    })
+}
+
+fn lifetime(word: &[u8]) -> Option<Lifetime>
+    ensures { result ≡ lifetime_of word.now }
+{
+    if is(word, b"day") {
+        return Some(Lifetime::Day);
+    }
+    if is(word, b"ioc") {
+        return Some(Lifetime::ImmediateOrCancel);
+    }
+    None
+}
+
+/// The lifetime of an order: a day, where no word is left.
+fn take_lifetime(words: &mut Words) -> Result<Lifetime, Wrong>
+    ensures { Reads (next_or Day places.Lifetime lifetime_of words.old) words.new result }
+{
+    match words.next() {
+        None => Ok(Lifetime::Day),
+        Some(word) => standing(words, lifetime(word), Wanted::Lifetime),
+    }
+}
+
+#[tactic(auto, unfolding(crate::specs::Wishes::enter_form))]
+fn enter_form(side: Side, words: &mut Words) -> Result<Wish, Wrong>
+    ensures { result ≡ enter_form side words.old }
+{
+    let shares = take_number32(words, Wanted::Shares)?;
+    let stock = take_name(words, Wanted::Stock)?;
+    let price = take_price(words)?;
+    let lifetime = take_lifetime(words)?;
+    let order = NewOrder {
+        side,
+        shares,
+        stock: Symbol { bytes: stock },
+        price,
+        lifetime,
+    };
+    ended(words, Wish::Enter(order))
+}
+
+#[tactic(auto, unfolding(crate::specs::Wishes::replace_form))]
+fn replace_form(words: &mut Words) -> Result<Wish, Wrong>
+    ensures { result ≡ replace_form words.old }
+{
+    let token = take_name(words, Wanted::Token)?;
+    let shares = take_number32(words, Wanted::Shares)?;
+    let price = take_price(words)?;
+    let lifetime = take_lifetime(words)?;
+    let terms = NewTerms {
+        token: Token { bytes: token },
+        shares,
+        price,
+        lifetime,
+    };
+    ended(words, Wish::Replace(terms))
+}
+
+/// The new size of an order that is canceled: 0, where no word is left.
+fn take_size(words: &mut Words) -> Result<u32, Wrong>
+    ensures { Reads (next_or 0 places.Shares (number_of 32) words.old) words.new result }
+{
+    match words.next() {
+        None => Ok(0),
+        Some(word) => standing(words, number32(word), Wanted::Shares),
+    }
+}
+
+#[tactic(auto, unfolding(crate::specs::Wishes::cancel_form))]
+fn cancel_form(words: &mut Words) -> Result<Wish, Wrong>
+    ensures { result ≡ cancel_form words.old }
+{
+    let bytes = take_name(words, Wanted::Token)?;
+    let shares = take_size(words)?;
+    let cancel = CancelOrder {
+        token: Token { bytes },
+        shares,
+    };
+    ended(words, Wish::Cancel(cancel))
+}
+
+/// What a trader asks for, or else the command that the word names.
+#[tactic(auto, unfolding(crate::specs::Wishes::order_form))]
+fn order_form(form: &[u8], words: &mut Words) -> Result<Wish, Wrong>
+    ensures { result ≡ order_form form.now words.old }
+{
+    if is(form, b"buy") {
+        return enter_form(Side::Buy, words);
+    }
+    if is(form, b"sell") {
+        return enter_form(Side::Sell, words);
+    }
+    if is(form, b"replace") {
+        return replace_form(words);
+    }
+    if is(form, b"cancel") {
+        return cancel_form(words);
+    }
+    command_form(form, words)
+}
+
+/// What the word names, of the words behind it.
+#[tactic(auto, unfolding(crate::specs::Wishes::wish_form))]
+fn wish_form(form: &[u8], words: &mut Words) -> Result<Wish, Wrong>
+    ensures { result ≡ wish_form form.now words.old }
+{
+    if is(form, b"watch") {
+        return ended(words, Wish::Watch);
+    }
+    if is(form, b"help") {
+        return ended(words, Wish::Help);
+    }
+    if is(form, b"quit") {
+        return ended(words, Wish::Quit);
+    }
+    order_form(form, words)
+}
+
+fn is_comment(word: &[u8]) -> bool
+    ensures { result ≡ is_comment word.now }
+{
+    matches!(word, [b'#', ..])
+}
+
+/// The line without the CR that may stand at its end.
+fn without_cr(line: &[u8]) -> &[u8]
+    ensures { result.now ≡ without_cr line.now }
+{
+    match line {
+        [front @ .., b'\r'] => front,
+        _ => line,
+    }
+}
+
+impl Wish {
+    /// What a line asks for: its bytes without the LF, a CR at their end being no part of it. Its words are separated by
+    /// spaces, one or more.
+    #[tactic(auto, unfolding(crate::specs::Wishes::wish_of))]
+    pub fn read(line: &[u8]) -> Result<Wish, Wrong>
+        ensures { result ≡ wish_of line.now }
+    {
+        let mut words = Words::new(without_cr(line));
+        let Some(form) = words.next() else {
+            return Ok(Wish::Nothing);
+        };
+        if is_comment(form) {
+            return Ok(Wish::Nothing);
+        }
+        wish_form(form, &mut words)
+    }
+}

@@ -1,0 +1,69 @@
+//! What is wrong with a line, for who wrote it.
+
+use std::fmt;
+
+/// What a place in a line wants.
+#[derive(Clone, Copy, PartialEq, Eq)]
+pub enum Wanted {
+    /// The word that names the form of a line.
+    Form,
+    Account,
+    /// An account, or `--all`.
+    AccountOrAll,
+    Rule,
+    /// The limit of a rule.
+    Value,
+    Stock,
+    Reader,
+    /// `--yes`, without which the day is not closed.
+    Yes,
+    Shares,
+    /// A price in dollars.
+    Price,
+    /// `day` or `ioc`, or the end of the line.
+    Lifetime,
+    /// The token of an order.
+    Token,
+    /// No word more.
+    End,
+}
+
+impl Wanted {
+    fn text(self) -> &'static str {
+        match self {
+            Wanted::Form => {
+                "kill, lift, limit, restrict, unrestrict, grant, revoke, close, buy, sell, replace, cancel, watch, help or quit"
+            }
+            Wanted::Account => "ACCOUNT, 1 to 8 of the characters ! to ~",
+            Wanted::AccountOrAll => "ACCOUNT, 1 to 8 of the characters ! to ~, or --all",
+            Wanted::Rule => "RULE, 1 to 8 of the characters ! to ~",
+            Wanted::Value => "VALUE, a number below 2^64",
+            Wanted::Stock => "STOCK, 1 to 8 of the characters ! to ~",
+            Wanted::Reader => "READER, 1 to 6 of the characters ! to ~",
+            Wanted::Yes => "--yes: closing ends the day for everybody, and nobody can undo it",
+            Wanted::Shares => "SHARES, a number below 2^32",
+            Wanted::Price => {
+                "PRICE, dollars with at most four decimals, as 10, 10.5 or 10.0001, below 429496.7296"
+            }
+            Wanted::Lifetime => "day, ioc or the end of the line",
+            Wanted::Token => "TOKEN, 1 to 14 of the characters ! to ~",
+            Wanted::End => "the end of the line",
+        }
+    }
+}
+
+/// Which word of a line is wrong, counted from 1, and what was wanted there. Where the line ends too early it is the word
+/// behind its last one.
+#[derive(Clone, Copy, PartialEq, Eq)]
+pub struct Wrong {
+    pub word: usize,
+    pub wanted: Wanted,
+}
+
+impl fmt::Display for Wrong {
+    fn fmt<W: fmt::Write>(&self, f: &mut fmt::Formatter<W>) -> fmt::Result {
+        let word = self.word;
+        let text = self.wanted.text();
+        write!(f, "word {word}: wanted {text}")
+    }
+}
