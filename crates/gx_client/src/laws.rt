@@ -37,7 +37,8 @@ pub fn kinds_are_told_apart()
 
 /// The gate hears what is sent: one packet, whatever follows it, whose message is read as this command or order.
 pub fn what_is_sent_is_heard()
-    ensures command { (bytes rest : List ℕ) (command : Command) → (c : CarriesCommand bytes command)
+    ensures command { (bytes rest : List ℕ) (command : Command)
+        → (c : CarriesCommand bytes command)
         → packets_of (bytes ++ rest) ≡ with_packet (Data c.message) (packets_of rest) }
     ensures order { (bytes rest : List ℕ) (order : Inbound) → (c : CarriesInbound bytes order)
         → packets_of (bytes ++ rest) ≡ with_packet (Data c.message) (packets_of rest) }

@@ -26,7 +26,8 @@ fn plain_line(
 /// The moment and the words.
 #[tactic(auto, unfolding(crate::specs::Events::event_line))]
 fn text_line(alloc: Global, moment: Moment, kind: &str, words: &str) -> Result<Vec<u8>, OutOfMemory>
-    ensures { IfOk result (λ line. line.items ≡ event_line (Some Text) moment kind.now words.now) }
+    ensures { IfOk result (λ line.
+        line.items ≡ event_line (Some Text) moment kind.now words.now) }
 {
     let mut line = Vec::new(alloc);
     append_moment(&mut line, moment, Decimals::Six)?;
@@ -39,7 +40,8 @@ fn text_line(alloc: Global, moment: Moment, kind: &str, words: &str) -> Result<V
 /// An object of the moment, the kind and the words.
 #[tactic(auto, unfolding(crate::specs::Events::event_line))]
 fn json_line(alloc: Global, moment: Moment, kind: &str, words: &str) -> Result<Vec<u8>, OutOfMemory>
-    ensures { IfOk result (λ line. line.items ≡ event_line (Some Json) moment kind.now words.now) }
+    ensures { IfOk result (λ line.
+        line.items ≡ event_line (Some Json) moment kind.now words.now) }
 {
     let mut line = Vec::new(alloc);
     append(&mut line, b"{\"at\":\"")?;
