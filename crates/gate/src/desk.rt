@@ -265,6 +265,7 @@ fn call_again<R, O: Write + Drop, E: Write + Drop>(
 where
     R: Net<Stream = TcpStream> + Wait + Clock,
 {
+    run.tell_broken();
     for _ in 0..CALLS {
         thread::sleep(rt, Duration::from_secs(1));
         if let Ok(stream) = call(rt, desk) {

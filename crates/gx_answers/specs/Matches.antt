@@ -1,11 +1,8 @@
 -- What a matching step answers for: its verdict, and what it changes.
-use Rattle.std.specs.Prelude.{◌≡◌, ℕ, List, [], ◌∷◌, ◌++◌, Option, Some, None}
-use Rattle.gx_policy.specs.declared.policy.PolicyData.{PolicyData}
+use Rattle.std.specs.Prelude.{◌≡◌, ℕ, [], ◌∷◌, ◌++◌, Option, Some, None}
 use Rattle.gx_history.specs.declared.record.RecordData.{RecordData}
 use Rattle.gx_history.specs.declared.record.Step.TheVariants as steps
 use Rattle.gx_history.specs.declared.record.Verdict.{Verdict}
-use Rattle.gx_history.specs.declared.record.Verdict.TheVariants as verdicts
-use Rattle.gx_history.specs.Matched.{ExpiresOrder, FillsOrders, RestsOrder}
 use Rattle.gx_history.specs.Matching.{matching}
 use Rattle.gx_history.specs.Settling.{AddsMatches, most_matches, settled}
 use Rattle.gx_history.specs.Verdicts.{next}
@@ -38,15 +35,3 @@ pub record IsSettling (before : GateData) (moment : ℕ) (now : GateData) : Type
 -- the most matching steps that there can be
 abbrev pub matches_left : GateData → ℕ
 matches_left gate = most_matches gate.policy gate.records
-
--- what a matching step of this verdict does
-abbrev pub MatchEffect : PolicyData → (before after : List RecordData) → RecordData → Verdict → Type 0
-MatchEffect policy before after r verdicts.Granted = ⊥
-MatchEffect policy before after r (verdicts.Denied rule) = ⊥
-MatchEffect policy before after r (verdicts.Filled f) = FillsOrders policy before after r f
-MatchEffect policy before after r (verdicts.Rested number) = RestsOrder policy before after number
-MatchEffect policy before after r (verdicts.Expired number) = ExpiresOrder policy before after r number
-
--- what the matching step changes, by its verdict, and that it changes nothing else
-abbrev pub HasMatched : GateData → GateData → ℕ → Outcome → Type 0
-HasMatched old new handed o = MatchEffect old.policy old.records new.records (matched_by handed o) o.verdict

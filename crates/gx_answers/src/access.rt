@@ -10,10 +10,10 @@ ghost use Rattle.gx_history.specs.Verdicts.{IsLegal};
 ghost use Rattle.gx_policy.specs.Lists.{slice};
 ghost use Rattle.gx_policy.specs.People.{user_in};
 ghost use Rattle.gx_answers.specs.declared.outcome.StepFault.TheVariants as faults;
-ghost use Rattle.gx_answers.specs.Effects.{EndsKills, HasEffect, NoneHeldWhereNoneAsked, NoneOnSideWhereNoneAsked};
+ghost use Rattle.gx_answers.specs.Effects.{moved_by, world_of, EndsKills, MayMoveBy, NoneHeldWhereNoneAsked, NoneOnSideWhereNoneAsked};
 ghost use Rattle.gx_answers.specs.Gates.{left_by, matched_by};
 ghost use Rattle.gx_answers.specs.Logins.{login_answered};
-ghost use Rattle.gx_answers.specs.Matches.{matches_left, matching_of, next_match, settled_gate, with_match, HasMatched};
+ghost use Rattle.gx_answers.specs.Matches.{matches_left, matching_of, next_match, settled_gate, with_match};
 ghost use Rattle.gx_answers.specs.Steps.{has_its_places, next_of, verdict_of, with_record, IsFull, IsJudged};
 ghost use Rattle.gx_answers.specs.Told.{copies_of, ends_before, login_of, reads, stream_of};
 
@@ -55,7 +55,9 @@ pub trait AccessGate {
             (seen self.new).records ≡ with_record (seen self.old) a o) }
         ensures verdict { IfOk result (λ o. o.verdict ≡ verdict_of (seen self.old) a) }
         ensures judged { IfOk result (λ o. IsJudged (seen self.old) a o.verdict) }
-        ensures effect { IfOk result (λ o. HasEffect (seen self.old) (seen self.new) a o) }
+        ensures effect { IfOk result
+            (λ o. world_of (seen self.new) ≡ moved_by (seen self.old) (left_by a o)) }
+        ensures may_move { IfOk result (λ o. MayMoveBy (seen self.old) (left_by a o)) }
         ensures lifted_by { IfOk result
             (λ o. EndsKills (seen self.old) (seen self.new) (left_by a o)) }
         ensures unchanged { OnErr result (seen self.new ≡ seen self.old) }
@@ -77,8 +79,10 @@ pub trait AccessGate {
             next_match (seen self.old) handed ≡ option_map (matched_by handed) found) }
         ensures records { IfOk result (λ found.
             seen self.new ≡ with_match (seen self.old) handed found) }
-        ensures effect { IfOk result (λ found.
-            IfSome found (HasMatched (seen self.old) (seen self.new) handed)) }
+        ensures effect { IfOk result (λ found. IfSome found
+            (λ o. world_of (seen self.new) ≡ moved_by (seen self.old) (matched_by handed o))) }
+        ensures may_move { IfOk result (λ found. IfSome found
+            (λ o. MayMoveBy (seen self.old) (matched_by handed o))) }
         ensures settles { IfOk result (λ found.
             settled_gate (seen self.new) handed ≡ settled_gate (seen self.old) handed) }
         ensures fewer { IfOk result (λ found. IfSome found (λ o.

@@ -1,6 +1,6 @@
 -- What the table of stocks says of the book that it stands for.
 use Rattle.std.proofs.Common.{◌≡◌, ℕ, Bool, true, false, cond, not, ◌||◌, List, [], ◌∷◌, map, refl, ◌∙◌, sym, ap, subst, if◌then◌else◌}
-use Rattle.std.specs.Prelude.{OnErr, Option, Some, None, Result, Ok, Err}
+use Rattle.std.specs.Prelude.{OnErr, Option, Some, None, is_some, Result, Ok, Err}
 use Rattle.std.specs.Cmp.{IsEquivalence, on_equiv}
 use Rattle.std.specs.Cmp.Lexicographic.{nat_list_eq_equiv}
 use Rattle.std.specs.Option.{option_map_or}
@@ -44,6 +44,13 @@ stock_found [] stock buy = refl
 stock_found (e ∷ es) stock buy =
     elim (same_stock stock e.0) as (λ b. option_map_or (side_of buy) (cond b (Some (stock_of e)) (stock_in (book_of es) stock)) [] ≡ option_map_or (side_in buy) (cond b (Some e.1) (lookup (same_stock stock) es)) [])
     [ true ↦ refl | false ↦ stock_found es stock buy ]
+
+-- whether the table has the stock
+pub listed_found : (es : List (Symbol × Sides)) (stock : Symbol) → is_some (lookup (same_stock stock) es) ≡ is_some (stock_in (book_of es) stock)
+listed_found [] stock = refl
+listed_found (e ∷ es) stock =
+    elim (same_stock stock e.0) as (λ b. is_some (cond b (Some e.1) (lookup (same_stock stock) es)) ≡ is_some (cond b (Some (stock_of e)) (stock_in (book_of es) stock)))
+    [ true ↦ refl | false ↦ listed_found es stock ]
 
 -- the side of a stock that is listed, and of one that is not
 pub side_found : (es : List (Symbol × Sides)) (book : List StockOrders) (stock : Symbol) (sides : Sides) → book_of es ≡ book → Some sides ≡ lookup (same_stock stock) es → (buy : Bool) → resting_in book stock buy ≡ side_in buy sides

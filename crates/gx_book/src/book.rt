@@ -1,8 +1,8 @@
 //! The book.
 
-ghost use Rattle.std.specs.Prelude.{◌≡◌, IfOk, OnOk, OnErr};
+ghost use Rattle.std.specs.Prelude.{◌≡◌, is_some, IfOk, OnOk, OnErr};
 ghost use Rattle.gx_history.specs.Book.{is_buy};
-ghost use Rattle.gx_book.specs.Books.{IsSound, best_in, empty_book, on_each_side, on_side, resting_in, with_rested};
+ghost use Rattle.gx_book.specs.Books.{IsSound, best_in, empty_book, on_each_side, on_side, resting_in, stock_in, with_rested};
 ghost use Rattle.gx_book.specs.Queue.{IsLatest, is_among, no_orders, without_account, without_order};
 
 use crate::resting::{Resting, is_buy};
@@ -48,6 +48,14 @@ impl Book {
             by_stock.insert(stock.name, Sides::new(alloc))?;
         }
         Ok(Book { by_stock })
+    }
+
+    /// Whether the stock is listed.
+    #[tactic(auto, using(crate::proofs::Stocks::listed_found))]
+    pub fn lists(&self, stock: Symbol) -> bool
+        ensures { result ≡ is_some (stock_in self.now stock) }
+    {
+        self.by_stock.contains_key(&stock)
     }
 
     /// The best order on a side of the stock: of those with the best price the first to rest.

@@ -390,12 +390,11 @@ fn flag<'a>(made: Arg<'a>, asked: &Argument) -> Arg<'a> {
     made.long(asked.name).action(ArgAction::SetTrue)
 }
 
-/// The argument as all words that stand behind the options, some of which may begin with `-`.
+/// The argument as all words from the first on that is no option; those behind it may begin with `-`.
 fn trailing_words<'a>(made: Arg<'a>, asked: &Argument) -> Arg<'a> {
     made.value_name(asked.value)
         .num_args(1..)
         .trailing_var_arg(true)
-        .allow_hyphen_values(true)
 }
 
 /// The argument as an option with an offset from UTC.

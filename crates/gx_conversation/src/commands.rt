@@ -4,9 +4,8 @@ use crate::fault::Fault;
 use crate::run::{Phase, Run};
 use crate::timer::Timer;
 use crossbeam_channel::Receiver;
-use gx_desk::Action;
+use gx_operator::Asked;
 use gx_terminal::{HELP, Wish, Wrong};
-use gx_units::AccountName;
 use std::alloc::Global;
 use std::io::{Read, Write};
 use std::sync::Wait;
@@ -96,38 +95,34 @@ impl<S: Read + Write + Drop, O: Write + Drop, E: Write + Drop> Run<S, O, E> {
 
     /// Asks for a single command or order.
     fn ask<R: Clock>(&mut self, rt: &R, wish: &Wish) -> Result<(), Fault> {
-        let Some(asked) = self.operator.asked(wish) else {
-            return Ok(());
-        };
-        let packet = self.operator.ask(&asked)?;
+        match self.operator.asked(wish) {
+            Some(asked) => self.send_asked(rt, &asked),
+            None => Ok(()),
+        }
+    }
+
+    /// Asks for this.
+    fn send_asked<R: Clock>(&mut self, rt: &R, asked: &Asked) -> Result<(), Fault> {
+        let packet = self.operator.ask(asked)?;
         self.asked = Timer::start(rt);
         self.send(rt, packet.as_slice())
     }
 
-    /// The account at this place of those that are known.
-    fn account_at(&self, place: usize) -> Option<AccountName> {
-        match &self.accounts {
-            Some(accounts) => accounts.as_slice().get(place).copied(),
-            None => None,
-        }
-    }
-
     /// Asks for a Kill of each account, all at once.
     fn kill_all<R: Clock>(&mut self, rt: &R) -> Result<(), Fault> {
-        if self.accounts.is_none() {
+        let Some(accounts) = &self.accounts else {
             self.has_bad_words = true;
             let _ = writeln!(self.err, "gate: {NO_ACCOUNTS}");
             return Ok(());
-        }
-        self.kill_each(rt)
+        };
+        let kills = self.operator.kills(accounts.as_slice())?;
+        self.send_each(rt, kills.as_slice())
     }
 
-    fn kill_each<R: Clock>(&mut self, rt: &R) -> Result<(), Fault> {
-        for place in 0..usize::MAX {
-            match self.account_at(place) {
-                Some(account) => self.ask(rt, &Wish::Ask(Action::Kill(account)))?,
-                None => break,
-            }
+    /// Asks for each of these, in this order.
+    fn send_each<R: Clock>(&mut self, rt: &R, all: &[Asked]) -> Result<(), Fault> {
+        for asked in all {
+            self.send_asked(rt, asked)?;
         }
         Ok(())
     }

@@ -29,6 +29,9 @@ const SHORT_PATIENCE: u64 = 1_000;
 /// Behind its logout a client waits so many milliseconds for the server to close the line.
 const FAREWELL: u64 = 1_000;
 
+/// What is told of a line that broke, where the gate is called again.
+const BROKEN: &[u8] = b"gate: the line broke; the gate is called again each second\n";
+
 /// What is told of what was asked on a line that broke, and never answered.
 const LOST: &[u8] =
     b"gate: no answer to what was asked when the line broke: the gate may not have heard it\n";
@@ -139,6 +142,11 @@ impl<S: Read + Write + Drop, O: Write + Drop, E: Write + Drop> Run<S, O, E> {
             }
         }
         Ok(())
+    }
+
+    /// Tells that the line broke, and that the gate is called again.
+    pub fn tell_broken(&mut self) {
+        let _ = self.err.write_all(BROKEN);
     }
 
     /// Goes on over another stream, from the report behind the last one that it heard: logs in, and waits until that is

@@ -1,9 +1,16 @@
 -- What the keepers answer is what the rules ask of the records.
-use Rattle.std.proofs.Common.{◌≡◌, ℕ, ◌+◌, ◌<◌, ◌^◌, max, pred, arith, length, drop, List, ◌∙◌, ap, refl, sym, true}
+use Rattle.std.proofs.Common.{◌≡◌, ℕ, ◌+◌, ◌<◌, ◌^◌, max, pred, arith, length, drop, List, [], ◌∷◌, map, Bool, ◌∙◌, ap, refl, sym, true, if◌then◌else◌}
 use Rattle.std.proofs.lemmas.List.{length-take, length-drop}
 use Rattle.gx_policy.specs.Lists.{slice}
 use Rattle.std.specs.Prelude.{false, Option, Some, None, is_some, option_map, option_and_then, Result, Ok, Err, IfOk}
-use Rattle.std.specs.Option.{option_map_or}
+use Rattle.std.specs.List.{find}
+use Rattle.std.specs.Cmp.Lexicographic.{nat_list_eq_equiv}
+use Rattle.gx_units.specs.Names.{same_stock}
+use Rattle.gx_units.specs.declared.names.Symbol.{Symbol}
+use Rattle.gx_policy.specs.declared.policy.Stock.{Stock}
+use Rattle.gx_policy.specs.People.{stock_named}
+use Rattle.gx_book.specs.Books.{StockOrders, stock_in}
+use Rattle.gx_market.specs.BookInForce.{book_in_force, stock_in_force}
 use Rattle.gx_units.specs.declared.names.AccountName.{AccountName}
 use Rattle.gx_units.specs.declared.names.Password.{Password}
 use Rattle.gx_units.specs.declared.names.Token.{Token}
@@ -124,3 +131,20 @@ copies_are_given (Err e) given policy history k user from most kept is = tt
 pub numbers_fit : (owed : List Report) (from most : ℕ) → length owed < 2 ^ 63 → from < 2 ^ 64 → max 1 from + length (slice owed from most) < 2 ^ 64
 numbers_fit owed from most few fits =
     omega (arith, length-take most (drop (pred (max 1 from)) owed), length-drop (pred (max 1 from)) owed, few, fits)
+
+-- stocks
+listed_in : (policy : PolicyData) (history : List RecordData) (stock : Symbol) (stocks : List Stock)
+    → is_some (stock_in (map (stock_in_force policy history) stocks) stock) ≡ is_some (find (λ (s : Stock). same_stock s.name stock) stocks)
+listed_in policy history stock [] = refl
+listed_in policy history stock (s ∷ stocks) =
+    ap (λ (b : Bool). is_some (if b then Some (stock_in_force policy history s) else stock_in (map (stock_in_force policy history) stocks) stock)) (nat_list_eq_equiv.symm stock.bytes s.name.bytes)
+    ∙ elim (same_stock s.name stock) as (λ b. is_some (if b then Some (stock_in_force policy history s) else stock_in (map (stock_in_force policy history) stocks) stock) ≡ is_some (if b then Some s else find (λ (s' : Stock). same_stock s'.name stock) stocks))
+    [ true ↦ refl | false ↦ listed_in policy history stock stocks ]
+
+listed_in_force : (policy : PolicyData) (history : List RecordData) (stock : Symbol) → is_some (stock_in (book_in_force policy history) stock) ≡ is_some (stock_named policy stock)
+unfolding book_in_force
+listed_in_force policy history stock = listed_in policy history stock policy.stocks
+
+pub stocks_are_known : (policy : PolicyData) (history : List RecordData) (k : Keepers) (stock : Symbol) → IsKept policy history k
+    → is_some (stock_in k.book stock) ≡ is_some (stock_named policy stock)
+stocks_are_known policy history k stock kept = ap (λ (book : List StockOrders). is_some (stock_in book stock)) kept.in_force.book ∙ listed_in_force policy history stock

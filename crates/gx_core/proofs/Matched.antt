@@ -15,11 +15,8 @@ use Rattle.gx_history.specs.Showing.{is_showable, is_verdict_of}
 use Rattle.gx_history.specs.Verdicts.{IsLegal, moment_of, next, step_verdict}
 use Rattle.gx_history_laws.proofs.Numbers.{number_left}
 use Rattle.gx_history_laws.proofs.Runs.{step_left}
-use Rattle.gx_effects.proofs.Expiries.{end_takes_effect}
-use Rattle.gx_effects.proofs.Fills.{fill_takes_effect}
 use Rattle.gx_effects.proofs.NeverCrossed.{never_crossed}
 use Rattle.gx_effects.proofs.Orderly.{legal_is_orderly}
-use Rattle.gx_effects.proofs.Rests.{rest_takes_effect}
 use Rattle.gx_effects.proofs.Settling.{not_judged, settled_step}
 use Rattle.gx_book.specs.Books.{StockOrders}
 use Rattle.gx_market.proofs.Crossing.{matching_is_met}
@@ -30,7 +27,7 @@ use Rattle.gx_orders.specs.LiveOrders.{OrdersData, first_waiting}
 use Rattle.gx_keepers.specs.declared.keepers.Keepers.{Keepers}
 use Rattle.gx_answers.specs.Gates.{GateData, matched_by}
 use Rattle.gx_core.specs.Kept.{IsKept}
-use Rattle.gx_answers.specs.Matches.{MatchEffect, settled_gate}
+use Rattle.gx_answers.specs.Matches.{settled_gate}
 
 -- the first that waits, against the best that rests on the other side, as they are kept
 met_by_kept : (policy : PolicyData) (history : List RecordData) (k : Keepers) → IsKept policy history k → next_met k.orders k.book ≡ matching policy history
@@ -86,21 +83,6 @@ match_is_shown policy history handed r left =
     by (verdicts.Filled f) is = refl
     by (verdicts.Rested number) is = refl
     by (verdicts.Expired number) is = refl
-
--- what the record changes, by its verdict
-pub match_effect_of : (policy : PolicyData) (history : List RecordData) (handed : ℕ) (r : RecordData)
-    → IsLegal policy history → next policy history (steps.Matching handed) ≡ Some r → MatchEffect policy history (history ++ r ∷ []) r r.verdict
-match_effect_of policy history handed r legal left = by r.verdict refl
-  where
-    never : (v : Verdict) → r.verdict ≡ v → is_judged v ≡ true → ⊥
-    never v is judged = let clash : false ≡ true = sym (not_judged policy history handed r left) ∙ ap is_judged is ∙ judged in cc
-
-    by : (v : Verdict) → r.verdict ≡ v → MatchEffect policy history (history ++ r ∷ []) r v
-    by verdicts.Granted is = never verdicts.Granted is refl
-    by (verdicts.Denied rule) is = never (verdicts.Denied rule) is refl
-    by (verdicts.Filled f) is = fill_takes_effect policy history handed r f (legal_is_orderly policy history legal) left is
-    by (verdicts.Rested number) is = rest_takes_effect policy history handed r number (legal_is_orderly policy history legal) left is
-    by (verdicts.Expired number) is = end_takes_effect policy history handed r number (legal_is_orderly policy history legal) left is
 
 -- the steps that are left come to the same
 pub settles_on : (policy : PolicyData) (history : List RecordData) (handed : ℕ) (r : RecordData)

@@ -2,7 +2,7 @@
 
 ghost use Rattle.std.specs.Prelude.{◌≡◌, ◌≤◌, ◌<◌, is_some, length, IsTrue, Some};
 ghost use Rattle.gx_history.specs.declared.record.Step.TheVariants as steps;
-ghost use Rattle.gx_history.specs.Asking.{changes, facts, fits_role, has_power, is_on_line, knows_user};
+ghost use Rattle.gx_history.specs.Asking.{changes, facts, fits_role, has_power, is_on_line, knows_user, lists_its_stock};
 ghost use Rattle.gx_policy.specs.People.{account_named, account_of, role_in};
 ghost use Rattle.gx_history.specs.Showing.{answers, is_askable, is_showable};
 ghost use Rattle.gx_history.specs.Verdicts.{moment_of, next, verdict};
@@ -19,7 +19,7 @@ use gx_desk::Action;
 use gx_history::facts::Facts;
 use gx_history::live_order::LiveOrder;
 use gx_history::record::{Asked, Request, Verdict};
-use gx_keepers::listed::{account_named, fits_firm, lists_its_stock};
+use gx_keepers::listed::{account_named, fits_firm};
 use gx_orders::request_tokens::{named_token, new_token};
 use gx_people::power::Power;
 use gx_units::{AccountName, Moment, UserName};
@@ -70,6 +70,17 @@ impl Gate {
         }
     }
 
+    /// Whether an Enter's stock is listed; true for any other request.
+    #[tactic(auto, using(crate::proofs::Judged::stocks_are_known))]
+    fn lists_its_stock(&self, request: &Request) -> bool
+        ensures { result ≡ lists_its_stock self.now.policy request.now }
+    {
+        match request {
+            Request::Enter(m) => self.keepers.book.lists(m.stock),
+            _ => true,
+        }
+    }
+
     /// The account that the user trades for, if he trades.
     #[tactic(auto, using(crate::proofs::Judged::accounts_are_known))]
     fn account_of(&self, user: UserName) -> Option<AccountName>
@@ -113,7 +124,7 @@ impl Gate {
             day_is_closed: self.is_closed(),
             account_is_killed: account.is_some_and(|name| self.is_killed(name)),
             firm_fits: fits_firm(&self.policy, account, &a.request),
-            stock_is_listed: lists_its_stock(&self.policy, &a.request),
+            stock_is_listed: self.lists_its_stock(&a.request),
             names_are_known: command.names_are_known,
             has_power: command.has_power,
             accounts_are_his: command.accounts_are_his,

@@ -1,7 +1,6 @@
 -- What is kept answers as the records of a legal day do.
 use Rattle.std.proofs.Common.{◌≡◌, Bool, true, false, List, [], ◌∷◌, ◌++◌, map, refl, ◌∙◌, sym, ap, cond, ℕ}
 use Rattle.std.proofs.lemmas.Bool.{not-false}
-use Rattle.std.specs.Option.{option_map_or}
 use Rattle.std.specs.Prelude.{Option, Some, None, option_and_then, unwrap_or, is_some, find, drop}
 use Rattle.gx_units.specs.Names.{same_account, same_user}
 use Rattle.gx_units.specs.declared.names.AccountName.{AccountName}

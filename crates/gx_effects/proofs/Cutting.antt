@@ -58,7 +58,7 @@ asks_for_less policy history a r m s left granted asks found =
     ∙ takes_something policy history a r left granted)
 
 -- the size that it sets
-size_of : (r : RecordData) (a : Asked) (m : CancelOrder) (o x : Order) → Grants r a (requests.Cancel m) → nat_lt x.number r.number ≡ true → IsToldApart a.user m.token o x
+pub size_of : (r : RecordData) (a : Asked) (m : CancelOrder) (o x : Order) → Grants r a (requests.Cancel m) → nat_lt x.number r.number ≡ true → IsToldApart a.user m.token o x
     → size_set x r ≡ where_true (x.number == o.number) m.shares
 size_of r a m o x g early apart =
     size_by r a (requests.Cancel m) x g early ∙ ap (λ (b : Bool). where_true b m.shares) (is_under_swapped a.user m.token x ∙ apart.by_number)

@@ -172,7 +172,7 @@ taker_is_not_maker policy history taker maker not_yet rests same =
     clash e h k = cc
 
 -- what the fill takes of an order, by its number
-done_by_fill : (policy : PolicyData) (history : List RecordData) (r : RecordData) (f : Fill) (is : IsFill policy history r f) (o : Order) → HasGone policy history o
+pub done_by_fill : (policy : PolicyData) (history : List RecordData) (r : RecordData) (f : Fill) (is : IsFill policy history r f) (o : Order) → HasGone policy history o
     → done (both_sides f is.taker.order is.maker.order) o ≡ cond (o.number == f.taker || o.number == f.maker) f.shares 0
 unfolding done
 done_by_fill policy history r f is o gone =
@@ -325,7 +325,7 @@ elsewhere_aside policy history r f orderly is stock buy other =
     clash {b} {c} h k l = both_true b c k l h
 
 -- what each user is told of the fill
-told_of_fill : (policy : PolicyData) (history : List RecordData) (r : RecordData) (f : Fill) (is : IsFill policy history r f) (user : UserName)
+pub told_of_fill : (policy : PolicyData) (history : List RecordData) (r : RecordData) (f : Fill) (is : IsFill policy history r f) (user : UserName)
     → stream policy (history ++ r ∷ []) user
     ≡ stream policy history user
     ++ map (reported r) (reports_of_execution r user (taker_side f is.taker.order) ++ reports_of_execution r user (maker_side f is.maker.order))

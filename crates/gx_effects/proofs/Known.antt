@@ -32,7 +32,7 @@ pub record IsKnown (policy : PolicyData) (history : List RecordData) (s : Standi
 abbrev pub number_in : Standing → ℕ
 number_in s = s.order.number
 
-map_apart : {X Y : Type 0} (key : Y → ℕ) (f : X → Y) (xs : List X) → AreApart (λ x. key (f x)) xs → AreApart key (map f xs)
+pub map_apart : {X Y : Type 0} (key : Y → ℕ) (f : X → Y) (xs : List X) → AreApart (λ x. key (f x)) xs → AreApart key (map f xs)
 map_apart key f [] h = tt
 map_apart key f (x ∷ xs) h = (all_mapped (λ y. key y ≡ key (f x) → ⊥) f xs h.0, map_apart key f xs h.1)
 

@@ -43,3 +43,9 @@ pub mod RuleChanges
 pub mod SightChanges
 pub mod Closing
 pub mod Accounts
+pub mod Live
+pub mod Sides
+pub mod World
+pub mod WorldKept
+pub mod Moving
+pub mod ByKind

@@ -128,7 +128,7 @@ by_asked policy history a r legal left (verdicts.Rested number) e = let judged :
 by_asked policy history a r legal left (verdicts.Expired number) e = let judged : false ≡ true = ap is_judged (sym e) ∙ asked_is_judged policy history a r left in cc
 
 -- a matching step
-by_fill : (policy : PolicyData) (history : List RecordData) (r : RecordData) (f : Fill) → IsOrderly policy history → IsFill policy history r f → ByChange policy history (history ++ r ∷ []) (Fills f)
+pub by_fill : (policy : PolicyData) (history : List RecordData) (r : RecordData) (f : Fill) → IsOrderly policy history → IsFill policy history r f → ByChange policy history (history ++ r ∷ []) (Fills f)
 by_fill policy history r f orderly is =
     let now : List RecordData = history ++ r ∷ [] in
     let changes : standings policy now ≡ map (with_open (left_by_fill f)) (standings policy history) = standings_filled policy history r f orderly is in
@@ -139,7 +139,7 @@ by_fill policy history r f orderly is =
       rests = λ (stock : Symbol) (buy : Bool). resting_of_change policy history now (left_by_fill f) (fill_revives_none f) changes same stock buy;
     }
 
-by_end : (policy : PolicyData) (history : List RecordData) (r : RecordData) (number : ℕ) → IsOrderly policy history → IsEnd policy history r number
+pub by_end : (policy : PolicyData) (history : List RecordData) (r : RecordData) (number : ℕ) → IsOrderly policy history → IsEnd policy history r number
     → ByChange policy history (history ++ r ∷ []) (Leaves number 0)
 by_end policy history r number orderly is =
     let now : List RecordData = history ++ r ∷ [] in
@@ -151,7 +151,7 @@ by_end policy history r number orderly is =
       rests = λ (stock : Symbol) (buy : Bool). resting_of_change policy history now (shares_left number 0) (end_revives_none number) changes same stock buy;
     }
 
-by_rest : (policy : PolicyData) (history : List RecordData) (r : RecordData) (number : ℕ) → IsRest policy history r number
+pub by_rest : (policy : PolicyData) (history : List RecordData) (r : RecordData) (number : ℕ) → IsRest policy history r number
     → ByChange policy history (history ++ r ∷ []) (option_map_or Rests (standing_numbered (live_orders policy history) number) Nothing)
 by_rest policy history r number is =
     let same : standings policy (history ++ r ∷ []) ≡ standings policy history = same_standings policy history r number is in

@@ -49,7 +49,7 @@ not_true true h = cc
 not_true false h = refl
 
 -- and so is such a list with one more in its place
-placed_parted : {X : Type 0} (better : X → X → Bool) → IsRanking better → (xs : List X) (z : X) → IsParted better xs → IsParted better (placed better xs z)
+pub placed_parted : {X : Type 0} (better : X → X → Bool) → IsRanking better → (xs : List X) (z : X) → IsParted better xs → IsParted better (placed better xs z)
 placed_parted {X} better ranks xs z parted x =
     ap (λ (ys : List X). ys ++ filter (better x) (ahead ++ z ∷ behind)) (filter-append no_worse ahead (z ∷ behind))
     ∙ ap (λ (ys : List X). (filter no_worse ahead ++ filter no_worse (z ∷ behind)) ++ ys) (filter-append (better x) ahead (z ∷ behind))
@@ -100,13 +100,13 @@ filter_places {X} better ranks q earlier (x ∷ xs) parted =
 pub in_order_filter : {X : Type 0} (better : X → X → Bool) → IsRanking better → (q : X → Bool) (xs : List X) → in_order better (filter q xs) ≡ filter q (in_order better xs)
 in_order_filter better ranks q xs = filter_places better ranks q [] xs (λ x. refl)
 
-lower : (a b c : ℕ) → nat_lt a b ≡ true → nat_lt b c ≡ true → nat_lt a c ≡ true
+pub lower : (a b c : ℕ) → nat_lt a b ≡ true → nat_lt b c ≡ true → nat_lt a c ≡ true
 lower a b c h k =
     let first : a < b = ltb-true a b h in
     let second : b < c = ltb-true b c k in
     lt-ltb a c (omega arith)
 
-no_lower : (a b c : ℕ) → nat_lt a b ≡ false → nat_lt b c ≡ false → nat_lt a c ≡ false
+pub no_lower : (a b c : ℕ) → nat_lt a b ≡ false → nat_lt b c ≡ false → nat_lt a c ≡ false
 no_lower a b c h k =
     let first : b ≤ a = ltb-false a b h in
     let second : c ≤ b = ltb-false b c k in

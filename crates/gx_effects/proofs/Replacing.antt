@@ -70,7 +70,7 @@ proposed_by m o = record {
 abbrev is_too_small : ProposedOrder → Bool
 is_too_small w = not w.is_new && nat_le w.shares w.done
 
-more_than_done : (policy : PolicyData) (history : List RecordData) (a : Asked) (r : RecordData) (m : ReplaceOrder) (s : Standing)
+pub more_than_done : (policy : PolicyData) (history : List RecordData) (a : Asked) (r : RecordData) (m : ReplaceOrder) (s : Standing)
     → next policy history (steps.Asked a) ≡ Some r → r.verdict ≡ verdicts.Granted → a.request ≡ requests.Replace m
     → standing_under (live_orders policy history) a.user m.existing_token ≡ Some s → done (executions policy history) s.order < m.shares
 more_than_done policy history a r m s left granted asks found =
@@ -121,10 +121,10 @@ one_replaced policy history r a m o x g early apart =
 never_before : (n : ℕ) → nat_lt n n ≡ false
 never_before n = le-ltb n n (omega arith)
 
-ends_not_itself : (o : Order) (r : RecordData) → o.number ≡ r.number → ends o r ≡ false
+pub ends_not_itself : (o : Order) (r : RecordData) → o.number ≡ r.number → ends o r ≡ false
 ends_not_itself o r e = and_late (nat_lt o.number r.number) _ (ap (λ (n : ℕ). nat_lt n r.number) e ∙ never_before r.number)
 
-sizes_not_itself : (o : Order) (r : RecordData) → o.number ≡ r.number → size_set o r ≡ None
+pub sizes_not_itself : (o : Order) (r : RecordData) → o.number ≡ r.number → size_set o r ≡ None
 sizes_not_itself o r e = none_late (nat_lt o.number r.number) _ (ap (λ (n : ℕ). nat_lt n r.number) e ∙ never_before r.number)
 
 pub done_before : (policy : PolicyData) (history : List RecordData) (r : RecordData) (m : ReplaceOrder) (o : Order) → IsLegal policy history → r.number ≡ length history + 1
@@ -173,7 +173,7 @@ pub record Replaces (policy : PolicyData) (history : List RecordData) (r : Recor
   pub one : FindsOne policy history a.user m.existing_token s
   pub some : done (executions policy history) s.order < m.shares
 
-made : (policy : PolicyData) (history : List RecordData) (r : RecordData) (a : Asked) (m : ReplaceOrder) (s : Standing) → FindsOne policy history a.user m.existing_token s
+pub made : (policy : PolicyData) (history : List RecordData) (r : RecordData) (a : Asked) (m : ReplaceOrder) (s : Standing) → FindsOne policy history a.user m.existing_token s
     → orders_made policy (orders policy history) r a.user (requests.Replace m) ≡ replacing r m s.order ∷ []
 made policy history r a m s one = ap (λ (found : Option Order). option_map_or (λ (o : Order). replacing r m o ∷ []) found []) one.is_last
 

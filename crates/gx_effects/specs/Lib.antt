@@ -1,3 +1,4 @@
 pub mod OneMore
 pub mod Laws
 pub mod Lifts
+pub mod Kinds

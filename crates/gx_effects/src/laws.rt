@@ -1,6 +1,10 @@
 //! Laws of what a record changes and of what matching comes to, each as what a function without a body ensures.
 
 ghost use Rattle.gx_effects.specs.Laws.{LiveOrdersGoOn, WaitingGoOn, RestingGoOn, DenialsChangeNothing, DenialsAreTold, LoginsTakeEffect, LogoutsTakeEffect, EntersTakeEffect, CancelsTakeEffect, ReplacesTakeEffect, TotalsAreOpenAndDone, LiveOrdersAreTheOne, LiveOrdersAreFound, KillsTakeEffect, LiftsTakeEffect, SetLimitsTakeEffect, RestrictsTakeEffect, UnrestrictsTakeEffect, GrantsTakeEffect, RevokesTakeEffect, ClosesTakeEffect, KilledPlaceNoOrders, KilledAreNotLive, KilledHaveNoOrders, KillsEndByLifts, IdleWhereNoneWaits, NothingWhereNoneWaits, RestingByPrice, RestingByTime, RestingAlone, RestingWhole, FillsTakeEffect, FillsAreFair, RestsTakeEffect, ExpiriesTakeEffect, NeverCrossed, SettledWhereIdle, SettledStepByStep, SettledByMatches, SettledLeavesNone, KilledAreNotFilled};
+ghost use Rattle.gx_effects.specs.Kinds.{ClosesLeaveNone, DenialsTellWhoAsked, EntersComeLast, GrantsChangeOneSight, KillsLeaveTheOthers, LiftsBringNoneBack, LiveAreKept, LoginsPutOn, LogoutsPutOff, MatchesKeepInForce, OpenAreOfTheLive, RestingAreKept, RestrictsChangeOneRule, RevokesChangeOneSight, SetLimitsChangeOneRule, UnrestrictsChangeOneRule, WaitingAreKept};
+ghost use Rattle.gx_history.specs.MayMove.{MovesAreAllowed};
+ghost use Rattle.gx_history.specs.Turns.{LiveGoesOn, SidesGoOn, WaitingGoesOn};
+ghost use Rattle.gx_history.specs.World.{WorldGoesOn, WorldsAreRuns};
 
 /// A denied record changes no order, no figure, no book and nothing in force; at most who asked is told of it.
 pub fn denials_change_nothing()
@@ -116,4 +120,93 @@ pub fn orders_go_on()
     ensures live { LiveOrdersGoOn }
     ensures waiting { WaitingGoOn }
     ensures resting { RestingGoOn }
+{}
+
+/// What one more record makes of the live orders.
+pub fn live_orders_turn()
+    ensures live { LiveGoesOn }
+    ensures waiting { WaitingGoesOn }
+    ensures sides { SidesGoOn }
+{}
+
+/// The day is the run of a state machine. The world is all that a record can change, each word of it said over the list
+/// of the day's records; `stepped` makes the next world of a world and a record, and looks at nothing else.
+///
+/// Of a legal day and its next record, the world after it is what `stepped` makes of the world before (`step`). So the
+/// world of a legal day is the fold of `stepped` over its records (`run`).
+pub fn the_world_goes_on()
+    ensures step { WorldGoesOn }
+    ensures run { WorldsAreRuns }
+{}
+
+/// Each record of a legal day may move the world as it does, and none does nothing. A cut order has fewer shares open
+/// then; one that replaces another has some; whoever is matched was the first that waited, and met the best of the other
+/// side that it crosses, or nothing; and the names in a command are known.
+pub fn moves_are_allowed()
+    ensures { MovesAreAllowed }
+{}
+
+/// The world's live orders, those that wait and those that rest are the live ones of all orders that the day has
+/// granted, each as what is kept of it and in its place. No other order has shares open.
+pub fn the_worlds_orders_are_the_live_ones()
+    ensures live { LiveAreKept }
+    ensures waiting { WaitingAreKept }
+    ensures resting { RestingAreKept }
+    ensures shares { OpenAreOfTheLive }
+{}
+
+/// A denial tells at most who asked, and changes nothing else in the world.
+pub fn denials_tell_who_asked()
+    ensures { DenialsTellWhoAsked }
+{}
+
+/// A Login puts its user on its line, and a Logout on none. Nothing else in the world changes.
+pub fn logins_and_logouts_change_one_line()
+    ensures on { LoginsPutOn }
+    ensures off { LogoutsPutOff }
+{}
+
+/// An Enter's order comes last of the live ones and of those that wait. Its user is told, and nothing else in the world
+/// changes.
+pub fn enters_come_last()
+    ensures { EntersComeLast }
+{}
+
+/// A Kill leaves the orders of all other accounts in their places, and none of its own. Whose orders ended is told, and
+/// the officer; nothing else in the world changes.
+pub fn kills_leave_the_others()
+    ensures { KillsLeaveTheOthers }
+{}
+
+/// A Lift counts its officer, who is told whether the account is killed still. No order comes back, and nothing else in
+/// the world changes.
+pub fn lifts_bring_none_back()
+    ensures { LiftsBringNoneBack }
+{}
+
+/// A Set Limit, Restrict or Unrestrict changes the rule of its name alone. The officer is told, and nothing else in the
+/// world changes.
+pub fn settings_change_one_rule()
+    ensures limits { SetLimitsChangeOneRule }
+    ensures restricts { RestrictsChangeOneRule }
+    ensures unrestricts { UnrestrictsChangeOneRule }
+{}
+
+/// A Grant or Revoke changes whether its reader sees the one account. The officer is told, and nothing else in the world
+/// changes.
+pub fn grants_and_revokes_change_one_sight()
+    ensures grants { GrantsChangeOneSight }
+    ensures revokes { RevokesChangeOneSight }
+{}
+
+/// A Close Day leaves no order, and the day closed. Whose orders ended is told, each trader, and the officer; nothing
+/// else in the world changes.
+pub fn closes_leave_none()
+    ensures { ClosesLeaveNone }
+{}
+
+/// A matching step makes no order, uses no token, and changes nothing that is in force: rules, kills, the day's end, lines
+/// and what readers see.
+pub fn matches_keep_in_force()
+    ensures { MatchesKeepInForce }
 {}

@@ -23,3 +23,4 @@ pub mod Names
 pub mod Tables
 pub mod Masks
 pub mod Logouts
+pub mod Moves

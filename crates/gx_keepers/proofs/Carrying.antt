@@ -41,6 +41,7 @@ use Rattle.gx_history_laws.proofs.Runs.{step_left}
 use Rattle.gx_effects.proofs.Effects.{is_told}
 use Rattle.gx_effects.proofs.Lines.{login_takes_effect, logout_takes_effect}
 use Rattle.gx_effects.proofs.Taking.{takes_effect}
+use Rattle.gx_effects.proofs.Moving.{unreadable_is_denied}
 use Rattle.gx_day.specs.DayData.{at_moment, with_line}
 use Rattle.gx_day.specs.InForce.{day_asked, day_in_force}
 use Rattle.gx_day.proofs.Going.{day_next}
@@ -49,7 +50,8 @@ use Rattle.gx_orders.specs.InForce.{orders_in_force}
 use Rattle.gx_orders.specs.Laws.{CanEnter}
 use Rattle.gx_orders.specs.LiveOrders.{AreBelow, OrdersData, is_used}
 use Rattle.gx_history.specs.declared.live_order.LiveOrder.{LiveOrder}
-use Rattle.gx_orders.proofs.Granted.{denials_keep, enters_more, enters_new, others_keep}
+use Rattle.gx_orders.proofs.Granted.{denials_keep, enters_new}
+use Rattle.gx_orders.proofs.Turned.{enters_more, others_keep}
 use Rattle.gx_orders.proofs.Tokens.{denied_is_new}
 use Rattle.gx_market.specs.BookInForce.{book_in_force}
 use Rattle.gx_market.specs.Changes.{keeps_book}
@@ -57,7 +59,6 @@ use Rattle.gx_market.proofs.Requested as booked
 use Rattle.gx_people.specs.Entitled.{given, people_in_force}
 use Rattle.gx_people.proofs.Keeping.{accounts_stay, next_users}
 use Rattle.gx_streams.specs.Kept.{places_in}
-use Rattle.gx_places.proofs.Kills.{unreadable_is_denied}
 use Rattle.gx_streams.specs.Laws.{TellsNobody, TellsOne}
 use Rattle.gx_streams.specs.Streams.{AllStreams, ReaderMask, mask_in}
 use Rattle.gx_streams.specs.Telling.{shown, told_after}

@@ -46,7 +46,7 @@ use Rattle.gx_history.specs.declared.live_order.LiveOrder.{LiveOrder}
 use Rattle.gx_orders.specs.Changes.{ended_message, is_lasting, keeps_orders, with_live}
 use Rattle.gx_orders.specs.InForce.{orders_in_force}
 use Rattle.gx_orders.specs.LiveOrders.{OrdersData, is_of_user}
-use Rattle.gx_orders.proofs.Granted.{closes_end, kills_end, others_keep}
+use Rattle.gx_orders.proofs.Turned.{closes_end, kills_end, others_keep}
 use Rattle.gx_orders.proofs.Telling.{ends_are_told}
 use Rattle.gx_book.specs.Books.{StockOrders}
 use Rattle.gx_market.specs.Changes.{ended_by}

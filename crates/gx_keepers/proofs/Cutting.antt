@@ -27,7 +27,8 @@ use Rattle.gx_history.specs.LiveOrders.{kept}
 use Rattle.gx_orders.specs.Changes.{with_live}
 use Rattle.gx_orders.specs.InForce.{orders_in_force}
 use Rattle.gx_orders.specs.LiveOrders.{OrdersData, cut_at, order_under}
-use Rattle.gx_orders.proofs.Cutting.{cancels_name_one, cuts_one}
+use Rattle.gx_orders.proofs.Cutting.{cancels_name_one}
+use Rattle.gx_orders.proofs.Turned.{cuts_one}
 use Rattle.gx_orders.proofs.Keeping.{IsKeptOpen, open_is, under_is}
 use Rattle.gx_market.specs.Changes.{cut_from, left_with}
 use Rattle.gx_market.proofs.Requested.{cancels_take}

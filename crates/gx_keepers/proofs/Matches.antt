@@ -58,7 +58,8 @@ use Rattle.gx_orders.specs.InForce.{orders_in_force}
 use Rattle.gx_orders.specs.Laws.{CanFill}
 use Rattle.gx_orders.specs.LiveOrders.{OrdersData, at_rest, changed, filled_at, order_numbered, without}
 use Rattle.gx_orders.proofs.Keeping.{IsKeptOpen}
-use Rattle.gx_orders.proofs.Matching.{ends_one, fills_both, numbered_is, rests_one}
+use Rattle.gx_orders.proofs.Matching.{numbered_is}
+use Rattle.gx_orders.proofs.Turned.{ends_one, fills_both, rests_one}
 use Rattle.gx_orders.proofs.Matching as matched
 use Rattle.gx_market.specs.BookInForce.{book_in_force}
 use Rattle.gx_market.specs.Changes.{left_with, put_to_rest, resting_of}

@@ -27,7 +27,8 @@ use Rattle.gx_orders.specs.Changes.{entering, with_live}
 use Rattle.gx_orders.specs.InForce.{orders_in_force}
 use Rattle.gx_orders.specs.Laws.{CanReplace}
 use Rattle.gx_orders.specs.LiveOrders.{AreBelow, OrdersData, is_used, order_under, without}
-use Rattle.gx_orders.proofs.Cutting.{replaces_new, replaces_one}
+use Rattle.gx_orders.proofs.Cutting.{replaces_new}
+use Rattle.gx_orders.proofs.Turned.{replaces_one}
 use Rattle.gx_orders.proofs.Keeping.{under_is}
 use Rattle.gx_market.specs.Changes.{taken_out}
 use Rattle.gx_market.proofs.Requested.{replaces_take}

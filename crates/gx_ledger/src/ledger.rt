@@ -65,6 +65,7 @@ impl<'a> Model for AskedFigures<'a> {
 impl TellsFigures for AskedFigures<'_> {
     ghost told = { figures_at };
 
+    #[inline(always)]
     fn of(&self, place: usize) -> RuleFigures {
         match self.tallies.get(place) {
             Some(tally) => tally.figures(&self.wanted),

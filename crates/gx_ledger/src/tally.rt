@@ -277,6 +277,7 @@ fn live_in(sides: &Sides, side: Option<StockSide>) -> u128
 }
 
 /// The figures of a group that the rule asks for.
+#[inline(always)]
 fn figures_of_group(asks: Asks, group: &Group, wanted: &Wanted) -> RuleFigures
     ensures { result ≡ figures_of_group asks wanted.now group.now }
 {
@@ -385,6 +386,7 @@ impl Tally {
     }
 
     /// The figures that the rule asks for.
+    #[inline(always)]
     pub fn figures(&self, wanted: &Wanted) -> RuleFigures
         ensures { result ≡ tally_figures wanted.now self.now }
     {

@@ -1,7 +1,10 @@
 -- What is asked of the gate, and under which serials.
-use Rattle.std.specs.Prelude.{ℕ, ◌+◌, ◌*◌, ◌/◌, ◌%◌, List, [], ◌∷◌, Option, Some, None, Bool, true, false}
+use Rattle.std.specs.Prelude.{ℕ, ◌+◌, ◌*◌, ◌/◌, ◌%◌, min, List, [], ◌∷◌, Option, Some, None}
+use Rattle.gx_units.specs.declared.names.AccountName.{AccountName}
+use Rattle.gx_desk.specs.declared.Action.TheVariants as actions
 use Rattle.gx_desk.specs.declared.Command.{Command}
 use Rattle.gx_ouch.specs.declared.inbound.Inbound.{Inbound}
+use Rattle.gx_soup.specs.Login.{greatest}
 use Rattle.gx_client.specs.Sending.{CarriesCommand, CarriesInbound}
 use Rattle.gx_terminal.specs.declared.wish.Wish.{Wish}
 use Rattle.gx_terminal.specs.Wishes.{command_of, order_of}
@@ -33,6 +36,19 @@ either None None = None
 abbrev pub asked_of : ℕ → Wish → Option Asked
 asked_of number wish =
     either (command_of (record { bytes = serial_of number }) wish) (order_of (record { bytes = serial_of number }) wish)
+
+-- a Kill of the account, under the serial of this number
+abbrev pub kill_of : ℕ → AccountName → Asked
+kill_of number account = asks.Command (record { tag = record { bytes = serial_of number }; action = actions.Kill account })
+
+-- the serial behind this one
+abbrev pub behind : ℕ → ℕ
+behind number = min (number + 1) greatest
+
+-- a Kill of each account, in this order, the first under the serial of this number, and each under the serial behind the one before
+unfoldable pub kills_of : ℕ → List AccountName → List Asked
+kills_of number [] = []
+kills_of number (account ∷ rest) = kill_of number account ∷ kills_of (behind number) rest
 
 -- one packet, in which what was asked is read
 abbrev pub Carries : List ℕ → Asked → Type 0

@@ -1,9 +1,8 @@
 -- What a message of the gate is to who waits for answers.
-use Rattle.std.specs.Prelude.{ℕ, Bool, true, false, not, ◌||◌, if◌then◌else◌, List, [], ◌∷◌, find, filter, take, bytes_eq, Option, Some, None}
+use Rattle.std.specs.Prelude.{ℕ, Bool, false, not, ◌||◌, if◌then◌else◌, List, [], ◌∷◌, find, filter, take, bytes_eq, Option, Some, None}
 use Rattle.std.specs.List.{list_any}
 use Rattle.gx_units.specs.declared.names.Token.{Token}
 use Rattle.gx_units.specs.Names.{same_token}
-use Rattle.gx_desk.specs.declared.Action.{Action}
 use Rattle.gx_desk.specs.declared.Answer.{Answer}
 use Rattle.gx_ouch.specs.declared.inbound.Inbound.{Inbound}
 use Rattle.gx_ouch.specs.declared.inbound.Inbound.TheVariants as inbounds

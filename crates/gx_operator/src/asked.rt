@@ -1,16 +1,16 @@
 //! What is asked of the gate, and what answers it.
 
 ghost use Rattle.std.specs.Prelude.{◌≡◌, IfOk};
-ghost use Rattle.gx_operator.specs.Asking.{Carries, asked_of};
+ghost use Rattle.gx_operator.specs.Asking.{Carries, asked_of, kill_of, kills_of};
 ghost use Rattle.gx_operator.specs.Hearing.{decides, cancels, answers_order, answers};
 
 use crate::serial::serial;
 use gx_client::{command_packet, inbound_packet};
-use gx_desk::{Command, Tag};
+use gx_desk::{Action, Command, Tag};
 use gx_history::report::Message;
 use gx_ouch::{Inbound, Outbound};
 use gx_terminal::Wish;
-use gx_units::{OutOfMemory, Token};
+use gx_units::{AccountName, OutOfMemory, Token};
 use std::alloc::Global;
 
 /// What is asked of the gate.
@@ -20,6 +20,18 @@ pub enum Asked {
     Command(Command),
     /// A message of a trader.
     Order(Inbound),
+}
+
+/// A Kill of the account, under the serial of this number.
+fn kill_of(number: u64, account: AccountName) -> Asked
+    ensures { result ≡ kill_of number account }
+{
+    Asked::Command(Command {
+        tag: Tag {
+            bytes: serial(number),
+        },
+        action: Action::Kill(account),
+    })
 }
 
 /// The command or the order that is wished, under the serial of this number; None where the wish is neither.
@@ -32,6 +44,23 @@ pub(crate) fn asked_of(number: u64, wish: &Wish) -> Option<Asked>
     }
     let order = wish.order(Token { bytes })?;
     Some(Asked::Order(order))
+}
+
+/// A Kill of each account, in this order, under the serials from this number on.
+pub(crate) fn kills_of(
+    alloc: Global,
+    number: u64,
+    accounts: &[AccountName],
+) -> Result<Vec<Asked>, OutOfMemory>
+    ensures { IfOk result (λ kills. kills.items ≡ kills_of number accounts.now) }
+{
+    let mut kills = Vec::new(alloc);
+    let mut next = number;
+    for account in accounts {
+        kills.push(kill_of(next, *account))?;
+        next = next.saturating_add(1);
+    }
+    Ok(kills)
 }
 
 impl Asked {

@@ -5,15 +5,15 @@ ghost use Rattle.std.specs.List.{list_any};
 ghost use Rattle.gx_soup.specs.Login.{greatest};
 ghost use Rattle.gx_history.specs.declared.report.Message.{Message};
 ghost use Rattle.gx_terminal.specs.Statuses.{status_of};
-ghost use Rattle.gx_operator.specs.Asking.{Carries, asked_of, first_of};
+ghost use Rattle.gx_operator.specs.Asking.{Carries, asked_of, behind, first_of, kills_of};
 ghost use Rattle.gx_operator.specs.Hearing.{answers, answered_by, still_waiting, own_answer, shown_line};
 
-use crate::asked::{Asked, answers, asked_of};
+use crate::asked::{Asked, answers, asked_of, kills_of};
 use crate::telling::{is_of_run, shown_answer, shown_copy, shown_order};
 use gx_history::report::Message;
 use gx_lines::Form;
 use gx_terminal::{Status, Wish};
-use gx_units::{Moment, OutOfMemory};
+use gx_units::{AccountName, Moment, OutOfMemory};
 use std::alloc::Global;
 use std::marker::Model;
 
@@ -75,12 +75,19 @@ impl Operator {
         asked_of(self.next, wish)
     }
 
+    /// What `kill --all` asks for: a Kill of each account, in the order of the list, under the next serials.
+    pub fn kills(&self, accounts: &[AccountName]) -> Result<Vec<Asked>, OutOfMemory>
+        ensures { IfOk result (λ kills. kills.items ≡ kills_of self.now.next accounts.now) }
+    {
+        kills_of(self.alloc, self.next, accounts)
+    }
+
     /// The packet that asks this. From now on its answer is waited for, and the next serial is the one behind.
     pub fn ask(&mut self, asked: &Asked) -> Result<Vec<u8>, OutOfMemory>
         ensures carries { IfOk result (λ bytes. Carries bytes.items asked.now) }
         ensures waits { OnOk result (self.new ≡ record self.old {
           waiting = self.old.waiting ++ asked.now ∷ [];
-          next = min (self.old.next + 1) greatest;
+          next = behind self.old.next;
         }) }
         ensures unchanged { OnErr result (self.new ≡ self.old) }
     {

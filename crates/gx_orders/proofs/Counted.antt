@@ -12,8 +12,7 @@ use Rattle.std.proofs.lemmas.Bool.{eqb-true}
 use Rattle.gx_history.specs.declared.live_order.LiveOrder.{LiveOrder}
 use Rattle.gx_orders.specs.LiveOrders.{NumbersRise, changed, has_number, is_of_user, of_others, without}
 use Rattle.gx_orders.specs.Tables.{account_orders_of, counted_of, orders_of, AreCounted, CountsNoMore, CountsOneLess, CountsOneMore}
-use Rattle.gx_orders.proofs.Kept.{behind}
-use Rattle.gx_orders.proofs.Places.{none_taken}
+use Rattle.gx_orders.proofs.Kept.{behind, none_taken}
 
 -- one order more of the user
 pub one_more : (user : UserName) (count : ℕ) (before after : List (UserName × ℕ)) → count ≡ counted_of before user
@@ -192,9 +191,6 @@ counted_ended n o live now before after rise counted found is less user =
         → orders_of user (without n live) + (if b then 1 else 0) ≡ orders_of user live → counted_of after user ≡ orders_of user (without n live)
     by true one was all = omega (arith, one, was, all)
     by false one was all = omega (arith, one, was, all)
-
-pub counted_still : (n : ℕ) (live now : List LiveOrder) (counts : List (UserName × ℕ)) → AreCounted counts live → find (has_number n) live ≡ None → now ≡ without n live → AreCounted counts now
-counted_still n live now counts counted none is user = counted user ∙ ap (orders_of user) (sym (is ∙ none_without n live none))
 
 pub counted_of_others : (account : AccountName) (live now : List LiveOrder) (before after : List (UserName × ℕ)) → AreCounted before live → now ≡ of_others account live → CountsNoMore account live before after
     → AreCounted after now

@@ -1,4 +1,3 @@
-pub mod Places
 pub mod Kept
 pub mod Answering
 pub mod Tying
@@ -11,3 +10,4 @@ pub mod Granted
 pub mod Cutting
 pub mod Matching
 pub mod Telling
+pub mod Turned

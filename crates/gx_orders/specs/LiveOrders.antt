@@ -1,31 +1,19 @@
 -- The live orders, and what becomes of them.
-use Rattle.std.specs.Prelude.{IsTrue, ℕ, ◌+◌, ◌<◌, ◌≤◌, Bool, false, ◌&&◌, ◌==◌, nat_lt, not, List, [], ◌∷◌, map, Option, if◌then◌else◌}
-use Rattle.std.specs.List.{filter, find, list_any, AllByRecursion}
-use Rattle.gx_units.specs.Names.{same_user, same_token, same_account}
-use Rattle.gx_units.specs.declared.names.AccountName.{AccountName}
+use Rattle.std.specs.Prelude.{IsTrue, ℕ, ◌+◌, ◌<◌, ◌≤◌, Bool, false, ◌&&◌, not, List, [], ◌∷◌, map, Option, if◌then◌else◌}
+use Rattle.std.specs.List.{filter, list_any, AllByRecursion}
+use Rattle.gx_units.specs.Names.{same_user, same_token}
 use Rattle.gx_units.specs.declared.names.Token.{Token}
 use Rattle.gx_units.specs.declared.names.UserName.{UserName}
 use Rattle.gx_history.specs.LiveOrders.{is_under, key, token_of}
 use Rattle.gx_policy.specs.Lists.{are_distinct, last_such}
 use Rattle.gx_history.specs.declared.live_order.LiveOrder.{LiveOrder}
 use Rattle.gx_history.specs.declared.live_order.UserToken.{UserToken}
+pub use Rattle.gx_slab.specs.Slabs.{is_open, has_number, order_numbered, first_waiting, open_ones, of_others}
 
 -- the live orders by number, and the used tokens in the order of their first use
 pub record OrdersData : Type 0 where
   pub live : List LiveOrder
   pub used : List UserToken
-
--- some shares may still be executed
-abbrev pub is_open : LiveOrder → Bool
-is_open o = nat_lt o.done o.total
-
--- the order has this number
-abbrev pub has_number : ℕ → LiveOrder → Bool
-has_number number o = o.number == number
-
--- the order of this number
-abbrev pub order_numbered : List LiveOrder → ℕ → Option LiveOrder
-order_numbered live number = find (has_number number) live
 
 -- the order of a user under a token
 abbrev pub order_under : List LiveOrder → UserName → Token → Option LiveOrder
@@ -39,10 +27,6 @@ is_of_user user o = same_user o.user user
 abbrev pub waiting : List LiveOrder → List LiveOrder
 waiting live = filter (λ (o : LiveOrder). o.waits) live
 
--- the first that waits to be matched
-abbrev pub first_waiting : List LiveOrder → Option LiveOrder
-first_waiting live = find (λ (o : LiveOrder). o.waits) live
-
 -- the same user, and the same token
 abbrev pub same_user_token : UserToken → UserToken → Bool
 same_user_token a b = same_user a.user b.user && same_token a.token b.token
@@ -55,17 +39,9 @@ is_used used user token = list_any (same_user_token (key user token)) used
 abbrev pub changed : (LiveOrder → LiveOrder) → ℕ → List LiveOrder → List LiveOrder
 changed change number live = map (λ (o : LiveOrder). if has_number number o then change o else o) live
 
--- those that have shares open, in their places
-abbrev pub open_ones : List LiveOrder → List LiveOrder
-open_ones live = filter is_open live
-
 -- all but the order of this number, in their places
 abbrev pub without : ℕ → List LiveOrder → List LiveOrder
 without number live = filter (λ (o : LiveOrder). not (has_number number o)) live
-
--- the orders of other accounts, in their places
-abbrev pub of_others : AccountName → List LiveOrder → List LiveOrder
-of_others account live = filter (λ (o : LiveOrder). not (same_account account o.account)) live
 
 -- the order stands in the book
 abbrev pub at_rest : LiveOrder → LiveOrder

@@ -1,48 +1,28 @@
 -- How the tables of the live orders hang together.
-use Rattle.std.specs.Prelude.{◌≡◌, ℕ, ◌+◌, ◌-◌, ◌&&◌, List, length, map, Option, Some, unwrap_or, if◌then◌else◌}
+use Rattle.std.specs.Prelude.{◌≡◌, ℕ, ◌+◌, ◌-◌, ◌&&◌, List, length, Option, Some, unwrap_or, if◌then◌else◌}
 use Rattle.std.specs.List.{filter, AllByRecursion}
-use Rattle.std.specs.Map.{keys_of, values_of, lookup, set_value}
-use Rattle.std.specs.BTreeMap.{is_at}
-use Rattle.std.specs.Ordering.{nat_cmp}
+use Rattle.std.specs.Map.{keys_of, lookup}
 use Rattle.gx_units.specs.Names.{same_account, same_user}
 use Rattle.gx_units.specs.declared.names.AccountName.{AccountName}
 use Rattle.gx_units.specs.declared.names.UserName.{UserName}
 use Rattle.gx_history.specs.declared.live_order.LiveOrder.{LiveOrder}
 use Rattle.gx_history.specs.declared.live_order.UserToken.{UserToken}
 use Rattle.gx_history.specs.LiveOrders.{token_of}
-use Rattle.gx_orders.specs.LiveOrders.{OrdersData, NumbersRise, IsOpen, is_of_user, waiting, same_user_token}
-
--- the order under its number
-abbrev pub numbered : LiveOrder → ℕ × LiveOrder
-numbered o = (o.number, o)
-
--- the numbers of the orders
-abbrev pub numbers : List LiveOrder → List ℕ
-numbers live = map (λ (o : LiveOrder). o.number) live
-
--- the entries, the order in the place of the one of its number, if there is one
-abbrev pub written : LiveOrder → List (ℕ × LiveOrder) → List (ℕ × LiveOrder)
-written o entries = set_value (is_at (nat_cmp o.number)) entries o
+use Rattle.gx_orders.specs.LiveOrders.{OrdersData, NumbersRise, IsOpen, is_of_user, same_user_token}
 
 -- what the tables stand for
-abbrev pub shown : List (ℕ × LiveOrder) → List (UserToken × Option ℕ) → OrdersData
-shown by_number tokens = record { live = values_of by_number; used = keys_of tokens }
+abbrev pub shown : List LiveOrder → List (UserToken × Option ℕ) → OrdersData
+shown live tokens = record { live = live; used = keys_of tokens }
 
 -- the order is the one that was entered under its token
 abbrev pub IsIndexed : List (UserToken × Option ℕ) → LiveOrder → Type 0
 IsIndexed tokens o = lookup (same_user_token (token_of o)) tokens ≡ Some (Some o.number)
 
--- the numbers rise, each order has shares open and is found by its token, and the numbers of those that wait are listed
-pub record AreFound (live : List LiveOrder) (listed : List ℕ) (tokens : List (UserToken × Option ℕ)) : Type 0 where
+-- the numbers rise, and each order has shares open and is found by its token
+pub record AreTied (live : List LiveOrder) (tokens : List (UserToken × Option ℕ)) : Type 0 where
   pub rise : NumbersRise live
   pub all_open : AllByRecursion IsOpen live
   pub all_indexed : AllByRecursion (IsIndexed tokens) live
-  pub all_listed : listed ≡ numbers (waiting live)
-
--- each order stands under its number, and all are found
-pub record AreTied (by_number : List (ℕ × LiveOrder)) (listed : List ℕ) (tokens : List (UserToken × Option ℕ)) : Type 0 where
-  pub by_numbers : by_number ≡ map numbered (values_of by_number)
-  pub found : AreFound (values_of by_number) listed tokens
 
 -- how many orders are counted of the user
 abbrev pub counted_of : List (UserName × ℕ) → UserName → ℕ
@@ -73,6 +53,6 @@ abbrev pub CountsNoMore : AccountName → List LiveOrder → (before after : Lis
 CountsNoMore account live before after = (user : UserName) → counted_of after user ≡ counted_of before user - account_orders_of user account live
 
 -- the tables hang together, and each user's orders are counted
-pub record AreHeld (by_number : List (ℕ × LiveOrder)) (listed : List ℕ) (tokens : List (UserToken × Option ℕ)) (counts : List (UserName × ℕ)) : Type 0 where
-  pub tied : AreTied by_number listed tokens
-  pub counted : AreCounted counts (values_of by_number)
+pub record AreHeld (live : List LiveOrder) (tokens : List (UserToken × Option ℕ)) (counts : List (UserName × ℕ)) : Type 0 where
+  pub tied : AreTied live tokens
+  pub counted : AreCounted counts live

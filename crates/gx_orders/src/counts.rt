@@ -1,14 +1,12 @@
 //! How many live orders each user has.
 
 ghost use Rattle.std.specs.Prelude.{◌≡◌, ◌<◌, ◌^◌, IsOk, OnOk};
-ghost use Rattle.std.specs.Map.{values_of};
 ghost use Rattle.indexmap.specs.IndexMap.{spare};
 ghost use Rattle.gx_orders.specs.Tables.{counted_of, CountsNoMore, CountsOneLess, CountsOneMore};
 
-use gx_history::live_order::LiveOrder;
+use gx_slab::table::Table;
 use gx_units::{AccountName, OutOfMemory, UserName};
 use indexmap::IndexMap;
-use std::collections::BTreeMap;
 
 /// How many orders of the user are counted.
 pub(crate) fn count_in(counts: &IndexMap<UserName, usize>, user: UserName) -> usize
@@ -44,13 +42,13 @@ pub(crate) fn count_one_less(counts: &mut IndexMap<UserName, usize>, user: UserN
 /// Counts the orders of the account no more. It takes no memory.
 pub(crate) fn count_no_more(
     counts: &mut IndexMap<UserName, usize>,
-    by_number: &BTreeMap<u64, LiveOrder>,
+    orders: &Table,
     account: AccountName,
 )
-    ensures { CountsNoMore account (values_of by_number.now.entries)
+    ensures { CountsNoMore account orders.now
         counts.old.entries counts.new.entries }
 {
-    for order in by_number.values() {
+    for order in orders.live() {
         if order.is_of_account(account) {
             count_one_less(counts, order.user);
         }

@@ -4,7 +4,6 @@ ghost use Rattle.std.specs.Prelude.{◌≡◌, ◌<◌, length, [], ◌∷◌, �
 ghost use Rattle.std.specs.List.{filter};
 ghost use Rattle.gx_history.specs.LiveOrders.{key, token_of};
 ghost use Rattle.gx_orders.specs.Changes.{IsUnused, marked_by};
-ghost use Rattle.gx_orders.specs.Tables.{written};
 ghost use Rattle.gx_orders.specs.LiveOrders.{AreBelow, AreSound, HasOpen, at_rest, changed, cut_at, filled_at, first_waiting, is_of_user, is_used, of_others, order_numbered, order_under, resized_at, without};
 
 use crate::counts::{count_in, count_no_more, count_one_less, count_one_more};
@@ -13,20 +12,18 @@ use crate::seed::Seed;
 use gx_history::live_order::{LiveOrder, UserToken};
 use gx_history::record::Asked;
 use gx_policy::RuleName;
+use gx_slab::live::LiveOrders;
+use gx_slab::table::Table;
 use gx_units::{AccountName, OutOfMemory, Token, UserName};
 use indexmap::IndexMap;
 use std::alloc::Global;
-use std::collections::btree_map::Values;
-use std::collections::{BTreeMap, BTreeSet};
 use std::marker::Model;
 
 /// The live orders by number, and the tokens that are used. Contracts see the list of the orders and the list of the
 /// tokens. Only `enter` and `deny` take memory.
 #[derive(Drop)]
 pub struct Orders {
-    by_number: BTreeMap<u64, LiveOrder>,
-    /// The numbers of the orders that wait to be matched.
-    waiting: BTreeSet<u64>,
+    table: Table,
     /// Each used token, with the number of the order that was entered under it, if one was.
     tokens: IndexMap<UserToken, Option<u64>, Seed>,
     /// How many live orders each user has; one who never had any has no entry.
@@ -39,20 +36,9 @@ impl Model for Orders {
 
     ghost Value = { OrdersData };
 
-    ghost view = { λ o. shown o.by_number.entries o.tokens.entries };
+    ghost view = { λ o. shown o.table o.tokens.entries };
 
-    ghost invariant = { λ o. AreHeld o.by_number.entries o.waiting.keys o.tokens.entries
-        o.counts.entries };
-}
-
-/// Puts the order in the place of the one of its number, if there is one.
-#[tactic(auto, using(crate::proofs::Places::nothing_written))]
-fn write(by_number: &mut BTreeMap<u64, LiveOrder>, order: LiveOrder)
-    ensures { by_number.new.entries ≡ written order by_number.old.entries }
-{
-    if let Some(place) = by_number.get_mut(&order.number) {
-        *place = order;
-    }
+    ghost invariant = { λ o. AreHeld o.table o.tokens.entries o.counts.entries };
 }
 
 impl Orders {
@@ -62,19 +48,18 @@ impl Orders {
         ensures used { result.used ≡ [] }
     {
         Orders {
-            by_number: BTreeMap::new(alloc),
-            waiting: BTreeSet::new(alloc),
+            table: Table::new(alloc),
             tokens: IndexMap::with_hasher(alloc, seed),
             counts: IndexMap::new(alloc),
         }
     }
 
     /// The live orders, by number: the lowest, which is the oldest, comes first.
-    pub fn live(&self) -> Values<'_, u64, LiveOrder>
+    pub fn live(&self) -> LiveOrders<'_>
         ensures live { result ≡ self.now.live }
         ensures sound { AreSound self.now }
     {
-        self.by_number.values()
+        self.table.live()
     }
 
     /// Whether the user has used the token, so that he can enter no more orders under it.
@@ -90,7 +75,7 @@ impl Orders {
         ensures found { result ≡ order_numbered self.now.live number }
         ensures sound { AreSound self.now }
     {
-        self.by_number.get(&number).copied()
+        self.table.get(number).copied()
     }
 
     /// The user's live order under the token.
@@ -102,9 +87,9 @@ impl Orders {
             .get(&UserToken { user, token })
             .copied()
             .flatten()?;
-        let order = self.numbered(number)?;
+        let order = self.table.get(number)?;
         if order.is_under(user, token) {
-            Some(order)
+            Some(*order)
         } else {
             None
         }
@@ -114,8 +99,7 @@ impl Orders {
     pub fn first_waiting(&self) -> Option<LiveOrder>
         ensures { result ≡ first_waiting self.now.live }
     {
-        let number = self.waiting.first()?;
-        self.by_number.get(number).copied()
+        self.table.first_waiting().copied()
     }
 
     /// How many live orders the user has. It looks at no order.
@@ -140,14 +124,10 @@ impl Orders {
         ensures unchanged { OnErr result (self.new ≡ self.old) }
     {
         // Fewer orders than 2^63: their count can grow by one.
-        let _ = self.by_number.len();
+        let _ = self.table.count();
         self.tokens.reserve(1)?;
         self.counts.reserve(1)?;
-        self.waiting.insert(order.number)?;
-        if let Err(refused) = self.by_number.insert(order.number, order) {
-            self.waiting.remove(&order.number);
-            return Err(OutOfMemory::from(refused));
-        }
+        self.table.push(order)?;
         self.tokens.insert(order.user_token(), Some(order.number))?;
         count_one_more(&mut self.counts, order.user)?;
         Ok(())
@@ -185,36 +165,31 @@ impl Orders {
         ensures live { self.new.live ≡ changed at_rest number self.old.live }
         ensures used { self.new.used ≡ self.old.used }
     {
-        if let Some(order) = self.numbered(number) {
-            write(
-                &mut self.by_number,
-                LiveOrder {
-                    waits: false,
-                    ..order
-                },
-            );
-            self.waiting.remove(&number);
+        if let Some(order) = self.table.get(number) {
+            let rested = LiveOrder {
+                waits: false,
+                ..*order
+            };
+            self.table.write(rested);
         }
     }
 
+    /// Writes the order with this size, and so many shares executed.
     fn resize(&mut self, order: LiveOrder, total: u32, done: u32)
         requires there { order_numbered self.old.live order.number ≡ Some order }
         requires sound { AreSound self.old }
         ensures live { self.new.live ≡ resized_at order.number total done self.old.live }
         ensures used { self.new.used ≡ self.old.used }
     {
+        self.table.write(LiveOrder {
+            total,
+            done,
+            ..order
+        });
         if done < total {
-            write(
-                &mut self.by_number,
-                LiveOrder {
-                    total,
-                    done,
-                    ..order
-                },
-            );
-        } else {
-            self.end(order.number);
+            return;
         }
+        count_one_less(&mut self.counts, order.user);
     }
 
     /// So many shares of the order of this number are executed; it is gone where none is open then. It takes no memory.
@@ -243,11 +218,9 @@ impl Orders {
         ensures live { self.new.live ≡ without number self.old.live }
         ensures used { self.new.used ≡ self.old.used }
     {
-        self.waiting.remove(&number);
-        let Some(order) = self.by_number.remove(&number) else {
-            return;
-        };
-        count_one_less(&mut self.counts, order.user);
+        if let Some(order) = self.numbered(number) {
+            self.resize(order, order.done, order.done);
+        }
     }
 
     /// All orders of the account have ended. It looks at each live order in turn, and takes no memory.
@@ -255,10 +228,8 @@ impl Orders {
         ensures live { self.new.live ≡ of_others account self.old.live }
         ensures used { self.new.used ≡ self.old.used }
     {
-        count_no_more(&mut self.counts, &self.by_number, account);
-        self.by_number.retain(|_, order| account != order.account);
-        let by_number = &self.by_number;
-        self.waiting.retain(|number| by_number.contains_key(number));
+        count_no_more(&mut self.counts, &self.table, account);
+        self.table.end_account(account);
     }
 
     /// All orders have ended. It takes no memory.
@@ -266,8 +237,7 @@ impl Orders {
         ensures live { self.new.live ≡ [] }
         ensures used { self.new.used ≡ self.old.used }
     {
-        self.by_number.clear();
-        self.waiting.clear();
+        self.table.end_all();
         self.counts.clear();
     }
 

@@ -1,7 +1,6 @@
 -- What a request's record tells, and what is kept for users behind it.
 use Rattle.std.proofs.Common.{◌≡◌, ℕ, ◌+◌, ◌≤◌, arith, true, false, not, Bool, List, [], ◌∷◌, ◌++◌, length, length-append, refl, ◌∙◌, ap, sym, cond, map, subst}
-use Rattle.std.specs.Prelude.{Option, Some, None, is_some, find, option_to_list, option_and_then, option_map, ◌&&◌, ◌-◌, ◌==◌}
-use Rattle.std.specs.Option.{option_map_or}
+use Rattle.std.specs.Prelude.{Option, Some, None, is_some, option_to_list, ◌&&◌, ◌-◌, ◌==◌}
 use Rattle.std.specs.List.{filter, flat_map}
 use Rattle.std.proofs.lemmas.List.{append-nil, append_cancel_left, length-map}
 use Rattle.gx_units.specs.Names.{same_token, same_user}
@@ -15,7 +14,6 @@ use Rattle.gx_desk.specs.declared.Action.{Action}
 use Rattle.gx_desk.specs.declared.Action.TheVariants as actions
 use Rattle.gx_desk.specs.declared.AnswerCode.{AnswerCode}
 use Rattle.gx_desk.specs.declared.Command.{Command}
-use Rattle.gx_policy.specs.declared.policy.Account.{Account}
 use Rattle.gx_policy.specs.declared.policy.PolicyData.{PolicyData}
 use Rattle.gx_policy.specs.declared.policy.User.{User}
 use Rattle.gx_history.specs.declared.record.Asked.{Asked}
@@ -38,7 +36,7 @@ use Rattle.gx_history.specs.Reasons.{denial_code}
 use Rattle.gx_history.specs.Requests.{is_judged, is_unreadable}
 use Rattle.gx_history.specs.Streams.{accepted, answer, canceled, granted_code, day_end, ended, rejected, replaced, reported, reports_of, reports_of_denial, stream, to_user}
 use Rattle.gx_history.specs.Verdicts.{IsLegal, next}
-use Rattle.gx_history_laws.proofs.Adding.{found_passes, user_is, user_is_itself}
+use Rattle.gx_history_laws.proofs.Adding.{found_passes, user_is}
 use Rattle.gx_history_laws.proofs.Granting.{asked_is_judged}
 use Rattle.gx_history_laws.proofs.Judging.{both}
 use Rattle.gx_history_laws.proofs.NextReports.{stream_next}
@@ -54,11 +52,12 @@ use Rattle.gx_effects.proofs.Replacing.{replace_takes_effect}
 use Rattle.gx_effects.proofs.Rests.{rest_takes_effect}
 use Rattle.gx_effects.proofs.Settling.{not_judged}
 use Rattle.gx_effects.proofs.Taking.{takes_effect}
+use Rattle.gx_effects.proofs.Moving.{unreadable_is_denied}
 use Rattle.gx_day.proofs.Answering.{unknown_on_no_line}
-use Rattle.gx_places.specs.Places.{concerns_many, enough_places, has_kept_places, is_alive, is_of_user, is_on, kills_left, most_kills, most_record_places, orders_held, record_places, report_places}
+use Rattle.gx_places.specs.Places.{concerns_many, enough_places, has_kept_places, is_alive, is_of_user, is_on, kills_left, most_record_places, orders_held, record_places, report_places}
 use Rattle.gx_places.proofs.Counting.{fewer_left, fewer_open, fewer_pass, most_pass, one_less_passes, one_more_last}
 use Rattle.gx_places.proofs.Held.{held_and_ended}
-use Rattle.gx_places.proofs.Kills.{Kills, StayKilled, command_lifts_none, fewer_alive, fewer_kills_left, kill_finds, lifts, no_more_kills, none_lifted, one_kill_less, one_less_alive, unreadable_is_denied, was_on}
+use Rattle.gx_places.proofs.Kills.{Kills, StayKilled, command_lifts_none, fewer_alive, fewer_kills_left, kill_finds, lifts, no_more_kills, none_lifted, one_kill_less, one_less_alive, was_on}
 
 -- so many reports are told where these messages are
 told_so : (policy : PolicyData) (history : List RecordData) (r : RecordData) (user : UserName) (told : List Message)

@@ -1,10 +1,9 @@
 -- How many of a list pass a test.
-use Rattle.std.proofs.Common.{◌≡◌, ℕ, ◌+◌, ◌≤◌, arith, true, false, not, Bool, List, [], ◌∷◌, ◌++◌, length, suc, refl, ◌∙◌, ap, sym, cond, map}
-use Rattle.std.specs.Prelude.{Option, Some, None, find, ◌&&◌}
+use Rattle.std.proofs.Common.{◌≡◌, ℕ, ◌+◌, ◌≤◌, arith, true, false, not, Bool, List, [], ◌∷◌, ◌++◌, length, refl, ◌∙◌, sym, cond, map}
+use Rattle.std.specs.Prelude.{Some, find, ◌&&◌}
 use Rattle.std.specs.List.{filter}
 use Rattle.gx_history.specs.Effects.{still_open, with_open}
 use Rattle.gx_history.specs.Executions.{Standing, is_live}
-use Rattle.gx_history_laws.proofs.Order.{some_same}
 use Rattle.gx_places.specs.Places.{is_of_user}
 use Rattle.gx_units.specs.declared.names.UserName.{UserName}
 use Rattle.gx_units.specs.Names.{same_user}

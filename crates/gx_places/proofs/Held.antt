@@ -1,5 +1,5 @@
 -- How many live orders a user has after a command.
-use Rattle.std.proofs.Common.{◌≡◌, ℕ, ◌+◌, arith, not, List, [], ◌∷◌, ◌++◌, length, refl, ◌∙◌, ap}
+use Rattle.std.proofs.Common.{◌≡◌, ◌+◌, arith, not, List, [], ◌∷◌, ◌++◌, length, refl, ◌∙◌, ap}
 use Rattle.std.specs.Prelude.{Some, ◌&&◌}
 use Rattle.std.specs.List.{filter, flat_map}
 use Rattle.gx_units.specs.Names.{same_user}
@@ -9,8 +9,6 @@ use Rattle.gx_desk.specs.declared.Action.{Action}
 use Rattle.gx_policy.specs.declared.policy.PolicyData.{PolicyData}
 use Rattle.gx_history.specs.declared.record.Asked.{Asked}
 use Rattle.gx_history.specs.declared.record.RecordData.{RecordData}
-use Rattle.gx_history.specs.declared.record.Request.{Request}
-use Rattle.gx_history.specs.declared.record.Request.TheVariants as requests
 use Rattle.gx_history.specs.declared.record.Step.{Step}
 use Rattle.gx_history.specs.declared.record.Step.TheVariants as steps
 use Rattle.gx_history.specs.declared.record.Verdict.{Verdict}

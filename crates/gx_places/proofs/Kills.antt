@@ -1,9 +1,9 @@
 -- Which accounts may still be killed, and who is logged in, after one more record.
 use Rattle.std.proofs.Common.{◌≡◌, ℕ, ◌+◌, ◌≤◌, arith, true, false, not, Bool, List, [], ◌∷◌, ◌++◌, length, refl, ◌∙◌, ap, sym, cond, drop}
-use Rattle.std.specs.Prelude.{Option, Some, None, is_some, unwrap_or, find, ◌&&◌}
+use Rattle.std.specs.Prelude.{Option, Some, None, is_some, ◌&&◌}
 use Rattle.std.proofs.lemmas.Bool.{not-false}
 use Rattle.std.specs.List.{filter}
-use Rattle.gx_units.specs.Names.{same_account, same_user}
+use Rattle.gx_units.specs.Names.{same_account}
 use Rattle.gx_units.specs.declared.names.AccountName.{AccountName}
 use Rattle.gx_units.specs.declared.names.UserName.{UserName}
 use Rattle.gx_desk.specs.declared.Action.{Action}
@@ -12,31 +12,29 @@ use Rattle.gx_policy.specs.declared.policy.Account.{Account}
 use Rattle.gx_policy.specs.declared.policy.PolicyData.{PolicyData}
 use Rattle.gx_policy.specs.declared.policy.Role.{Role}
 use Rattle.gx_policy.specs.declared.policy.Role.TheVariants as roles
-use Rattle.gx_policy.specs.declared.policy.User.{User}
 use Rattle.gx_history.specs.declared.record.Asked.{Asked}
 use Rattle.gx_history.specs.declared.record.RecordData.{RecordData}
 use Rattle.gx_history.specs.declared.record.Request.{Request}
 use Rattle.gx_history.specs.declared.record.Request.TheVariants as requests
 use Rattle.gx_policy.specs.declared.rule_name.RuleName.{RuleName}
-use Rattle.gx_policy.specs.declared.rule_name.RuleName.TheVariants.{L1, L2, L3, G1, G2, G3, Q1, Q2, Q3, Q4}
+use Rattle.gx_policy.specs.declared.rule_name.RuleName.TheVariants.{L1, L2, L3, G1, Q1, Q2, Q3, Q4}
 use Rattle.gx_history.specs.declared.record.Step.TheVariants as steps
 use Rattle.gx_history.specs.declared.record.Verdict.TheVariants as verdicts
-use Rattle.gx_history.specs.Asking.{are_his, changes, facts, has_power, is_on_line, knows_names, of_command}
+use Rattle.gx_history.specs.Asking.{are_his, changes, facts, has_power, is_on_line, of_command}
 use Rattle.gx_history.specs.InForce.{is_untouched, kill_after, kill_in_force, kill_or_lift_of, line_of}
 use Rattle.gx_policy.specs.Lists.{where_true}
-use Rattle.gx_policy.specs.People.{account_named, covers, is_officer, role_in, user_in}
-use Rattle.gx_history.specs.Requests.{is_command, is_unreadable}
+use Rattle.gx_policy.specs.People.{account_named, covers, is_officer, role_in}
+use Rattle.gx_history.specs.Requests.{is_command}
 use Rattle.gx_policy.specs.RuleNames.{rules_before, rules_behind}
 use Rattle.gx_history.specs.Rules.{forbids}
 use Rattle.gx_history.specs.Verdicts.{facts_now, next, rules_now}
-use Rattle.gx_history_laws.proofs.Adding.{user_is, user_is_itself}
 use Rattle.gx_history_laws.proofs.Granting.{granted_passes, granted_passes_before, none_behind}
 use Rattle.gx_history_laws.proofs.Names.{account_is, account_is_itself}
 use Rattle.gx_history_laws.proofs.KillsNext.{kill_in_force_next}
 use Rattle.gx_history_laws.proofs.Order.{none_among}
 use Rattle.gx_effects.proofs.Allowed.{has_the_accounts, has_the_power, names_are_known}
 use Rattle.gx_effects.proofs.Commanding.{GrantsCommand, mark_granted}
-use Rattle.gx_places.specs.Places.{is_alive, is_whole, is_left_to, is_on, kills_left, may_kill, most_kills}
+use Rattle.gx_places.specs.Places.{is_alive, is_whole, is_left_to, kills_left, may_kill, most_kills}
 use Rattle.gx_places.proofs.Counting.{fewer_pass, most_pass, one_less_passes}
 
 -- each account that was killed with nobody having lifted it is so still
@@ -200,15 +198,6 @@ no_more_kills policy history user = by (is_officer (role_in policy.users user)) 
     by : (b : Bool) → is_officer (role_in policy.users user) ≡ b → kills_left policy history user ≤ cond b (length policy.accounts) 0
     by true is = most_pass (is_left_to policy history user) policy.accounts
     by false is = none (role_in policy.users user) is policy.accounts
-
--- what is unreadable is denied
-pub unreadable_is_denied : (policy : PolicyData) (history : List RecordData) (a : Asked) (r : RecordData)
-    → next policy history (steps.Asked a) ≡ Some r → r.verdict ≡ verdicts.Granted → is_unreadable a.request ≡ false
-unfolding rules_before
-unreadable_is_denied policy history a r left granted =
-    none_among (λ (name : RuleName). forbids name (facts_now policy history a) a.request)
-    (L1 ∷ L2 ∷ L3 ∷ G1 ∷ G2 ∷ []) G3 (drop 6 rules_before)
-    (granted_passes_before policy history a r left granted)
 
 -- ---- who is logged in
 

@@ -4,7 +4,6 @@ use Rattle.std.specs.List.{filter}
 use Rattle.gx_units.specs.Names.{same_user}
 use Rattle.gx_units.specs.declared.names.AccountName.{AccountName}
 use Rattle.gx_units.specs.declared.names.UserName.{UserName}
-use Rattle.gx_desk.specs.declared.Action.{Action}
 use Rattle.gx_desk.specs.declared.Action.TheVariants as actions
 use Rattle.gx_policy.specs.declared.policy.Account.{Account}
 use Rattle.gx_policy.specs.declared.policy.PolicyData.{PolicyData}

@@ -18,7 +18,7 @@ fn lists_stock(stocks: &[Symbol], stock: Symbol) -> bool
 }
 
 /// Whether the price is more than `limit` ten-thousandths of the reference away from it.
-fn is_outside_collar(limit: u64, reference: u32, price: u32) -> bool
+pub fn is_outside_collar(limit: u64, reference: u32, price: u32) -> bool
     ensures { result ≡ is_outside_collar limit reference price }
 {
     let scaled = u128::from(price) * 10_000;
@@ -29,7 +29,7 @@ fn is_outside_collar(limit: u64, reference: u32, price: u32) -> bool
 
 /// Whether live, done and new together, without what is replaced, pass the limit: right for any figures, as the
 /// replaced part is taken out before anything is added.
-fn is_above(live: u128, done: u128, new: u128, replaced: u128, limit: u64) -> bool
+pub fn is_above(live: u128, done: u128, new: u128, replaced: u128, limit: u64) -> bool
     ensures { result ≡ nat_lt limit (live + done + new - replaced) }
 {
     let live_left = live.saturating_sub(replaced);
@@ -48,7 +48,7 @@ fn is_above(live: u128, done: u128, new: u128, replaced: u128, limit: u64) -> bo
 
 /// Whether what was executed on the side, less what was on the other, with live and new and without
 /// what is replaced, passes the limit: right for any figures.
-fn is_net_above(net: i128, live: u128, new: u128, replaced: u128, limit: u64) -> bool
+pub fn is_net_above(net: i128, live: u128, new: u128, replaced: u128, limit: u64) -> bool
     ensures { result ≡ int_lt (pos limit) (net +ℤ pos live +ℤ pos new -ℤ pos replaced) }
 {
     let done = net.unsigned_abs();
@@ -62,13 +62,14 @@ fn is_net_above(net: i128, live: u128, new: u128, replaced: u128, limit: u64) ->
 }
 
 /// The shares that the order would have open: what it asks for, less what its chain has executed.
-fn new_open(w: &ProposedOrder) -> u32
+pub fn new_open(w: &ProposedOrder) -> u32
     ensures { result ≡ new_open w.now }
 {
     w.shares.saturating_sub(w.done)
 }
 
 /// Whether a rule of this kind forbids the order, with the figures that the kind asks for.
+#[inline(always)]
 pub fn is_forbidden_by_kind(kind: &RuleKind, figures: &RuleFigures, w: &ProposedOrder) -> bool
     ensures { result ≡ kind_forbids kind.now figures.now w.now }
 {

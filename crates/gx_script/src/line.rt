@@ -7,7 +7,7 @@ ghost use Rattle.gx_history.specs.Showing.{has_its_first};
 ghost use Rattle.gx_script.specs.Words.{Takes, alone, is_done, name_of, user_of, number_of, byte_of, bytes_of, itself};
 ghost use Rattle.gx_script.specs.ScriptLines.{login_form, plain_order, enter_form, replace_form, cancel_form, account_form, limit_form, stock_form, reader_form, close_form, command_form, raw_form, step_form, asked_line, step_line, stream_line, line_of_words, without_cr, is_too_long, is_skipped, line_of, IsAskable, IsAskableLine};
 
-use crate::words::{Words, byte, name, number32, number64};
+use crate::words::{Words, byte, name, number64};
 use crate::wrong::{Wanted, Wrong};
 use gx_desk::{Action, Command, Tag, WrittenName};
 use gx_history::record::Request;
@@ -69,8 +69,8 @@ fn take_word<'a>(words: &mut Words<'a>, wants: Wanted) -> Result<&'a [u8], Wrong
 fn take_name<const N: usize>(words: &mut Words, wants: Wanted) -> Result<[u8; N], Wrong>
     ensures { Takes (name_of N) words.old words.new result }
 {
-    let word = take_word(words, wants)?;
-    wanted(words, name(word), wants)
+    let found = words.name();
+    wanted(words, found, wants)
 }
 
 /// The user of this name, in upper case.
@@ -91,15 +91,15 @@ fn take_user(words: &mut Words) -> Result<UserName, Wrong>
 fn take_number64(words: &mut Words, wants: Wanted) -> Result<u64, Wrong>
     ensures { Takes (number_of 64) words.old words.new result }
 {
-    let word = take_word(words, wants)?;
-    wanted(words, number64(word), wants)
+    let found = words.number64();
+    wanted(words, found, wants)
 }
 
 fn take_number32(words: &mut Words, wants: Wanted) -> Result<u32, Wrong>
     ensures { Takes (number_of 32) words.old words.new result }
 {
-    let word = take_word(words, wants)?;
-    wanted(words, number32(word), wants)
+    let found = words.number32();
+    wanted(words, found, wants)
 }
 
 fn take_byte(words: &mut Words, wants: Wanted) -> Result<u8, Wrong>

@@ -28,6 +28,10 @@ pub on_ok : {T E : Type 0} (r : Result T E) (A B : Type 0) → (A → B) → OnO
 on_ok (Ok x) A B f a = f a
 on_ok (Err e) A B f a = tt
 
+pub on_ok2 : {T E : Type 0} (r : Result T E) (A B C : Type 0) → (A → B → C) → OnOk r A → OnOk r B → OnOk r C
+on_ok2 (Ok x) A B C f a b = f a b
+on_ok2 (Err e) A B C f a b = tt
+
 pub on_ok3 : {T E : Type 0} (r : Result T E) (A B C D : Type 0) → (A → B → C → D) → OnOk r A → OnOk r B → OnOk r C → OnOk r D
 on_ok3 (Ok x) A B C D f a b c = f a b c
 on_ok3 (Err e) A B C D f a b c = tt

@@ -2,12 +2,13 @@
 use Rattle.std.proofs.Common.{◌≡◌, ℕ, suc, ◌+◌, ◌-◌, length, take, drop, get_or, arith, Bool, true, false, ◌&&◌, not, cond, eqb, ltb, Some, None, List, [], ◌∷◌, ◌++◌, refl, sym, ap, ◌∙◌, subst, append_assoc, append-nil}
 use Rattle.std.specs.Prelude.{fold, Option, position, IfNone}
 use Rattle.std.specs.List.{flat_map, position_or_len}
-use Rattle.std.proofs.lemmas.Bool.{eqb-true, ltb-true, ltb-false, and_parts, and_from}
+use Rattle.std.proofs.lemmas.Bool.{eqb-true, false_from_ne_true, le-ltb, lt-ltb, ltb-true, ltb-false, and_parts, and_from}
 use Rattle.std.proofs.lemmas.List.{take_all, take_rest}
-use Rattle.std.proofs.lemmas.List.Sums.{split_at_first, passes_at_first}
+use Rattle.std.proofs.lemmas.List.Sums.{position_or_len_is, split_at_first, passes_at_first}
 use Rattle.std.proofs.lemmas.Option.{cond_some}
 use Rattle.std.proofs.lemmas.Grind.{flat_map-append}
 use Rattle.std.proofs.lemmas.List.Folds.{list_all-append}
+use Rattle.memchr.specs.Find.{IsFirstByte, is_byte}
 use Rattle.gx_scripting.specs.Scripting.{Cut, on_byte, cut_of}
 use Rattle.gx_scripting.specs.ScriptTexts.{ended, has_no_end, is_end, joined, are_lines}
 
@@ -92,3 +93,16 @@ no_end_found text e =
 pub where_none : {T : Type 0} (r : Option T) (A : Type 0) → A → IfNone r A
 where_none (Some x) A a = tt
 where_none None A a = a
+
+-- the first LF stands at its position
+pub first_place : (text : List ℕ) (found : Option ℕ) → IsFirstByte (is_byte 10) text found → found ≡ position is_end text
+first_place text None none =
+    let all : position_or_len is_end text ≡ length text =
+    position_or_len_is is_end text (length text) 0 (omega arith) (λ k within. false_from_ne_true (is_end (get_or text k 0)) (none k (omega arith) within)) (λ past. absurd (omega (arith, past)))
+    in
+    sym (ap (λ b. cond b (Some (position_or_len is_end text)) None) (le-ltb _ _ (omega (arith, all))))
+first_place text (Some i) first =
+    let place : position_or_len is_end text ≡ i =
+    position_or_len_is is_end text i 0 (omega (arith, first.0.high)) (λ k before. false_from_ne_true (is_end (get_or text k 0)) (first.0.before k (omega arith) before)) (λ within. first.1)
+    in
+    sym (ap (λ b. cond b (Some (position_or_len is_end text)) None) (lt-ltb _ _ (omega (arith, place, first.0.high))) ∙ ap Some place)

@@ -15,22 +15,62 @@ use gx_answers::AccessGate;
 use gx_devices::{Counted, write_whole};
 use gx_script::{Wanted, Wrong};
 use gx_units::OutOfMemory;
+use memchr::memchr;
 use std::alloc::Global;
 use std::io::{Read, Write};
 
 /// The most bytes of a line that may still be no longer than it may be: 1,024 and a CR.
 const LONGEST: usize = 1025;
 
-/// What is held back between two pieces: the bytes of the line that has not ended, and how many lines have.
+/// What was done: how many lines have ended, and what the last of them says.
 #[derive(Drop)]
-struct Held {
-    rest: Vec<u8>,
+struct Progress {
     lines: u64,
     /// What the last line that was done prints.
     text: Vec<u8>,
     /// What is wrong with the bad line, once there is one.
     wrong: Option<Wrong>,
+}
+
+/// What is held back between two pieces: the bytes of the line that has not ended, and what was done.
+#[derive(Drop)]
+struct Held {
+    rest: Vec<u8>,
+    progress: Progress,
     ghost one_line: { length rest.items ≤ 1026 },
+}
+
+/// Does a line, and writes what it prints.
+fn do_line<G: AccessGate, W: Write>(
+    gate: &mut G,
+    line: &[u8],
+    progress: &mut Progress,
+    writer: &mut Counted<W>,
+) -> Result<(), ScriptFault>
+    requires writer { writer.old.failed < 2 ^ 64 - 1 }
+    requires room { progress.old.lines < 2 ^ 64 - 1 }
+    ensures ok { OnOk result (EndsLine (G.seen gate.old) line.now (G.seen gate.new)
+        (W.contents writer.old.device) (W.contents writer.new.device)) }
+    ensures counted { OnOk result (progress.new.lines ≡ progress.old.lines + 1) }
+    ensures kept { OnOk result (writer.new.failed ≡ writer.old.failed) }
+    ensures err { IfErr result
+        (StopsAtLine (G.seen gate.old) line.now progress.old.lines (G.seen gate.new)
+        (W.contents writer.old.device) (W.contents writer.new.device)) }
+    ensures told { IfErr result (IsBlamedRightly 0 0 writer.old.failed writer.new.failed) }
+{
+    progress.text.clear();
+    match take_line(gate, line, &mut progress.text) {
+        Ok(()) => {
+            write_whole(writer, progress.text.as_slice())?;
+            progress.lines += 1;
+            Ok(())
+        }
+        Err(LineFault::Bad(wrong)) => {
+            progress.wrong = Some(wrong);
+            Err(ScriptFault::BadLine(progress.lines + 1))
+        }
+        Err(LineFault::OutOfMemory) => Err(ScriptFault::OutOfMemory),
+    }
 }
 
 /// Does the line that is held back, and writes what it prints.
@@ -40,38 +80,27 @@ fn end_line<G: AccessGate, W: Write>(
     writer: &mut Counted<W>,
 ) -> Result<(), ScriptFault>
     requires writer { writer.old.failed < 2 ^ 64 - 1 }
-    requires room { held.old.lines < 2 ^ 64 - 1 }
+    requires room { held.old.progress.lines < 2 ^ 64 - 1 }
     ensures ok { OnOk result (EndsLine (G.seen gate.old) held.old.rest.items (G.seen gate.new)
         (W.contents writer.old.device) (W.contents writer.new.device)) }
     ensures cleared { OnOk result (held.new.rest.items ≡ []) }
-    ensures counted { OnOk result (held.new.lines ≡ held.old.lines + 1) }
+    ensures counted { OnOk result (held.new.progress.lines ≡ held.old.progress.lines + 1) }
     ensures kept { OnOk result (writer.new.failed ≡ writer.old.failed) }
     ensures err { IfErr result
-        (StopsAtLine (G.seen gate.old) held.old.rest.items held.old.lines (G.seen gate.new)
-        (W.contents writer.old.device) (W.contents writer.new.device)) }
+        (StopsAtLine (G.seen gate.old) held.old.rest.items held.old.progress.lines
+        (G.seen gate.new) (W.contents writer.old.device) (W.contents writer.new.device)) }
     ensures told { IfErr result (IsBlamedRightly 0 0 writer.old.failed writer.new.failed) }
 {
-    held.text.clear();
-    match take_line(gate, held.rest.as_slice(), &mut held.text) {
-        Ok(()) => {
-            write_whole(writer, held.text.as_slice())?;
-            held.rest.clear();
-            held.lines += 1;
-            Ok(())
-        }
-        Err(LineFault::Bad(wrong)) => {
-            held.wrong = Some(wrong);
-            Err(ScriptFault::BadLine(held.lines + 1))
-        }
-        Err(LineFault::OutOfMemory) => Err(ScriptFault::OutOfMemory),
-    }
+    do_line(gate, held.rest.as_slice(), &mut held.progress, writer)?;
+    held.rest.clear();
+    Ok(())
 }
 
 /// Puts the bytes at the end of what is held back.
 fn hold(held: &mut Held, front: &[u8]) -> Result<(), OutOfMemory>
     requires { length held.old.rest.items + length front.now ≤ 1025 }
     ensures rest { OnOk result (held.new.rest.items ≡ held.old.rest.items ++ front.now) }
-    ensures lines { OnOk result (held.new.lines ≡ held.old.lines) }
+    ensures lines { OnOk result (held.new.progress.lines ≡ held.old.progress.lines) }
 {
     held.rest.extend_from_slice(front)?;
     Ok(())
@@ -81,28 +110,29 @@ fn hold(held: &mut Held, front: &[u8]) -> Result<(), OutOfMemory>
 /// end is there.
 fn take_front(held: &mut Held, front: &[u8]) -> Result<(), ScriptFault>
     requires no_end { IsTrue (has_no_end front.now) }
-    requires room { held.old.lines < 2 ^ 64 - 1 }
+    requires room { held.old.progress.lines < 2 ^ 64 - 1 }
     ensures ok { OnOk result (
         (before gate : GateData) (bytes : List ℕ) (output : Option (List ℕ))
-        → IsSoFar before bytes gate held.old.rest.items held.old.lines
-        → TakesPiece before bytes front.now gate held.new.rest.items held.new.lines
+        → IsSoFar before bytes gate held.old.rest.items held.old.progress.lines
+        → TakesPiece before bytes front.now gate held.new.rest.items held.new.progress.lines
         output output) }
-    ensures lines { OnOk result (held.new.lines ≡ held.old.lines) }
+    ensures lines { OnOk result (held.new.progress.lines ≡ held.old.progress.lines) }
     ensures err { IfErr result (λ e.
         (before gate : GateData) (bytes tail : List ℕ) (output : Option (List ℕ))
-        → IsSoFar before bytes gate held.old.rest.items held.old.lines
+        → IsSoFar before bytes gate held.old.rest.items held.old.progress.lines
         → StopsInPiece before bytes (front.now ++ tail) gate output output e) }
     ensures told { IfErr result (λ e. (writes : ℕ) → IsBlamedRightly 0 0 writes writes e) }
 {
     if held.rest.len() + front.len() > LONGEST {
-        held.wrong = Some(Wrong::new(1, Wanted::Shorter));
-        return Err(ScriptFault::BadLine(held.lines + 1));
+        held.progress.wrong = Some(Wrong::new(1, Wanted::Shorter));
+        return Err(ScriptFault::BadLine(held.progress.lines + 1));
     }
     hold(held, front)?;
     Ok(())
 }
 
-/// Takes the rest of a line, and its end: does the line, and writes what it prints.
+/// Takes the rest of a line, and its end: does the line, and writes what it prints. A line that lies whole in the piece
+/// is read where it lies.
 fn take_ended<G: AccessGate, W: Write>(
     gate: &mut G,
     held: &mut Held,
@@ -111,29 +141,33 @@ fn take_ended<G: AccessGate, W: Write>(
 ) -> Result<(), ScriptFault>
     requires no_end { IsTrue (has_no_end front.now) }
     requires writer { writer.old.failed < 2 ^ 64 - 1 }
-    requires room { held.old.lines < 2 ^ 64 - 1 }
+    requires room { held.old.progress.lines < 2 ^ 64 - 1 }
     ensures ok { OnOk result ((before : GateData) (bytes : List ℕ)
-        → IsSoFar before bytes (G.seen gate.old) held.old.rest.items held.old.lines
+        → IsSoFar before bytes (G.seen gate.old) held.old.rest.items held.old.progress.lines
         → TakesPiece before bytes (ended front.now)
-        (G.seen gate.new) held.new.rest.items held.new.lines
+        (G.seen gate.new) held.new.rest.items held.new.progress.lines
         (W.contents writer.old.device) (W.contents writer.new.device)) }
-    ensures counted { OnOk result (held.new.lines ≡ held.old.lines + 1) }
+    ensures counted { OnOk result (held.new.progress.lines ≡ held.old.progress.lines + 1) }
     ensures kept { OnOk result (writer.new.failed ≡ writer.old.failed) }
     ensures err { IfErr result (λ e. (before : GateData) (bytes tail : List ℕ)
-        → IsSoFar before bytes (G.seen gate.old) held.old.rest.items held.old.lines
+        → IsSoFar before bytes (G.seen gate.old) held.old.rest.items held.old.progress.lines
         → StopsInPiece before bytes (ended front.now ++ tail) (G.seen gate.new)
         (W.contents writer.old.device) (W.contents writer.new.device) e) }
     ensures told { IfErr result (IsBlamedRightly 0 0 writer.old.failed writer.new.failed) }
 {
+    if held.rest.as_slice().is_empty() {
+        return do_line(gate, front, &mut held.progress, writer);
+    }
     take_front(held, front)?;
     end_line(gate, held, writer)
 }
 
 /// Where the first LF stands.
+#[tactic(auto, using(crate::proofs::Texts::first_place))]
 fn end_of_line(text: &[u8]) -> Option<usize>
     ensures { result ≡ position is_end text.now }
 {
-    text.iter().position(|byte| *byte == b'\n')
+    memchr(b'\n', text)
 }
 
 /// The first line of a text without its LF, and what stands behind that; `None` where no LF stands in it.
@@ -155,15 +189,15 @@ fn take_piece<G: AccessGate, W: Write>(
     piece: &[u8],
 ) -> Result<(), ScriptFault>
     requires writer { writer.old.failed < 2 ^ 64 - 1 }
-    requires room { held.old.lines + length piece.now < 2 ^ 64 - 1 }
+    requires room { held.old.progress.lines + length piece.now < 2 ^ 64 - 1 }
     ensures ok { OnOk result ((before : GateData) (bytes : List ℕ)
-        → IsSoFar before bytes (G.seen gate.old) held.old.rest.items held.old.lines
-        → TakesPiece before bytes piece.now (G.seen gate.new) held.new.rest.items held.new.lines
+        → IsSoFar before bytes (G.seen gate.old) held.old.rest.items held.old.progress.lines
+        → TakesPiece before bytes piece.now (G.seen gate.new) held.new.rest.items held.new.progress.lines
         (W.contents writer.old.device) (W.contents writer.new.device)) }
-    ensures counted { OnOk result (held.new.lines ≤ held.old.lines + length piece.now) }
+    ensures counted { OnOk result (held.new.progress.lines ≤ held.old.progress.lines + length piece.now) }
     ensures kept { OnOk result (writer.new.failed ≡ writer.old.failed) }
     ensures err { IfErr result (λ e. (before : GateData) (bytes : List ℕ)
-        → IsSoFar before bytes (G.seen gate.old) held.old.rest.items held.old.lines
+        → IsSoFar before bytes (G.seen gate.old) held.old.rest.items held.old.progress.lines
         → StopsInPiece before bytes piece.now (G.seen gate.new)
         (W.contents writer.old.device) (W.contents writer.new.device) e) }
     ensures told { IfErr result (IsBlamedRightly 0 0 writer.old.failed writer.new.failed) }
@@ -185,7 +219,7 @@ fn follow<G: AccessGate, R: Read, W: Write>(
     writer: &mut Counted<W>,
 ) -> Result<(), ScriptFault>
     requires nothing { held.old.rest.items ≡ [] }
-    requires no_line { held.old.lines ≡ 0 }
+    requires no_line { held.old.progress.lines ≡ 0 }
     requires reader { reader.old.failed < 2 ^ 64 - 1 }
     requires writer { writer.old.failed < 2 ^ 64 - 1 }
     ensures script { OnOk result (IsScript
@@ -224,13 +258,15 @@ fn follow<G: AccessGate, R: Read, W: Write>(
 impl Held {
     fn new(alloc: Global) -> Held
         ensures nothing { result.rest.items ≡ [] }
-        ensures no_line { result.lines ≡ 0 }
+        ensures no_line { result.progress.lines ≡ 0 }
     {
         Held {
             rest: Vec::new(alloc),
-            lines: 0,
-            text: Vec::new(alloc),
-            wrong: None,
+            progress: Progress {
+                lines: 0,
+                text: Vec::new(alloc),
+                wrong: None,
+            },
         }
     }
 }
@@ -285,7 +321,7 @@ pub fn run_script<G: AccessGate, R: Read, W: Write>(
         Ok(()) => Ok(()),
         Err(fault) => Err(Explained {
             fault,
-            wrong: held.wrong,
+            wrong: held.progress.wrong,
         }),
     }
 }

@@ -29,8 +29,22 @@ use gx_pass::{Blank, GateName, PassFault};
 use gx_policy::Policy;
 use gx_units::{Moment, OutOfMemory, Password, SessionName, UserName};
 use std::alloc::Global;
+use std::hint::spin_loop;
 use std::sync::ledger::Total;
-use std::sync::{Mutex, Wait};
+use std::sync::{Mutex, MutexGuard, Wait};
+
+/// So many times it is looked whether the lock is free, before a thread sleeps until it is.
+const LOOKS: u32 = 30;
+
+/// So many times a processor pauses between two such looks.
+const PAUSES: u32 = 10;
+
+/// Lets a moment pass between two looks.
+fn pause() {
+    for _ in 0..PAUSES {
+        spin_loop();
+    }
+}
 
 /// The gate under one lock. Each call takes the lock once, but for `length`, which takes none.
 ///
@@ -105,6 +119,18 @@ impl<G: AccessGate, N: GateName> SharedGate<G, N> {
         }
     }
 
+    /// What lies under the lock, once nobody else has it. Others have it for a few microseconds, and whoever sleeps until
+    /// then is woken only after more of them: so it is looked for a while before that.
+    fn desk<R: Wait>(&self, rt: &R) -> MutexGuard<'_, Desk<G, N>> {
+        for _ in 0..LOOKS {
+            if let Some(desk) = self.desk.try_lock() {
+                return desk;
+            }
+            pause();
+        }
+        self.desk.lock(rt)
+    }
+
     /// A pass of the next line, for one of these permits. It has met all records, of which none is of its line.
     pub(crate) fn issue<R: Wait>(
         &self,
@@ -122,7 +148,7 @@ impl<G: AccessGate, N: GateName> SharedGate<G, N> {
         ensures none_less { OnErr result (permits.new ≡ permits.old) }
         ensures counted { permits.new.added ≡ permits.old.added }
     {
-        self.desk.lock(rt).issue(permits)
+        self.desk(rt).issue(permits)
     }
 
     /// The gate, the pass, which has met all its records, and how many these are. It has all that the pass had met, and of
@@ -175,7 +201,7 @@ impl<G: AccessGate, N: GateName> Door for SharedGate<G, N> {
     }
 
     fn caller<R: Wait>(&self, rt: &R, user: UserName, password: Password) -> Caller {
-        self.desk.lock(rt).caller(user, password)
+        self.desk(rt).caller(user, password)
     }
 
     fn login<R: Wait + Dial>(
@@ -190,8 +216,7 @@ impl<G: AccessGate, N: GateName> Door for SharedGate<G, N> {
     ) -> (Ticket<N>, Result<LoginAnswer, StepFault>) {
         let Ticket { pass, mut share } = pass;
         let (pass, result) = self
-            .desk
-            .lock(rt)
+            .desk(rt)
             .login(pass, &mut share, user, password, session, wanted, moment);
         (Ticket { pass, share }, result)
     }
@@ -205,10 +230,7 @@ impl<G: AccessGate, N: GateName> Door for SharedGate<G, N> {
         moment: Moment,
     ) -> (Ticket<N>, Result<Outcome, StepFault>) {
         let Ticket { pass, mut share } = pass;
-        let (pass, result) = self
-            .desk
-            .lock(rt)
-            .act(pass, &mut share, user, request, moment);
+        let (pass, result) = self.desk(rt).act(pass, &mut share, user, request, moment);
         (Ticket { pass, share }, result)
     }
 
@@ -219,7 +241,7 @@ impl<G: AccessGate, N: GateName> Door for SharedGate<G, N> {
         moment: Moment,
     ) -> (Ticket<N>, Result<Option<Outcome>, StepFault>) {
         let Ticket { pass, mut share } = pass;
-        let (pass, result) = self.desk.lock(rt).match_one(pass, &mut share, moment);
+        let (pass, result) = self.desk(rt).match_one(pass, &mut share, moment);
         (Ticket { pass, share }, result)
     }
 
@@ -231,10 +253,7 @@ impl<G: AccessGate, N: GateName> Door for SharedGate<G, N> {
         most: u64,
     ) -> (Ticket<N>, Matched) {
         let Ticket { pass, mut share } = pass;
-        let (pass, matched) = self
-            .desk
-            .lock(rt)
-            .match_some(pass, &mut share, moment, most);
+        let (pass, matched) = self.desk(rt).match_some(pass, &mut share, moment, most);
         (Ticket { pass, share }, matched)
     }
 
@@ -249,8 +268,7 @@ impl<G: AccessGate, N: GateName> Door for SharedGate<G, N> {
     ) -> (Ticket<N>, Result<Turned, StepFault>) {
         let Ticket { pass, mut share } = pass;
         let (pass, result) = self
-            .desk
-            .lock(rt)
+            .desk(rt)
             .turn(pass, &mut share, user, request, moment, most);
         (Ticket { pass, share }, result)
     }
@@ -264,7 +282,7 @@ impl<G: AccessGate, N: GateName> Door for SharedGate<G, N> {
         most: u64,
     ) -> (Ticket<N>, Result<Pulled, PullFault>) {
         let Ticket { pass, share } = pass;
-        let (pass, result) = self.desk.lock(rt).pull(pass, user, from, most);
+        let (pass, result) = self.desk(rt).pull(pass, user, from, most);
         (Ticket { pass, share }, result)
     }
 
@@ -286,7 +304,7 @@ impl<G: AccessGate, N: GateName> Door for SharedGate<G, N> {
         most: u64,
     ) -> (Ticket<N>, Result<Vec<Record>, OutOfMemory>) {
         let Ticket { pass, share } = pass;
-        let (pass, result) = self.desk.lock(rt).records(pass, from, most);
+        let (pass, result) = self.desk(rt).records(pass, from, most);
         (Ticket { pass, share }, result)
     }
 
@@ -300,7 +318,7 @@ impl<G: AccessGate, N: GateName> Door for SharedGate<G, N> {
             pass: other,
             share: others,
         } = other;
-        let (pass, other) = self.desk.lock(rt).meet(pass, other);
+        let (pass, other) = self.desk(rt).meet(pass, other);
         let first = Ticket { pass, share };
         let second = Ticket {
             pass: other,

@@ -2,6 +2,7 @@ pub mod Users
 pub mod Opening
 pub mod Windows
 pub mod Spanning
+pub mod Named
 pub mod Shown
 pub mod Opened
 pub mod Whole

@@ -1,9 +1,6 @@
 -- Spans, when a fill is put last and when a mask changes.
-use Rattle.std.proofs.Common.{◌≡◌, ℕ, zero, suc, ◌+◌, ◌*◌, ◌-◌, ◌<◌, ◌≤◌, Bool, true, false, get_or, set, List, [], ◌∷◌, ◌++◌, length, map, take, drop, cond, true≢false, refl, ◌∙◌, sym, ap, subst, arith, append_assoc, if◌then◌else◌}
-use Rattle.std.specs.Prelude.{Option, Some, None, position}
-use Rattle.std.specs.List.{AllByRecursion, position_from}
-use Rattle.std.proofs.lemmas.List.Quantifiers.{position-Some}
-use Rattle.std.proofs.lemmas.Iterator.Adapters.{position_from-zero}
+use Rattle.std.proofs.Common.{◌≡◌, ℕ, zero, suc, ◌+◌, ◌*◌, ◌-◌, ◌<◌, ◌≤◌, true, false, get_or, set, List, [], ◌∷◌, ◌++◌, length, map, take, drop, refl, ◌∙◌, sym, ap, subst, arith, append_assoc, if◌then◌else◌}
+use Rattle.std.specs.List.{AllByRecursion}
 use Rattle.std.proofs.lemmas.List.{length-append, length-drop, drop-append-le, take-append-le}
 use Rattle.gx_history.specs.declared.report.Report.{Report}
 use Rattle.gx_units.specs.Names.{same_user}
@@ -176,22 +173,6 @@ pub few_enough : (fills : List ToldFill) (rs : List ReaderSpans) (n : ℕ) → 2
 few_enough fills [] n few all = tt
 few_enough fills (r ∷ rs) n few all = ((let p = (all.0).few in omega (arith, p, few)), few_enough fills rs n few all.1)
 
--- no reader of this name
-pub stays : (test : ReaderSpans → Bool) (change : ReaderSpans → ReaderSpans) (xs : List ReaderSpans) (d : ReaderSpans) → ((k : ℕ) → k < length xs → test (get_or xs k d) ≡ false) → at_first test change xs ≡ xs
-stays test change [] d none = refl
-stays test change (x ∷ xs) d none =
-    ap (λ b. if b then change x ∷ xs else x ∷ at_first test change xs) (none 0 (omega arith))
-    ∙ ap (λ rest. x ∷ rest) (stays test change xs d (λ k h. none (suc k) (omega (arith, h))))
-
--- a write at the place of the first
-pub written_first : (test : ReaderSpans → Bool) (change : ReaderSpans → ReaderSpans) (xs : List ReaderSpans) (i : ℕ) (d : ReaderSpans) → i < length xs → test (get_or xs i d) ≡ true
-    → ((k : ℕ) → k < i → test (get_or xs k d) ≡ false) → set xs i (change (get_or xs i d)) ≡ at_first test change xs
-written_first test change [] i d within here before = absurd (omega (arith, within))
-written_first test change (x ∷ xs) zero d within here before = ap (λ b. if b then change x ∷ xs else x ∷ at_first test change xs) (sym here)
-written_first test change (x ∷ xs) (suc i) d within here before =
-    ap (λ rest. x ∷ rest) (written_first test change xs i d (omega (arith, within)) here (λ k h. before (suc k) (omega (arith, h))))
-    ∙ ap (λ b. if b then change x ∷ xs else x ∷ at_first test change xs) (sym (before 0 (omega arith)))
-
 -- one more of them is changed
 pub one_more_changed : (f : ReaderSpans → ReaderSpans) (xs : List ReaderSpans) (i : ℕ) (d : ReaderSpans) → i < length xs
     → set (map f (take i xs) ++ drop i xs) i (f (get_or xs i d)) ≡ map f (take (i + 1) xs) ++ drop (i + 1) xs
@@ -200,37 +181,6 @@ one_more_changed f (x ∷ xs) zero d within = refl
 one_more_changed f (x ∷ xs) (suc i) d within =
     ap (λ rest. f x ∷ rest) (one_more_changed f xs i d (omega (arith, within)))
     ∙ ap (λ n. map f (take n (x ∷ xs)) ++ drop n (x ∷ xs)) (let e : suc (i + 1) ≡ suc i + 1 = omega arith in e)
-
-some_is_not_none : {X : Type 0} {x : X} → Some x ≡ None → ⊥
-some_is_not_none {X} {x} h = true≢false (ap (λ (o : Option X). elim o [ None ↦ false | Some y ↦ true ]) h)
-
-none_from : (test : ReaderSpans → Bool) (n : ℕ) (xs : List ReaderSpans) (k : ℕ) (d : ReaderSpans) → position_from test n xs ≡ None → k < length xs → test (get_or xs k d) ≡ false
-none_from test n [] k d none within = absurd (omega arith)
-none_from test n (x ∷ xs) k d none within = by (test x) refl (λ later j h. none_from test (n + 1) xs j d later h) k within
-  where
-    by : (b : Bool) → test x ≡ b → (position_from test (n + 1) xs ≡ None → (j : ℕ) → j < length xs → test (get_or xs j d) ≡ false)
-        → (k : ℕ) → k < length (x ∷ xs) → test (get_or (x ∷ xs) k d) ≡ false
-    by true is rest k within = absurd (some_is_not_none (sym (ap (λ b. cond b (Some n) (position_from test (n + 1) xs)) is) ∙ none))
-    by false is rest zero within = is
-    by false is rest (suc k) within = rest (sym (ap (λ b. cond b (Some n) (position_from test (n + 1) xs)) is) ∙ none) k (omega arith)
-
-pub not_placed : (test : ReaderSpans → Bool) (change : ReaderSpans → ReaderSpans) (xs : List ReaderSpans) → None ≡ position test xs → xs ≡ at_first test change xs
-not_placed test change [] e = refl
-not_placed test change (x ∷ xs) e = sym (stays test change (x ∷ xs) x (λ k h. none_from test 0 (x ∷ xs) k x (sym (position_from-zero test (x ∷ xs)) ∙ sym e) h))
-
-pub placed_first : (test : ReaderSpans → Bool) (change : ReaderSpans → ReaderSpans) (xs before : List ReaderSpans) (i : ℕ) (here now : ReaderSpans)
-    → Some i ≡ position test before → here ≡ get_or xs i here → now ≡ change here → xs ≡ before → set xs i now ≡ at_first test change before
-placed_first test change xs before i here now e at done same =
-    let p = position-Some test before i here (sym e) in
-    ap (set xs i) (done ∙ ap change at) ∙ ap (λ l. set l i (change (get_or l i here))) same ∙ written_first test change before i here p.0 p.1 p.2
-
-pub set_back : (xs before : List ReaderSpans) (i : ℕ) (here now : ReaderSpans) → here ≡ get_or xs i here → now ≡ here → xs ≡ before → set xs i now ≡ before
-set_back xs before i here now at same is = ap (set xs i) (same ∙ at) ∙ set_same xs i here ∙ is
-  where
-    set_same : (l : List ReaderSpans) (k : ℕ) (d : ReaderSpans) → set l k (get_or l k d) ≡ l
-    set_same [] k d = refl
-    set_same (x ∷ l) zero d = refl
-    set_same (x ∷ l) (suc k) d = ap (λ rest. x ∷ rest) (set_same l k d)
 
 pub item_at : (f : ReaderSpans → ReaderSpans) (xs : List ReaderSpans) (i : ℕ) (d : ReaderSpans) → i < length xs → get_or (map f (take i xs) ++ drop i xs) i d ≡ get_or xs i d
 item_at f [] i d within = absurd (omega (arith, within))
@@ -241,9 +191,3 @@ pub few_at : (n : ℕ) (xs : List ReaderSpans) (i : ℕ) (d : ReaderSpans) → A
 few_at n [] i d all within = absurd (omega (arith, within))
 few_at n (x ∷ xs) zero d all within = all.0
 few_at n (x ∷ xs) (suc i) d all within = few_at n xs i d all.1 (omega (arith, within))
-
-pub all_changed : (f : ReaderSpans → ReaderSpans) (xs : List ReaderSpans) (i : ℕ) → length xs ≤ i → map f (take i xs) ++ drop i xs ≡ map f xs
-all_changed f [] zero h = refl
-all_changed f [] (suc i) h = refl
-all_changed f (x ∷ xs) zero h = absurd (omega (arith, h))
-all_changed f (x ∷ xs) (suc i) h = ap (λ rest. f x ∷ rest) (all_changed f xs i (omega (arith, h)))

@@ -73,3 +73,7 @@ first_spans policy = flat_map spans_for policy.users
 -- the reader has this name
 abbrev pub is_named : UserName → ReaderSpans → Bool
 is_named user r = same_user user r.user
+
+-- each reader stands under his name
+abbrev pub AreNamed : List (UserName × ReaderSpans) → Type 0
+AreNamed entries = AllByRecursion (λ (e : UserName × ReaderSpans). e.1.user ≡ e.0) entries

@@ -43,13 +43,6 @@ impl Reader {
         }
     }
 
-    /// His name.
-    pub(crate) fn user(&self) -> UserName
-        ensures { result ≡ self.now.user }
-    {
-        self.user
-    }
-
     /// How many reports he has.
     pub(crate) fn count(&self) -> usize
         ensures { result ≡ self.now.count }

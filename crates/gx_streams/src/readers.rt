@@ -1,31 +1,42 @@
 //! The spans of all readers.
 
 ghost use Rattle.std.specs.Prelude.{◌≡◌, ◌<◌, ◌+◌, ◌^◌, IfOk, IfSome, OnOk, OnErr, Some, length, map};
-ghost use Rattle.std.specs.Prelude.{option_map, position};
+ghost use Rattle.std.specs.Prelude.{option_map};
 ghost use Rattle.std.specs.List.{AllByRecursion, find};
+ghost use Rattle.gx_policy.specs.People.{is_reader};
 ghost use Rattle.gx_streams.specs.Kept.{at_first};
 ghost use Rattle.gx_streams.specs.Spans.{counted, entitled_from, first_spans, is_named};
 
 use crate::fill::ToldFill;
 use crate::reader::Reader;
-use gx_policy::{Policy, Role};
+use gx_policy::{Policy, Role, User};
 use gx_units::{OutOfMemory, UserName};
+use indexmap::IndexMap;
 use std::alloc::Global;
 use std::marker::Model;
 
-/// The policy's readers, in the file's order.
+/// The policy's readers, in the file's order, each found by his name.
 #[derive(Drop)]
 pub(crate) struct Readers {
-    readers: Vec<Reader>,
+    by_name: IndexMap<UserName, Reader>,
 }
 
 impl Model for Readers {
     ghost use Rattle.std.specs.Prelude.{List};
-    ghost use Rattle.gx_streams.specs.Spans.{ReaderSpans};
+    ghost use Rattle.std.specs.Map.{values_of};
+    ghost use Rattle.gx_streams.specs.Spans.{AreNamed, ReaderSpans};
 
     ghost Value = { List ReaderSpans };
 
-    ghost view = { λ r. r.readers.items };
+    ghost view = { λ r. values_of r.by_name.entries };
+
+    ghost invariant = { λ r. AreNamed r.by_name.entries };
+}
+
+fn is_reader(user: &User) -> bool
+    ensures { result ≡ is_reader (Some user.now.role) }
+{
+    matches!(user.role, Role::Reader(_))
 }
 
 impl Readers {
@@ -33,33 +44,30 @@ impl Readers {
     pub(crate) fn new(alloc: Global, policy: &Policy) -> Result<Readers, OutOfMemory>
         ensures { IfOk result (λ readers. readers ≡ first_spans policy.now) }
     {
-        let mut readers = Vec::new(alloc);
+        // What this ensures: no two users have one name.
+        let _ = policy.rules();
+        let mut by_name = IndexMap::new(alloc);
         for user in policy.users() {
-            if matches!(user.role, Role::Reader(_)) {
-                readers.push(Reader::new(alloc, user.name))?;
+            if !is_reader(user) {
+                continue;
             }
+            by_name.insert(user.name, Reader::new(alloc, user.name))?;
         }
-        Ok(Readers { readers })
-    }
-
-    fn place_of(&self, user: UserName) -> Option<usize>
-        ensures { result ≡ position (is_named user) self.now }
-    {
-        self.readers.iter().position(|reader| user == reader.user())
+        Ok(Readers { by_name })
     }
 
     /// The reader of this name.
     pub(crate) fn find(&self, user: UserName) -> Option<&Reader>
         ensures { option_map (λ r. r.now) result ≡ find (is_named user) self.now }
     {
-        self.readers.iter().find(|reader| user == reader.user())
+        self.by_name.get(&user)
     }
 
     /// How many readers there are.
     pub(crate) fn count(&self) -> usize
         ensures { result ≡ length self.now }
     {
-        self.readers.as_slice().len()
+        self.by_name.len()
     }
 
     /// The name of the reader at this place, and his mask.
@@ -67,9 +75,8 @@ impl Readers {
         ensures { IfSome result (λ his.
             option_map (λ r. r.current.mask) (find (is_named his.0) self.now) ≡ Some his.1) }
     {
-        let user = self.readers.as_slice().get(place)?.user();
-        let reader = self.find(user)?;
-        Some((user, reader.current().mask))
+        let (user, reader) = self.by_name.get_index(place)?;
+        Some((*user, reader.current().mask))
     }
 
     /// Counts the copies of one more fill for each reader.
@@ -77,8 +84,8 @@ impl Readers {
         requires { AllByRecursion (λ r. r.count + 2 < 2 ^ 64) self.old }
         ensures { self.new ≡ map (counted fill.now) self.old }
     {
-        for reader in self.readers.iter_mut() {
-            reader.note(fill);
+        for place in 0..self.by_name.len() {
+            self.by_name[place].note(fill);
         }
     }
 
@@ -94,10 +101,9 @@ impl Readers {
             ≡ at_first (is_named user) (entitled_from mask fill) self.old) }
         ensures err { OnErr result (self.new ≡ self.old) }
     {
-        let Some(place) = self.place_of(user) else {
+        let Some(reader) = self.by_name.get_mut(&user) else {
             return Ok(());
         };
-        let reader = &mut self.readers[place];
         reader.entitle(mask, fill)
     }
 }

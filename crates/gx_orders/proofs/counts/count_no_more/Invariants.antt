@@ -1,4 +1,3 @@
-use Rattle.std.specs.Map.{values_of}
 use Rattle.gx_orders.proofs.Counted.{AreUncounted}
 use Rattle.gx_orders.proofs.counts.count_no_more.Given as goal
 
@@ -7,4 +6,4 @@ abbrev pub invariant-loop-order : goal.invariant-loop-order
 invariant-loop-order l =
     (goal.iterator-loop-order).can_next l.order-iterator ×
     (goal.iterator-loop-order).is_finite l.order-iterator ×
-    AreUncounted l.fn.account (values_of l.fn.by_number.entries) l.order-iterator l.fn.counts.entries l.counts.entries
+    AreUncounted l.fn.account l.fn.orders l.order-iterator l.fn.counts.entries l.counts.entries

@@ -1,4 +1,5 @@
-use Rattle.gx_orders.proofs.Matching.{ends_one, fills_both, fills_fit, rests_one}
+use Rattle.gx_orders.proofs.Matching.{fills_fit}
+use Rattle.gx_orders.proofs.Turned.{ends_one, fills_both, rests_one}
 use Rattle.gx_orders.proofs.laws.orders_after_a_match.Goals as goal
 
 pub returns : goal.returns

@@ -1,5 +1,5 @@
-use Rattle.gx_orders.proofs.Cutting.{cuts_one, replaces_one}
-use Rattle.gx_orders.proofs.Granted.{closes_end, denials_keep, enters_more, kills_end, others_keep}
+use Rattle.gx_orders.proofs.Granted.{denials_keep}
+use Rattle.gx_orders.proofs.Turned.{closes_end, cuts_one, enters_more, kills_end, others_keep, replaces_one}
 use Rattle.gx_orders.proofs.Staying.{none_at_first}
 use Rattle.gx_orders.proofs.laws.orders_after_a_request.Goals as goal
 

@@ -7,9 +7,9 @@ abbrev pub invariant-loop-line : goal.invariant-loop-line
 invariant-loop-line g l = record {
   done : List ℕ;
   split : l.piece ≡ done ++ l.left;
-  takes : (before : GateData) (bytes : List ℕ) → IsSoFar before bytes (g.G.AccessGate.seen l.fn.gate) l.fn.held.rest.items l.fn.held.lines
-      → TakesPiece before bytes done (g.G.AccessGate.seen l.gate) l.held.rest.items l.held.lines (g.W.Write.contents l.fn.writer.device) (g.W.Write.contents l.writer.device);
-  counted : l.held.lines + length l.left ≤ l.fn.held.lines + length l.piece;
+  takes : (before : GateData) (bytes : List ℕ) → IsSoFar before bytes (g.G.AccessGate.seen l.fn.gate) l.fn.held.rest.items l.fn.held.progress.lines
+      → TakesPiece before bytes done (g.G.AccessGate.seen l.gate) l.held.rest.items l.held.progress.lines (g.W.Write.contents l.fn.writer.device) (g.W.Write.contents l.writer.device);
+  counted : l.held.progress.lines + length l.left ≤ l.fn.held.progress.lines + length l.piece;
   kept : l.writer.failed ≡ l.fn.writer.failed;
 }
 

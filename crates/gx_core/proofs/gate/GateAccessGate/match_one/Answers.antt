@@ -9,10 +9,14 @@ use Rattle.gx_effects.proofs.Orderly.{legal_is_orderly}
 use Rattle.gx_effects.proofs.Settling.{match_leaves_fewer}
 use Rattle.gx_answers.specs.Gates.{GateData, matched_by}
 use Rattle.gx_core.specs.Kept.{IsWhole}
-use Rattle.gx_answers.specs.Matches.{HasMatched, MatchEffect, matches_left, matching_of, next_match, settled_gate}
+use Rattle.gx_answers.specs.Effects.{MayMoveBy, moved_by}
+use Rattle.gx_history.specs.World.{world}
+use Rattle.gx_effects.proofs.Moving.{may_move}
+use Rattle.gx_effects.proofs.World.{world_next}
+use Rattle.gx_answers.specs.Matches.{matches_left, matching_of, next_match, settled_gate}
 use Rattle.gx_core.specs.Known.{first_of}
 use Rattle.gx_core.proofs.Keeping.{AreCarried, as_before, keep_still, keep_within, takes_match, told_then}
-use Rattle.gx_core.proofs.Matched.{first_is_known, match_effect_of, never_crossed_now, nothing_is_met, nothing_is_next, settles_on}
+use Rattle.gx_core.proofs.Matched.{first_is_known, never_crossed_now, nothing_is_met, nothing_is_next, settles_on}
 use Rattle.gx_core.proofs.gate.GateAccessGate.match_one.Goals as goal
 
 pub returns-in_default-clause-next : goal.returns-in_default-clause-next
@@ -37,14 +41,19 @@ returns-in_default-clause-uncrossed c =
 
 pub returns-clause-effect : goal.returns-clause-effect
 returns-clause-effect c =
-    subst (λ (g : GateData). HasMatched g (record { policy = c.self.inside.policy; records = c.push_reserved.new.self.records }) c.args.handed c.match_outcome-outcome.result) c.self.view_is
-    (subst (λ (records : List RecordData). MatchEffect c.self.inside.policy c.self.inside.history.records records (matched_by c.args.handed c.match_outcome-outcome.result) c.match_outcome-outcome.result.verdict)
-    (sym
+    ap (world c.self.inside.policy)
     (c.push_reserved.ensures.records
     ∙ ap (λ (records : List RecordData). records ++ c.new-record.result ∷ []) c.keep_one.ensures.records
-    ∙ ap (λ (r : RecordData). c.self.inside.history.records ++ r ∷ []) (c.new-record.ensures ∙ c.record_of_match-entry.ensures)))
-    (match_effect_of c.self.inside.policy c.self.inside.history.records c.args.handed (matched_by c.args.handed c.match_outcome-outcome.result) c.self.invariant.kept.legal
-    (ap (λ (g : GateData). next_match g c.args.handed) c.self.view_is ∙ c.match_outcome-outcome.ensures.next)))
+    ∙ ap (λ (r : RecordData). c.self.inside.history.records ++ r ∷ []) (c.new-record.ensures ∙ c.record_of_match-entry.ensures))
+    ∙ world_next c.self.inside.policy c.self.inside.history.records (steps.Matching c.args.handed) (matched_by c.args.handed c.match_outcome-outcome.result) c.self.invariant.kept.legal
+    (ap (λ (g : GateData). next_match g c.args.handed) c.self.view_is ∙ c.match_outcome-outcome.ensures.next)
+    ∙ ap (λ (g : GateData). moved_by g (matched_by c.args.handed c.match_outcome-outcome.result)) c.self.view_is
+
+pub returns-clause-may_move : goal.returns-clause-may_move
+returns-clause-may_move c =
+    subst (λ (g : GateData). MayMoveBy g (matched_by c.args.handed c.match_outcome-outcome.result)) c.self.view_is
+    (may_move c.self.inside.policy c.self.inside.history.records (steps.Matching c.args.handed) (matched_by c.args.handed c.match_outcome-outcome.result) c.self.invariant.kept.legal
+    (ap (λ (g : GateData). next_match g c.args.handed) c.self.view_is ∙ c.match_outcome-outcome.ensures.next))
 
 pub returns-clause-settles : goal.returns-clause-settles
 returns-clause-settles c =

@@ -11,8 +11,11 @@ use Rattle.gx_places.specs.Places.{has_kept_places}
 use Rattle.gx_answers.specs.Gates.{GateData, left_by}
 use Rattle.gx_core.specs.Kept.{IsWhole}
 use Rattle.gx_answers.specs.Steps.{IsJudged, next_of}
-use Rattle.gx_answers.specs.Effects.{HasEffect, VerdictEffect}
-use Rattle.gx_core.proofs.Effecting.{effect_of}
+use Rattle.gx_answers.specs.Effects.{MayMoveBy, moved_by}
+use Rattle.gx_history.specs.World.{world}
+use Rattle.gx_effects.proofs.Moving.{may_move}
+use Rattle.gx_effects.proofs.World.{world_next}
+use Rattle.gx_history.specs.declared.record.Step.TheVariants as steps
 use Rattle.gx_core.proofs.Keeping.{AreCarried, as_before, asked_fits, asked_has_place, keep_asked, keep_still, takes_asked, told_then}
 use Rattle.gx_core.proofs.gate.GateAccessGate.step.Goals as goal
 
@@ -27,13 +30,19 @@ returns-clause-judged c =
 
 pub returns-clause-effect : goal.returns-clause-effect
 returns-clause-effect c =
-    subst (λ (g : GateData). HasEffect g (record { policy = c.self.inside.policy; records = c.push_reserved.new.self.records }) c.args.a c.outcome_of-outcome.result) c.self.view_is
-    (subst (λ (records : List RecordData). VerdictEffect c.self.inside.policy c.self.inside.history.records records (left_by c.args.a c.outcome_of-outcome.result) c.args.a c.outcome_of-outcome.result.verdict)
-    (sym
+    ap (world c.self.inside.policy)
     (c.push_reserved.ensures.records
     ∙ ap (λ (records : List RecordData). records ++ c.new-record.result ∷ []) c.keep_for.ensures.records
-    ∙ ap (λ (r : RecordData). c.self.inside.history.records ++ r ∷ []) (c.new-record.ensures ∙ c.record_of-entry.ensures)))
-    (effect_of c.self.inside.policy c.self.inside.history.records c.args.a (left_by c.args.a c.outcome_of-outcome.result) c.self.invariant.kept.legal (ap (λ (g : GateData). next_of g c.args.a) c.self.view_is ∙ c.outcome_of-outcome.ensures.next)))
+    ∙ ap (λ (r : RecordData). c.self.inside.history.records ++ r ∷ []) (c.new-record.ensures ∙ c.record_of-entry.ensures))
+    ∙ world_next c.self.inside.policy c.self.inside.history.records (steps.Asked c.args.a) (left_by c.args.a c.outcome_of-outcome.result) c.self.invariant.kept.legal
+    (ap (λ (g : GateData). next_of g c.args.a) c.self.view_is ∙ c.outcome_of-outcome.ensures.next)
+    ∙ ap (λ (g : GateData). moved_by g (left_by c.args.a c.outcome_of-outcome.result)) c.self.view_is
+
+pub returns-clause-may_move : goal.returns-clause-may_move
+returns-clause-may_move c =
+    subst (λ (g : GateData). MayMoveBy g (left_by c.args.a c.outcome_of-outcome.result)) c.self.view_is
+    (may_move c.self.inside.policy c.self.inside.history.records (steps.Asked c.args.a) (left_by c.args.a c.outcome_of-outcome.result) c.self.invariant.kept.legal
+    (ap (λ (g : GateData). next_of g c.args.a) c.self.view_is ∙ c.outcome_of-outcome.ensures.next))
 
 pub returns-clause-lifted_by : goal.returns-clause-lifted_by
 returns-clause-lifted_by c =

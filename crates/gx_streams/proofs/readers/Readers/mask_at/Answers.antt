@@ -1,8 +1,13 @@
 use Rattle.std.proofs.Common.{◌∙◌, ap, sym}
 use Rattle.std.specs.Prelude.{Some, option_map}
-use Rattle.gx_streams.specs.Spans.{ReaderSpans}
+use Rattle.std.specs.List.{find}
+use Rattle.gx_streams.specs.Spans.{ReaderSpans, is_named}
 use Rattle.gx_streams.specs.declared.span.Span.{Span}
+use Rattle.gx_streams.proofs.Named.{found}
 use Rattle.gx_streams.proofs.readers.Readers.mask_at.Goals as goal
 
 pub returns : goal.returns
-returns c = ap (option_map (λ (r : ReaderSpans). r.current.mask)) (sym c.in_ok-reader.ensures) ∙ ap (λ (s : Span). Some s.mask) (sym c.current.ensures)
+returns c =
+    ap (option_map (λ (r : ReaderSpans). r.current.mask))
+    (ap (find (is_named c.in_ok-user.user.now)) (sym c.self.view_is) ∙ found c.self.inside.by_name.entries c.in_ok-user.user.now c.self.invariant ∙ c.in_ok-user.ensures.value)
+    ∙ ap (λ (s : Span). Some s.mask) (sym c.current.ensures)

@@ -1,31 +1,27 @@
-use Rattle.std.proofs.Common.{◌<◌, ◌+◌, ◌^◌, ◌++◌, List, map, take, drop, get_or, set, refl, ◌∙◌, sym, ap, subst}
-use Rattle.std.specs.List.{AllByRecursion}
+use Rattle.std.proofs.Common.{◌<◌, ◌+◌, ◌^◌, List, length, sym, ap, subst}
+use Rattle.std.specs.Map.{values_of}
 use Rattle.gx_streams.specs.Spans.{ReaderSpans, counted}
-use Rattle.gx_streams.proofs.Spanning.{few_at, item_at, one_more_changed}
+use Rattle.gx_streams.proofs.Named.{next_is, one_more, stays_named_at}
+use Rattle.gx_streams.proofs.Spanning.{few_at}
 use Rattle.gx_streams.proofs.readers.Readers.note.Goals as goal
-
-pub loop-reader-init : goal.loop-reader-init
-loop-reader-init c = (refl, subst (AllByRecursion (λ (r : ReaderSpans). r.count + 2 < 2 ^ 64)) (sym (c.deref_mut-reader-items.ensures.value ∙ c.self.view_is)) c.requires)
 
 pub note-requires : goal.note-requires
 note-requires c =
-    let before = c.loop-reader.invariant in
-    let xs : List ReaderSpans = c.deref_mut-reader-items.result.now in
-    let i = c.loop-reader.reader-index in
+    let before = c.loop-place.invariant in
+    let rs : List ReaderSpans = values_of c.self.inside.by_name.entries in
+    let within : c.loop-place.place < length rs = subst (λ n. c.loop-place.place < n) before.end c.loop-place-test.true in
     subst (λ (r : ReaderSpans). r.count + 2 < 2 ^ 64)
-    (sym (ap (λ (l : List ReaderSpans). get_or l i c.reader-item.result) before.0 ∙ item_at (counted c.args.fill.now) xs i c.reader-item.result c.loop-reader-test.true))
-    (few_at (2 ^ 64) xs i c.reader-item.result before.1 c.loop-reader-test.true)
+    (sym (next_is (counted c.args.fill.now) c.loop-place.self-inside.by_name.entries rs c.loop-place.place c.index_mut.result.now before.are c.index_mut.ensures.value within))
+    (few_at (2 ^ 64) rs c.loop-place.place c.index_mut.result.now before.few within)
 
-pub loop-reader-preserved : goal.loop-reader-preserved
-loop-reader-preserved c =
-    let before = c.loop-reader.invariant in
-    let xs : List ReaderSpans = c.deref_mut-reader-items.result.now in
-    let i = c.loop-reader.reader-index in
-    let f = counted c.args.fill.now in
-    let items : List ReaderSpans = c.loop-reader.reader-items in (
-      ap (set items i) c.note.ensures
-          ∙ ap (λ (l : List ReaderSpans). set l i (f (get_or l i c.reader-item.result))) before.0
-          ∙ ap (λ (r : ReaderSpans). set (map f (take i xs) ++ drop i xs) i (f r)) (item_at f xs i c.reader-item.result c.loop-reader-test.true)
-          ∙ one_more_changed f xs i c.reader-item.result c.loop-reader-test.true,
-      before.1,
-    )
+pub loop-place-preserved : goal.loop-place-preserved
+loop-place-preserved c =
+    let before = c.loop-place.invariant in
+    let rs : List ReaderSpans = values_of c.self.inside.by_name.entries in
+    let within : c.loop-place.place < length rs = subst (λ n. c.loop-place.place < n) before.end c.loop-place-test.true in
+    record {
+      are = one_more (counted c.args.fill.now) c.loop-place.self-inside.by_name.entries rs c.loop-place.place c.index_mut.result.now c.note.new.self before.are c.index_mut.ensures.value within c.note.ensures;
+      named = stays_named_at c.loop-place.self-inside.by_name.entries c.loop-place.place c.index_mut.result.now c.note.new.self before.named c.index_mut.ensures.value (ap (λ (r : ReaderSpans). r.user) c.note.ensures);
+      end = before.end;
+      few = before.few;
+    }

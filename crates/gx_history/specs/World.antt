@@ -1,0 +1,247 @@
+-- All that a record can change, as one value, and what each record makes of it.
+use Rattle.std.specs.Option.{option_map_or}
+use Rattle.std.specs.Prelude.{◌≡◌, ℕ, ◌+◌, ◌-◌, Bool, true, false, ◌&&◌, ◌||◌, is_some, length, List, [], ◌∷◌, ◌++◌, map, fold, Option, Some, None, option_to_list, if◌then◌else◌}
+use Rattle.std.specs.List.{filter, flat_map}
+use Rattle.gx_units.specs.Names.{same_account, same_user}
+use Rattle.gx_units.specs.declared.names.AccountName.{AccountName}
+use Rattle.gx_units.specs.declared.names.Symbol.{Symbol}
+use Rattle.gx_units.specs.declared.names.Token.{Token}
+use Rattle.gx_units.specs.declared.names.UserName.{UserName}
+use Rattle.gx_ouch.specs.declared.letters.CancelReason.TheVariants as cancels
+use Rattle.gx_desk.specs.Names.{is_written}
+use Rattle.gx_desk.specs.declared.Action.{Action}
+use Rattle.gx_desk.specs.declared.Action.TheVariants as actions
+use Rattle.gx_desk.specs.declared.AnswerCode.TheVariants as codes
+use Rattle.gx_desk.specs.declared.Command.{Command}
+use Rattle.gx_desk.specs.declared.WrittenName.{WrittenName}
+use Rattle.gx_policy.specs.declared.policy.FileRule.{FileRule}
+use Rattle.gx_policy.specs.declared.policy.PolicyData.{PolicyData}
+use Rattle.gx_policy.specs.declared.rule_name.RuleName.{RuleName}
+use Rattle.gx_policy.specs.People.{account_of, is_reader, role_in}
+use Rattle.gx_ouch.specs.declared.letters.CancelReason.{CancelReason}
+use Rattle.gx_ouch.specs.declared.letters.Liquidity.TheVariants as liquidities
+use Rattle.gx_ouch.specs.declared.outbound.Outbound.TheVariants as outbounds
+use Rattle.gx_history.specs.declared.live_order.LiveOrder.{LiveOrder}
+use Rattle.gx_history.specs.LiveOrders.{replacement_order, shares_open}
+use Rattle.gx_history.specs.declared.record.Asked.{Asked}
+use Rattle.gx_history.specs.declared.record.Fill.{Fill}
+use Rattle.gx_history.specs.declared.record.RecordData.{RecordData}
+use Rattle.gx_history.specs.declared.record.Request.{Request}
+use Rattle.gx_history.specs.declared.record.Request.TheVariants as requests
+use Rattle.gx_history.specs.declared.record.Step.{Step}
+use Rattle.gx_history.specs.declared.record.Step.TheVariants as steps
+use Rattle.gx_history.specs.declared.record.Verdict.{Verdict}
+use Rattle.gx_history.specs.declared.record.Verdict.TheVariants as verdicts
+use Rattle.gx_history.specs.declared.report.Message.{Message}
+use Rattle.gx_history.specs.declared.report.Message.TheVariants as messages
+use Rattle.gx_history.specs.declared.report.Report.{Report}
+use Rattle.gx_history.specs.Executions.{Execution, executions, side_of}
+use Rattle.gx_history.specs.InForce.{adding, change_rule, is_closed, is_entitled, kill_after, kill_in_force, line_of, removing, rules_in_force, with_limit, with_stocks}
+use Rattle.gx_history.specs.Orders.{Order, ends_account, is_token_used, orders, orders_with, record_uses}
+use Rattle.gx_history.specs.Streams.{answer, day_end, executed_message, lift_code, reported, reports_of_denial, reports_of_execution, stream, to_user, with_shares}
+use Rattle.gx_history.specs.Verdicts.{IsLegal, last_moment, next}
+use Rattle.gx_history.specs.Turns as turns
+use Rattle.gx_history.specs.Turns.{Turn, live, live_numbered, live_under, new_order, side, side_turned, turned, waiting, waiting_turned}
+
+-- all that a record can change
+pub record World : Type 0 where
+  pub count : ℕ
+  pub moment : ℕ
+  pub orders : List Order
+  pub executions : List Execution
+  pub live : List LiveOrder
+  pub waiting : List LiveOrder
+  pub resting : Symbol → Bool → List LiveOrder
+  pub tokens : UserName → Token → Bool
+  pub rules : List FileRule
+  pub kills : AccountName → Option (List UserName)
+  pub closed : Bool
+  pub lines : UserName → Option ℕ
+  pub sight : UserName → AccountName → Bool
+  pub streams : UserName → List Report
+
+-- the world by these records
+abbrev pub world : PolicyData → List RecordData → World
+world policy history = record {
+  count = length history;
+  moment = last_moment history;
+  orders = orders policy history;
+  executions = executions policy history;
+  live = live policy history;
+  waiting = waiting policy history;
+  resting = side policy history;
+  tokens = is_token_used history;
+  rules = rules_in_force policy history;
+  kills = kill_in_force policy history;
+  closed = is_closed history;
+  lines = line_of history;
+  sight = is_entitled policy history;
+  streams = stream policy history;
+}
+
+-- what a record does: nothing, or it denies a request, puts a user on a line or on none, adds an order, gives one another size, puts one in the place of another,
+-- grants a command, fills two, puts the one of a number to rest, or ends it
+pub data Move : Type 0 where
+  Nothing : Move
+  Denies : Asked → RuleName → Move
+  PutsOn : UserName → Option ℕ → Move
+  Adds : LiveOrder → Move
+  Sizes : LiveOrder → ℕ → Move
+  Replaces : LiveOrder → LiveOrder → Move
+  Commands : UserName → Command → Move
+  Fills : Fill → Move
+  Rests : ℕ → Move
+  Expires : ℕ → Move
+
+-- what a granted request does
+abbrev pub move_asked : PolicyData → World → RecordData → Asked → Request → Move
+move_asked policy w r a (requests.Login m) = PutsOn a.user (Some a.line)
+move_asked policy w r a requests.Logout = PutsOn a.user None
+move_asked policy w r a (requests.Unreadable m) = Nothing
+move_asked policy w r a (requests.Enter m) = option_map_or (λ (account : AccountName). Adds (new_order policy r a.user account m)) (account_of policy a.user) Nothing
+move_asked policy w r a (requests.Replace m) = option_map_or (λ (old : LiveOrder). Replaces old (replacement_order r m old)) (live_under w.live a.user m.existing_token) Nothing
+move_asked policy w r a (requests.Cancel m) = option_map_or (λ (cut : LiveOrder). Sizes cut m.shares) (live_under w.live a.user m.token) Nothing
+move_asked policy w r a (requests.Command c) = Commands a.user c
+
+-- what a granted step does
+abbrev pub move_granted : PolicyData → World → RecordData → Step → Move
+move_granted policy w r (steps.Asked a) = move_asked policy w r a a.request
+move_granted policy w r (steps.Matching handed) = Nothing
+
+-- what a denied step does
+abbrev pub move_denied : RuleName → Step → Move
+move_denied rule (steps.Asked a) = Denies a rule
+move_denied rule (steps.Matching handed) = Nothing
+
+-- what a verdict does
+abbrev pub move_by : PolicyData → World → RecordData → Verdict → Step → Move
+move_by policy w r verdicts.Granted step = move_granted policy w r step
+move_by policy w r (verdicts.Denied rule) step = move_denied rule step
+move_by policy w r (verdicts.Filled f) step = Fills f
+move_by policy w r (verdicts.Rested number) step = Rests number
+move_by policy w r (verdicts.Expired number) step = Expires number
+
+-- what the record does
+abbrev pub move_of : PolicyData → World → RecordData → Move
+move_of policy w r = move_by policy w r r.verdict r.step
+
+-- of that, what concerns the live orders
+abbrev pub turn_in : Move → Turn
+turn_in (Adds new) = turns.Adds new
+turn_in (Sizes cut size) = turns.Sizes cut.number size
+turn_in (Replaces old new) = turns.Replaces old.number new
+turn_in (Commands officer c) = turns.EndsAll c.action
+turn_in (Fills f) = turns.Fills f
+turn_in (Rests number) = turns.Rests number
+turn_in (Expires number) = turns.Ends number
+turn_in other = turns.Keeps
+
+-- the world with the orders that live, wait and rest turned so
+abbrev pub turned_world : Turn → World → World
+turned_world turn w = record w { live = turned turn w.live; waiting = waiting_turned turn w.waiting; resting = λ stock buy. side_turned turn w.live stock buy (w.resting stock buy) }
+
+-- this user is told so, and nobody else of anything
+abbrev pub tell : RecordData → UserName → List Message → (UserName → List Report) → UserName → List Report
+tell r receiver told streams user = streams user ++ map (reported r) (to_user receiver user told)
+
+-- each user is told what is for him
+abbrev pub tell_each : RecordData → (UserName → List Message) → (UserName → List Report) → UserName → List Report
+tell_each r told streams user = streams user ++ map (reported r) (told user)
+
+-- Accepted: the order, with the number of its record
+abbrev pub accepted_of : LiveOrder → List Message
+accepted_of o = messages.Order (outbounds.Accepted (record { token = o.token; terms = o.terms; order_reference = o.number })) ∷ []
+
+-- Replaced: the new order with the shares that it has open, and the token of the one before it
+abbrev pub replaced_of : LiveOrder → LiveOrder → List Message
+replaced_of old new = messages.Order (outbounds.Replaced (record { token = new.token; terms = with_shares new.terms (shares_open new); order_reference = new.number; previous_token = old.token })) ∷ []
+
+-- Canceled: so many shares less, and why
+abbrev pub canceled_of : CancelReason → ℕ → LiveOrder → List Message
+canceled_of reason decrement o = messages.Order (outbounds.Canceled (record { token = o.token; decrement = decrement; reason = reason })) ∷ []
+
+-- what a user is told of his orders that the action ends
+abbrev pub ended_of : List LiveOrder → Action → UserName → List Message
+ended_of found action user = flat_map (λ (o : LiveOrder). canceled_of cancels.Supervisory (shares_open o) o) (filter (λ (o : LiveOrder). same_user o.user user && ends_account o.account action) found)
+
+-- what a user is told of the order of this number, which ends
+abbrev pub expired_of : List LiveOrder → ℕ → UserName → List Message
+expired_of found number user = flat_map (λ (o : LiveOrder). to_user o.user user (canceled_of cancels.ImmediateOrCancel (shares_open o) o)) (option_to_list (live_numbered found number))
+
+-- the sides of the fill that the verdict makes, if it makes one
+abbrev pub sides_in : List Order → Verdict → List Execution
+sides_in known (verdicts.Filled f) = side_of known f liquidities.Removed f.taker ++ side_of known f liquidities.Added f.maker
+sides_in known other = []
+
+-- a drop copy of this side, where the reader sees its account
+abbrev pub copy_of : (UserName → AccountName → Bool) → RecordData → UserName → Execution → List Message
+copy_of sight r reader e =
+    if sight reader e.order.account then messages.DropCopy (record { executed = executed_message r e; account = e.order.account; side = e.order.terms.side }) ∷ [] else []
+
+-- the rules so, and the officer has his answer
+abbrev pub with_rule : RecordData → UserName → Command → List FileRule → World → World
+with_rule r officer c rules w = record w { rules = rules; streams = tell r officer (answer r c codes.Done) w.streams }
+
+-- the reader so written sees the account from now on, or does not
+abbrev pub with_sight : PolicyData → WrittenName → AccountName → Bool → (UserName → AccountName → Bool) → UserName → AccountName → Bool
+with_sight policy written account sees sight reader other =
+    if is_reader (role_in policy.users reader) && (is_written written reader && same_account account other) then sees else sight reader other
+
+-- the account's Kill is changed so
+abbrev pub with_kill : AccountName → (Option (List UserName) → Option (List UserName)) → (AccountName → Option (List UserName)) → AccountName → Option (List UserName)
+with_kill account change kills other = if same_account account other then change (kills other) else kills other
+
+-- what the officer's granted command makes of the world
+abbrev pub commanded : PolicyData → RecordData → UserName → Command → Action → World → World
+commanded policy r officer c (actions.Kill account) w = record (turned_world (turns.EndsAll (actions.Kill account)) w) {
+  kills = with_kill account (λ before. Some []) w.kills;
+  streams = tell_each r (λ user. ended_of w.live (actions.Kill account) user ++ to_user officer user (answer r c codes.Done)) w.streams;
+}
+commanded policy r officer c (actions.Lift account) w = record w {
+  kills = with_kill account (kill_after policy.lifters (Some (Some officer))) w.kills;
+  streams = tell r officer (answer r c (lift_code (is_some (kill_after policy.lifters (Some (Some officer)) (w.kills account))))) w.streams;
+}
+commanded policy r officer c (actions.SetLimit name limit) w = with_rule r officer c (map (change_rule name (with_limit limit)) w.rules) w
+commanded policy r officer c (actions.Restrict name stock) w = with_rule r officer c (map (change_rule name (with_stocks (adding stock))) w.rules) w
+commanded policy r officer c (actions.Unrestrict name stock) w = with_rule r officer c (map (change_rule name (with_stocks (removing stock))) w.rules) w
+commanded policy r officer c (actions.Grant written account) w = record w { sight = with_sight policy written account true w.sight; streams = tell r officer (answer r c codes.Done) w.streams }
+commanded policy r officer c (actions.Revoke written account) w = record w { sight = with_sight policy written account false w.sight; streams = tell r officer (answer r c codes.Done) w.streams }
+commanded policy r officer c actions.CloseDay w = record (turned_world (turns.EndsAll actions.CloseDay) w) {
+  closed = true;
+  streams = tell_each r (λ user. ended_of w.live actions.CloseDay user ++ day_end policy actions.CloseDay user ++ to_user officer user (answer r c codes.Done)) w.streams;
+}
+
+-- what a move makes of the world
+abbrev pub moved : PolicyData → RecordData → Move → World → World
+moved policy r Nothing w = w
+moved policy r (Denies a rule) w = record w { streams = tell r a.user (reports_of_denial policy r rule a.request) w.streams }
+moved policy r (PutsOn user line) w = record w { lines = λ other. if same_user user other then line else w.lines other }
+moved policy r (Adds new) w = record (turned_world (turns.Adds new) w) { streams = tell r new.user (accepted_of new) w.streams }
+moved policy r (Sizes cut size) w = record (turned_world (turns.Sizes cut.number size) w) { streams = tell r cut.user (canceled_of cancels.UserRequested (shares_open cut - (size - cut.done)) cut) w.streams }
+moved policy r (Replaces old new) w = record (turned_world (turns.Replaces old.number new) w) { streams = tell r old.user (replaced_of old new) w.streams }
+moved policy r (Commands officer c) w = commanded policy r officer c c.action w
+moved policy r (Fills f) w = record (turned_world (turns.Fills f) w) {
+  streams = tell_each r (λ user. flat_map (reports_of_execution r user) (sides_in w.orders (verdicts.Filled f)) ++ flat_map (copy_of w.sight r user) (sides_in w.orders (verdicts.Filled f))) w.streams;
+}
+moved policy r (Rests number) w = turned_world (turns.Rests number) w
+moved policy r (Expires number) w = record (turned_world (turns.Ends number) w) { streams = tell_each r (expired_of w.live number) w.streams }
+
+-- the world after one more record: moved by what it does, with the orders that it makes, the fills, the token that it uses, its number and its moment
+abbrev pub stepped : PolicyData → World → RecordData → World
+stepped policy w r = record (moved policy r (move_of policy w r) w) {
+  count = w.count + 1;
+  moment = r.moment;
+  orders = orders_with policy w.orders r;
+  executions = w.executions ++ sides_in w.orders r.verdict;
+  tokens = λ user token. w.tokens user token || record_uses user token r;
+}
+
+-- one more record moves the world by what it does
+abbrev pub WorldGoesOn : Type 0
+WorldGoesOn = (policy : PolicyData) (history : List RecordData) (step : Step) (r : RecordData)
+    → IsLegal policy history → next policy history step ≡ Some r
+    → world policy (history ++ r ∷ []) ≡ stepped policy (world policy history) r
+
+-- so a legal day is its records, one after the other
+abbrev pub WorldsAreRuns : Type 0
+WorldsAreRuns = (policy : PolicyData) (history : List RecordData) → IsLegal policy history → world policy history ≡ fold (stepped policy) (world policy []) history

@@ -1,0 +1,253 @@
+-- What each record makes of the orders that are kept, from the one law of the live orders.
+use Rattle.std.proofs.Common.{◌≡◌, ℕ, ◌+◌, ◌<◌, Bool, true, false, not, List, [], ◌∷◌, ◌++◌, refl, ◌∙◌, ap, sym, cond, map, length, arith}
+use Rattle.std.proofs.Math.Path.{subst}
+use Rattle.std.specs.Prelude.{Option, Some, None, ◌||◌, ◌==◌, option_map}
+use Rattle.std.specs.Option.{option_map_or}
+use Rattle.std.specs.List.{AllByRecursion, cons_option, filter, filter_map}
+use Rattle.std.proofs.lemmas.Bool.{eq-eqb, eqb-true, ne_eqb}
+use Rattle.std.proofs.lemmas.List.{append-nil}
+use Rattle.std.proofs.lemmas.List.Elements.{filter-append}
+use Rattle.gx_units.specs.Names.{same_token, same_user}
+use Rattle.gx_units.specs.declared.names.AccountName.{AccountName}
+use Rattle.gx_units.specs.declared.names.UserName.{UserName}
+use Rattle.gx_desk.specs.declared.Action.{Action}
+use Rattle.gx_desk.specs.declared.Action.TheVariants as actions
+use Rattle.gx_desk.specs.declared.Command.{Command}
+use Rattle.gx_policy.specs.declared.policy.PolicyData.{PolicyData}
+use Rattle.gx_history.specs.declared.live_order.LiveOrder.{LiveOrder}
+use Rattle.gx_history.specs.declared.record.Asked.{Asked}
+use Rattle.gx_history.specs.declared.record.RecordData.{RecordData}
+use Rattle.gx_history.specs.declared.record.Request.{Request}
+use Rattle.gx_history.specs.declared.record.Request.TheVariants as requests
+use Rattle.gx_history.specs.declared.record.Step.{Step}
+use Rattle.gx_history.specs.declared.record.Step.TheVariants as steps
+use Rattle.gx_history.specs.declared.record.Verdict.{Verdict}
+use Rattle.gx_history.specs.declared.record.Verdict.TheVariants as verdicts
+use Rattle.gx_history.specs.LiveOrders.{is_under, key, replacement_order}
+use Rattle.gx_history.specs.Orders.{ends_account, uses_token}
+use Rattle.gx_history.specs.Matched.{IsFair}
+use Rattle.gx_history.specs.Requests.{action_of, new_token}
+use Rattle.gx_history.specs.Verdicts.{IsLegal, next}
+use Rattle.gx_history_laws.proofs.Adding.{found_passes, user_is}
+use Rattle.gx_history_laws.proofs.Judging.{both}
+use Rattle.gx_history_laws.proofs.Numbers.{number_left}
+use Rattle.gx_history_laws.proofs.Owners.{last_such_is}
+use Rattle.gx_history.specs.Turns as turns
+use Rattle.gx_history.specs.Turns.{Turn, becomes, live, live_under, new_in, new_order, turn_asked, turn_by, turn_granted, turn_of, turned, while_open}
+use Rattle.gx_effects.proofs.Commanding.{command_of}
+use Rattle.gx_effects.proofs.FairFills.{fills_are_fair}
+use Rattle.gx_orders.proofs.Matching.{differ, in_turn}
+use Rattle.gx_effects.proofs.Live.{live_are_open, live_is_kept, live_next}
+use Rattle.gx_effects.proofs.OrderRequests.{Grants, it_grants}
+use Rattle.gx_orders.specs.Changes.{is_lasting, keeps_orders, with_live}
+use Rattle.gx_orders.specs.InForce.{orders_in_force}
+use Rattle.gx_orders.specs.Laws.{CancelsAreKept, ClosesAreKept, EntersAreKept, ExpiriesAreKept, FillsAreKept, KillsAreKept, OthersKeepOrders, ReplacesAreKept, RestsAreKept}
+use Rattle.gx_orders.specs.LiveOrders.{at_rest, filled, has_number, is_open, open_ones, order_under, sized, without}
+use Rattle.gx_orders.proofs.Staying.{data_is, live_within, no_verdict_uses, token_granted, used_stay, used_then}
+
+-- one lemma a word: what becomes of each, as a list
+pub all_stay : (os : List LiveOrder) → filter_map (λ (o : LiveOrder). Some o) os ≡ os
+all_stay [] = refl
+all_stay (o ∷ os) = ap (λ (more : List LiveOrder). o ∷ more) (all_stay os)
+
+those_go : (goes : LiveOrder → Bool) (os : List LiveOrder) → filter_map (λ (o : LiveOrder). cond (goes o) None (Some o)) os ≡ filter (λ (o : LiveOrder). not (goes o)) os
+those_go goes [] = refl
+those_go goes (o ∷ os) = ap (cons_option (cond (goes o) None (Some o))) (those_go goes os) ∙ at (goes o)
+  where
+    at : (b : Bool) → cons_option (cond b None (Some o)) (filter (λ (o : LiveOrder). not (goes o)) os) ≡ cond (not b) (o ∷ filter (λ (o : LiveOrder). not (goes o)) os) (filter (λ (o : LiveOrder). not (goes o)) os)
+    at true = refl
+    at false = refl
+
+those_change : (changes : LiveOrder → Bool) (change : LiveOrder → LiveOrder) (os : List LiveOrder) → AllByRecursion (λ (o : LiveOrder). is_open o ≡ true) os
+    → filter_map (λ (o : LiveOrder). cond (changes o) (while_open (change o)) (Some o)) os ≡ open_ones (map (λ (o : LiveOrder). cond (changes o) (change o) o) os)
+those_change changes change [] h = refl
+those_change changes change (o ∷ os) h = ap (cons_option (cond (changes o) (while_open (change o)) (Some o))) (those_change changes change os h.1) ∙ at (changes o)
+  where
+    rest : List LiveOrder
+    rest = open_ones (map (λ (o : LiveOrder). cond (changes o) (change o) o) os)
+
+    shown : (x : LiveOrder) (b : Bool) → cons_option (cond b (Some x) None) rest ≡ cond b (x ∷ rest) rest
+    shown x true = refl
+    shown x false = refl
+
+    at : (b : Bool) → cons_option (cond b (while_open (change o)) (Some o)) rest ≡ cond (is_open (cond b (change o) o)) (cond b (change o) o ∷ rest) rest
+    at true = shown (change o) (is_open (change o))
+    at false = ap (λ (b : Bool). cond b (o ∷ rest) rest) (sym h.0)
+
+all_change : (f : LiveOrder → LiveOrder) (os : List LiveOrder) → filter_map (λ (o : LiveOrder). Some (f o)) os ≡ map f os
+all_change f [] = refl
+all_change f (o ∷ os) = ap (λ (more : List LiveOrder). f o ∷ more) (all_change f os)
+
+-- the live orders that are kept, after a record that does this
+live_turned : (policy : PolicyData) (history : List RecordData) (step : Step) (r : RecordData) (turn : Turn) → IsLegal policy history → next policy history step ≡ Some r → turn_of policy (live policy history) r ≡ turn
+    → (orders_in_force policy (history ++ r ∷ [])).live ≡ turned turn (orders_in_force policy history).live
+live_turned policy history step r turn legal left is =
+    sym (live_is_kept policy (history ++ r ∷ [])) ∙ live_next policy history step r legal left ∙ ap (λ (t : Turn). turned t (live policy history)) is ∙ ap (turned turn) (live_is_kept policy history)
+
+all_open : (policy : PolicyData) (history : List RecordData) → AllByRecursion (λ (o : LiveOrder). is_open o ≡ true) (orders_in_force policy history).live
+all_open policy history = subst (AllByRecursion (λ (o : LiveOrder). is_open o ≡ true)) (live_is_kept policy history) (live_are_open policy history)
+
+-- what a granted request does
+turn_is : (policy : PolicyData) (history : List RecordData) (r : RecordData) (a : Asked) (q : Request) → Grants r a q → turn_of policy (live policy history) r ≡ turn_asked policy (live policy history) r a.user q
+turn_is policy history r a q g =
+    ap (λ (v : Verdict). turn_by policy (live policy history) r v r.step) g.grants
+    ∙ ap (λ (s : Step). turn_granted policy (live policy history) r s) g.asks
+    ∙ ap (λ (x : Request). turn_asked policy (live policy history) r a.user x) g.is_for
+
+-- the order under a token is the same in both
+named_is : (policy : PolicyData) (history : List RecordData) (user : UserName) (token : _) (o : LiveOrder) → order_under (orders_in_force policy history).live user token ≡ Some o → live_under (live policy history) user token ≡ Some o
+named_is policy history user token o named = ap (λ (os : List LiveOrder). live_under os user token) (live_is_kept policy history) ∙ named
+
+-- a granted Enter
+pub enters_more : EntersAreKept
+enters_more policy history a r m account legal left enters grants his =
+    let g : Grants r a (requests.Enter m) = it_grants policy history a r (requests.Enter m) left enters grants in
+    data_is _ _
+    (live_turned policy history (steps.Asked a) r (turns.Adds (new_order policy r a.user account m)) legal left
+    (turn_is policy history r a (requests.Enter m) g ∙ ap (λ (found : Option AccountName). option_map_or (λ (x : AccountName). turns.Adds (new_order policy r a.user x m)) found turns.Keeps) his)
+    ∙ ap (λ (os : List LiveOrder). os ++ new_order policy r a.user account m ∷ []) (all_stay (orders_in_force policy history).live))
+    (used_then history r _ (token_granted r a (requests.Enter m) g))
+
+-- a granted command
+command_ends : (policy : PolicyData) (history : List RecordData) (a : Asked) (r : RecordData) (action : Action) → IsLegal policy history → next policy history (steps.Asked a) ≡ Some r → action_of a.request ≡ Some action → r.verdict ≡ verdicts.Granted
+    → orders_in_force policy (history ++ r ∷ []) ≡ with_live (filter (λ (o : LiveOrder). not (ends_account o.account action)) (orders_in_force policy history).live) (orders_in_force policy history)
+command_ends policy history a r action legal left commands grants =
+    let c : (c : Command) × (a.request ≡ requests.Command c) × (c.action ≡ action) = command_of a.request action commands in
+    let g : Grants r a (requests.Command c.0) = it_grants policy history a r (requests.Command c.0) left c.1 grants in
+    data_is _ _
+    (live_turned policy history (steps.Asked a) r (turns.EndsAll action) legal left (turn_is policy history r a (requests.Command c.0) g ∙ ap turns.EndsAll c.2)
+    ∙ append-nil _
+    ∙ those_go (λ (o : LiveOrder). ends_account o.account action) (orders_in_force policy history).live)
+    (used_stay history r (token_granted r a (requests.Command c.0) g))
+
+pub kills_end : KillsAreKept
+kills_end policy history a r account legal left kills grants = command_ends policy history a r (actions.Kill account) legal left kills grants
+
+none_left : (live : List LiveOrder) → filter (λ (o : LiveOrder). not (ends_account o.account actions.CloseDay)) live ≡ []
+none_left [] = refl
+none_left (o ∷ os) = none_left os
+
+pub closes_end : ClosesAreKept
+closes_end policy history a r legal left closes grants =
+    command_ends policy history a r actions.CloseDay legal left closes grants
+    ∙ ap (λ (live : List LiveOrder). with_live live (orders_in_force policy history)) (none_left (orders_in_force policy history).live)
+
+-- a granted Cancel
+pub cuts_one : CancelsAreKept
+cuts_one policy history a r m o legal left cancels grants named =
+    let g : Grants r a (requests.Cancel m) = it_grants policy history a r (requests.Cancel m) left cancels grants in
+    data_is _ _
+    (live_turned policy history (steps.Asked a) r (turns.Sizes o.number m.shares) legal left
+    (turn_is policy history r a (requests.Cancel m) g
+    ∙ ap (λ (found : Option LiveOrder). option_map_or (λ (cut : LiveOrder). turns.Sizes cut.number m.shares) found turns.Keeps) (named_is policy history a.user m.token o named))
+    ∙ append-nil _
+    ∙ those_change (has_number o.number) (sized m.shares) (orders_in_force policy history).live (all_open policy history))
+    (used_stay history r (token_granted r a (requests.Cancel m) g))
+
+-- an order of another number that is entered first stays
+entered_first : (n : ℕ) (live : List LiveOrder) (o : LiveOrder) → has_number n o ≡ false → without n live ++ o ∷ [] ≡ without n (live ++ o ∷ [])
+entered_first n live o other =
+    ap (λ (b : Bool). without n live ++ cond (not b) (o ∷ []) []) (sym other) ∙ sym (filter-append (λ (p : LiveOrder). not (has_number n p)) live (o ∷ []))
+
+-- a granted Replace
+pub replaces_one : ReplacesAreKept
+replaces_one policy history a r m o legal left replaces grants named =
+    let g : Grants r a (requests.Replace m) = it_grants policy history a r (requests.Replace m) left replaces grants in
+    let place : r.number ≡ length history + 1 = number_left policy history (steps.Asked a) r left in
+    let live_now : List LiveOrder = (orders_in_force policy history).live in
+    let below : o.number < r.number = last_such_is (λ (x : LiveOrder). x.number < r.number) (is_under a.user m.existing_token) live_now o (live_within policy history r.number legal place) named in
+    let his : o.user ≡ a.user = user_is o.user a.user (both (same_user o.user a.user) (same_token o.token m.existing_token) (found_passes (is_under a.user m.existing_token) live_now o named)).0 in
+    data_is _ _
+    (live_turned policy history (steps.Asked a) r (turns.Replaces o.number (replacement_order r m o)) legal left
+    (turn_is policy history r a (requests.Replace m) g
+    ∙ ap (λ (found : Option LiveOrder). option_map_or (λ (old : LiveOrder). turns.Replaces old.number (replacement_order r m old)) found turns.Keeps) (named_is policy history a.user m.existing_token o named))
+    ∙ ap (λ (os : List LiveOrder). os ++ replacement_order r m o ∷ []) (those_go (has_number o.number) live_now)
+    ∙ entered_first o.number live_now (replacement_order r m o) (ne_eqb r.number o.number (λ e. absurd (omega arith))))
+    (used_then history r _ (token_granted r a (requests.Replace m) g)
+    ∙ ap (λ (user : UserName). (orders_in_force policy history).used ++ key user m.replacement_token ∷ []) (sym his))
+
+flipped : (a b : ℕ) → (a == b) ≡ (b == a)
+flipped a b = by (a == b) refl
+  where
+    clash : {x : Bool} → x ≡ true → x ≡ false → ⊥
+    clash h k = cc
+
+    by : (c : Bool) → (a == b) ≡ c → (a == b) ≡ (b == a)
+    by true e = e ∙ sym (eq-eqb b a (sym (eqb-true a b e)))
+    by false e = e ∙ sym (ne_eqb b a (λ same. clash (eq-eqb a b (sym same)) e))
+
+-- the same test, the other way round
+becomes_alike : (f g : LiveOrder → Option LiveOrder) → ((o : LiveOrder) → f o ≡ g o) → (os : List LiveOrder) → filter_map f os ≡ filter_map g os
+becomes_alike f g same [] = refl
+becomes_alike f g same (o ∷ os) = ap (λ (x : Option LiveOrder). cons_option x (filter_map f os)) (same o) ∙ ap (cons_option (g o)) (becomes_alike f g same os)
+
+-- a matching step
+pub rests_one : RestsAreKept
+rests_one policy history handed r number legal next_is rests =
+    data_is _ _
+    (live_turned policy history (steps.Matching handed) r (turns.Rests number) legal next_is (ap (λ (v : Verdict). turn_by policy (live policy history) r v r.step) rests)
+    ∙ append-nil _
+    ∙ becomes_alike (becomes (turns.Rests number)) (λ (o : LiveOrder). Some (cond (has_number number o) (at_rest o) o)) (λ o. ap (λ (b : Bool). Some (cond b (at_rest o) o)) (flipped number o.number)) (orders_in_force policy history).live
+    ∙ all_change (λ (o : LiveOrder). cond (has_number number o) (at_rest o) o) (orders_in_force policy history).live)
+    (used_stay history r (no_verdict_uses r (ap uses_token rests)))
+
+pub ends_one : ExpiriesAreKept
+ends_one policy history handed r number legal next_is expires =
+    data_is _ _
+    (live_turned policy history (steps.Matching handed) r (turns.Ends number) legal next_is (ap (λ (v : Verdict). turn_by policy (live policy history) r v r.step) expires)
+    ∙ append-nil _
+    ∙ becomes_alike (becomes (turns.Ends number)) (λ (o : LiveOrder). cond (has_number number o) None (Some o)) (λ o. ap (λ (b : Bool). cond {A = Option LiveOrder} b None (Some o)) (flipped number o.number)) (orders_in_force policy history).live
+    ∙ those_go (has_number number) (orders_in_force policy history).live)
+    (used_stay history r (no_verdict_uses r (ap uses_token expires)))
+
+-- what changes nothing
+live_stays : (policy : PolicyData) (history : List RecordData) (step : Step) (r : RecordData) → IsLegal policy history → next policy history step ≡ Some r → turn_of policy (live policy history) r ≡ turns.Keeps
+    → (orders_in_force policy (history ++ r ∷ [])).live ≡ (orders_in_force policy history).live
+live_stays policy history step r legal left is = live_turned policy history step r turns.Keeps legal left is ∙ append-nil _ ∙ all_stay (orders_in_force policy history).live
+
+lasts : (account : AccountName) (action : Action) → is_lasting action ≡ true → ends_account account action ≡ false
+lasts account (actions.Kill killed) h = cc
+lasts account (actions.Lift other) h = refl
+lasts account (actions.SetLimit rule limit) h = refl
+lasts account (actions.Restrict rule stock) h = refl
+lasts account (actions.Unrestrict rule stock) h = refl
+lasts account (actions.Grant reader other) h = refl
+lasts account (actions.Revoke reader other) h = refl
+lasts account actions.CloseDay h = cc
+
+all_left : (action : Action) → is_lasting action ≡ true → (live : List LiveOrder) → filter (λ (o : LiveOrder). not (ends_account o.account action)) live ≡ live
+all_left action h [] = refl
+all_left action h (o ∷ os) =
+    ap (λ (b : Bool). cond (not b) (o ∷ filter (λ (p : LiveOrder). not (ends_account p.account action)) os) (filter (λ (p : LiveOrder). not (ends_account p.account action)) os)) (lasts o.account action h)
+    ∙ ap (λ (rest : List LiveOrder). o ∷ rest) (all_left action h os)
+
+-- a Login, a Logout, or a command that ends no order
+quiet : (policy : PolicyData) (history : List RecordData) (a : Asked) (r : RecordData) (q : Request) → IsLegal policy history → next policy history (steps.Asked a) ≡ Some r → Grants r a q
+    → turn_asked policy (live policy history) r a.user q ≡ turns.Keeps → new_token q ≡ None → orders_in_force policy (history ++ r ∷ []) ≡ orders_in_force policy history
+quiet policy history a r q legal left g keeps none =
+    data_is _ _ (live_stays policy history (steps.Asked a) r legal left (turn_is policy history r a q g ∙ keeps)) (used_stay history r (token_granted r a q g ∙ ap (option_map (key a.user)) none))
+
+pub others_keep : OthersKeepOrders
+others_keep policy history a r legal left grants keeps = by a.request refl keeps
+  where
+    by : (q : Request) → a.request ≡ q → keeps_orders q ≡ true → orders_in_force policy (history ++ r ∷ []) ≡ orders_in_force policy history
+    by (requests.Login m) asks h = quiet policy history a r (requests.Login m) legal left (it_grants policy history a r (requests.Login m) left asks grants) refl refl
+    by requests.Logout asks h = quiet policy history a r requests.Logout legal left (it_grants policy history a r requests.Logout left asks grants) refl refl
+    by (requests.Unreadable m) asks h = quiet policy history a r (requests.Unreadable m) legal left (it_grants policy history a r (requests.Unreadable m) left asks grants) refl refl
+    by (requests.Enter m) asks h = cc
+    by (requests.Replace m) asks h = cc
+    by (requests.Cancel m) asks h = cc
+    by (requests.Command c) asks h =
+        command_ends policy history a r c.action legal left (ap action_of asks) grants
+        ∙ ap (λ (live : List LiveOrder). with_live live (orders_in_force policy history)) (all_left c.action h (orders_in_force policy history).live)
+
+-- a fill: first the taker, then the maker
+pub fills_both : FillsAreKept
+fills_both policy history handed r f legal next_is fills =
+    let fair : IsFair policy history f = fills_are_fair policy history handed r f legal next_is fills in
+    data_is _ _
+    (live_turned policy history (steps.Matching handed) r (turns.Fills f) legal next_is (ap (λ (v : Verdict). turn_by policy (live policy history) r v r.step) fills)
+    ∙ append-nil _
+    ∙ those_change (λ (o : LiveOrder). o.number == f.taker || o.number == f.maker) (filled f.shares) (orders_in_force policy history).live (all_open policy history)
+    ∙ in_turn f (differ f.taker f.maker fair.they_differ) (orders_in_force policy history).live)
+    (used_stay history r (no_verdict_uses r (ap uses_token fills)))

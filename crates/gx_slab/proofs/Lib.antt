@@ -1,0 +1,7 @@
+pub mod Finding
+pub mod Going
+pub mod Waiting
+pub mod Putting
+pub mod Writing
+pub mod Shutting
+pub mod Sweeping

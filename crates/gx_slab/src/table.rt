@@ -1,0 +1,136 @@
+//! The table.
+
+ghost use Rattle.std.specs.Prelude.{◌≡◌, ◌<◌, ◌^◌, [], ◌∷◌, ◌++◌, length, None, option_copied, IsTrue, OnOk, OnErr};
+ghost use Rattle.gx_slab.specs.Slabs.{first_waiting, is_open, of_others, order_numbered, written};
+
+use crate::live::LiveOrders;
+use crate::places::{make_room, place_of, thin_out};
+use crate::rows::{count_once_written, count_open, first_once_written, first_place, row, shut_all};
+use gx_history::live_order::LiveOrder;
+use gx_units::{AccountName, OutOfMemory};
+use std::alloc::Global;
+use std::marker::Model;
+
+/// Orders in rows, in the order in which they were put: found by number, and changed where they stand. Contracts see the
+/// list of those that are live. Rows of orders that have ended are taken out once they are more than the live ones (and
+/// some), so that a walk over the rows is one over the live orders, and a call takes the same time however many have ended.
+#[derive(Drop)]
+pub struct Table {
+    /// For each number where its live order stands; of the others it says nothing.
+    places: Vec<usize>,
+    /// Those that have ended have nothing open.
+    rows: Vec<LiveOrder>,
+    /// How many are live.
+    live: usize,
+    /// Where the first live one that waits stands; behind all where none does.
+    first: usize,
+}
+
+impl Model for Table {
+    ghost use Rattle.std.specs.Prelude.{List};
+    ghost use Rattle.gx_history.specs.declared.live_order.LiveOrder.{LiveOrder};
+    ghost use Rattle.gx_slab.specs.Slabs.{IsTable, open_ones};
+
+    ghost Value = { List LiveOrder };
+
+    ghost view = { λ t. open_ones t.rows.items };
+
+    ghost invariant = { λ t. IsTable t.places.items t.rows.items t.live t.first };
+}
+
+impl Table {
+    /// No order. It takes no memory.
+    pub fn new(alloc: Global) -> Table
+        ensures { result ≡ [] }
+    {
+        Table {
+            places: Vec::new(alloc),
+            rows: Vec::new(alloc),
+            live: 0,
+            first: 0,
+        }
+    }
+
+    /// How many orders are live. It looks at none.
+    pub fn count(&self) -> usize
+        ensures counted { result ≡ length self.now }
+        ensures few { result < 2 ^ 63 }
+    {
+        let _ = self.rows.len();
+        self.live
+    }
+
+    /// The live order of this number.
+    pub fn get(&self, number: u64) -> Option<&LiveOrder>
+        ensures { option_copied result ≡ order_numbered self.now number }
+    {
+        let place = place_of(&self.places, &self.rows, number)?;
+        row(&self.rows, place)
+    }
+
+    /// The first live order that waits. It looks at no other.
+    pub fn first_waiting(&self) -> Option<&LiveOrder>
+        ensures { option_copied result ≡ first_waiting self.now }
+    {
+        row(&self.rows, self.first)
+    }
+
+    /// The live orders, in the order in which they were put.
+    pub fn live(&self) -> LiveOrders<'_>
+        ensures { result ≡ self.now }
+    {
+        LiveOrders::of(&self.rows)
+    }
+
+    /// Puts the order last.
+    ///
+    /// # Errors
+    ///
+    /// `OutOfMemory` where there is no memory for one more; then nothing has changed.
+    pub fn push(&mut self, order: LiveOrder) -> Result<(), OutOfMemory>
+        requires lives { IsTrue (is_open order) }
+        requires fresh { order_numbered self.old order.number ≡ None }
+        ensures ok { OnOk result (self.new ≡ self.old ++ order ∷ []) }
+        ensures err { OnErr result (self.new ≡ self.old) }
+    {
+        self.rows.reserve(1)?;
+        make_room(&mut self.places, order.number)?;
+        self.places[order.number as usize] = self.rows.len();
+        self.rows.push_reserved(order);
+        self.live += 1;
+        self.first = first_place(&self.rows, self.first);
+        Ok(())
+    }
+
+    /// Writes the order in the place of the one of its number, if that is live; it is gone where nothing of it is open.
+    /// It takes no memory.
+    pub fn write(&mut self, order: LiveOrder)
+        ensures { self.new ≡ written order self.old }
+    {
+        let Some(place) = place_of(&self.places, &self.rows, order.number) else {
+            return;
+        };
+        let from = first_once_written(&order, place, self.first);
+        self.rows[place] = order;
+        self.live = count_once_written(&order, self.live);
+        self.first = thin_out(&mut self.places, &mut self.rows, self.live, from);
+    }
+
+    /// All orders of the account have ended. It looks at each live order in turn, and takes no memory.
+    pub fn end_account(&mut self, account: AccountName)
+        ensures { self.new ≡ of_others account self.old }
+    {
+        shut_all(&mut self.rows, account);
+        self.live = count_open(&self.rows);
+        self.first = thin_out(&mut self.places, &mut self.rows, self.live, self.first);
+    }
+
+    /// All orders have ended. It takes no memory.
+    pub fn end_all(&mut self)
+        ensures { self.new ≡ [] }
+    {
+        self.rows.clear();
+        self.live = 0;
+        self.first = 0;
+    }
+}
