@@ -1,5 +1,5 @@
 -- What may never be answered.
-use Rattle.std.specs.Prelude.{Bool, true, false, Option, Some, None}
+use Rattle.std.specs.Prelude.{Option, Some, None}
 use Rattle.gx_units.specs.declared.names.Token.{Token}
 use Rattle.gx_ouch.specs.declared.inbound.Inbound.{Inbound}
 use Rattle.gx_ouch.specs.declared.inbound.Inbound.TheVariants as inbounds

@@ -56,7 +56,7 @@ denials_tell_who_asked policy history a r rule legal left denied =
     (ap (λ (v : Verdict). w.executions ++ sides_in w.orders v) denied ∙ append-nil w.executions)
 
 -- after a granted request
-granted_world : (policy : PolicyData) (history : List RecordData) (a : Asked) (r : RecordData) (q : Request) → IsLegal policy history → next policy history (steps.Asked a) ≡ Some r → a.request ≡ q → r.verdict ≡ verdicts.Granted
+pub granted_world : (policy : PolicyData) (history : List RecordData) (a : Asked) (r : RecordData) (q : Request) → IsLegal policy history → next policy history (steps.Asked a) ≡ Some r → a.request ≡ q → r.verdict ≡ verdicts.Granted
     → let w : World = world policy history in
     world policy (history ++ r ∷ []) ≡ after w r (w.orders ++ orders_made policy w.orders r a.user q) w.executions (moved policy r (move_asked policy w r a q) w)
 granted_world policy history a r q legal left asks granted =

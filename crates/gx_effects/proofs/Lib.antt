@@ -45,6 +45,7 @@ pub mod Closing
 pub mod Accounts
 pub mod Live
 pub mod Sides
+pub mod Resting
 pub mod World
 pub mod WorldKept
 pub mod Moving

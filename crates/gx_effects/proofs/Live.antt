@@ -401,7 +401,7 @@ filter_kept p f (x ∷ xs) =
     ∙ elim (p (f x)) as (λ b. cond b (f x ∷ map f (filter (λ y. p (f y)) xs)) (map f (filter (λ y. p (f y)) xs)) ≡ map f (cond b (x ∷ filter (λ y. p (f y)) xs) (filter (λ y. p (f y)) xs)))
     [ true ↦ refl | false ↦ refl ]
 
-last_kept : {X Y : Type 0} (f : X → Y) (xs : List X) (o : Option X) → last_or (option_map f o) (map f xs) ≡ option_map f (last_or o xs)
+pub last_kept : {X Y : Type 0} (f : X → Y) (xs : List X) (o : Option X) → last_or (option_map f o) (map f xs) ≡ option_map f (last_or o xs)
 last_kept f [] o = refl
 last_kept f (x ∷ xs) o = last_kept f xs (Some x)
 

@@ -259,3 +259,8 @@ may_move policy history (steps.Asked a) r legal left =
     subst (λ (s : Step). MayMove policy (world policy history) r (move_by policy (world policy history) r r.verdict s)) (sym (step_left policy history (steps.Asked a) r left)) (by_asked policy history a r legal left r.verdict refl)
 may_move policy history (steps.Matching handed) r legal left =
     subst (λ (s : Step). MayMove policy (world policy history) r (move_by policy (world policy history) r r.verdict s)) (sym (step_left policy history (steps.Matching handed) r left)) (by_match policy history handed r legal left r.verdict refl)
+
+-- by its verdict
+pub may_by : (policy : PolicyData) (history : List RecordData) (step : Step) (r : RecordData) (v : Verdict) → IsLegal policy history → next policy history step ≡ Some r → r.verdict ≡ v
+    → MayMove policy (world policy history) r (move_by policy (world policy history) r v r.step)
+may_by policy history step r v legal left e = subst (λ (x : Verdict). MayMove policy (world policy history) r (move_by policy (world policy history) r x r.step)) e (may_move policy history step r legal left)

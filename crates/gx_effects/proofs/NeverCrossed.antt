@@ -99,7 +99,7 @@ resting_ordered policy history stock buy =
     subst (IsInOrder (is_ahead buy)) (sym (placed_on_side buy [] those (rest_on_side stock buy found))) (ordered_by (is_ahead buy) (prices_rank buy) (not_ahead_of_itself buy) [] those tt)
 
 -- what holds of all found holds of each that is found
-all_unfound : {X Y : Type 0} (Q : Y → Type 0) (f : X → Option Y) (xs : List X) → AllByRecursion Q (filter_map f xs) → AllByRecursion (λ (x : X). (y : Y) → f x ≡ Some y → Q y) xs
+pub all_unfound : {X Y : Type 0} (Q : Y → Type 0) (f : X → Option Y) (xs : List X) → AllByRecursion Q (filter_map f xs) → AllByRecursion (λ (x : X). (y : Y) → f x ≡ Some y → Q y) xs
 all_unfound Q f [] h = tt
 all_unfound {X} {Y} Q f (x ∷ xs) h = at (f x) refl h (all_unfound Q f xs)
   where
@@ -114,7 +114,7 @@ all_unfound {X} {Y} Q f (x ∷ xs) h = at (f x) refl h (all_unfound Q f xs)
     at None e k deeper = (λ y l. nothing y e l, deeper k)
     at (Some z) e k deeper = (λ y l. subst Q (some_same (sym e ∙ l)) k.0, deeper k.1)
 
-any_of : (R : ℕ → Type 0) (ns : List ℕ) (k : ℕ) → AllByRecursion R ns → list_any (λ n. n == k) ns ≡ true → R k
+pub any_of : (R : ℕ → Type 0) (ns : List ℕ) (k : ℕ) → AllByRecursion R ns → list_any (λ n. n == k) ns ≡ true → R k
 any_of R [] k h e = cc
 any_of R (n ∷ ns) k h e = at (n == k) refl e (any_of R ns k h.1)
   where

@@ -44,7 +44,7 @@ use Rattle.gx_effects.proofs.Orderly.{IsOrderly, legal_is_orderly}
 use Rattle.gx_effects.proofs.Priority.{IsParted, IsRanking, lower, no_lower, placed_parted}
 
 -- an order that goes on has its number and its terms, and waits as before unless it is put to rest
-abbrev IsSame : Bool → LiveOrder → LiveOrder → Type 0
+abbrev pub IsSame : Bool → LiveOrder → LiveOrder → Type 0
 IsSame rests o x = (x.number ≡ o.number) × (x.terms ≡ o.terms) × (rests ≡ false → x.waits ≡ o.waits)
 
 it_is : (rests : Bool) (o x : LiveOrder) → o ≡ x → IsSame rests o x
@@ -70,11 +70,11 @@ open_or_not : (b : Bool) (o y x : LiveOrder) → IsSame false o y → cond b (wh
 open_or_not true o y x h k = subst (IsSame false o) (open_is y x k) h
 open_or_not false o y x h k = it_is false o x (some_is o x k)
 
-abbrev puts_to_rest : Turn → Bool
+abbrev pub puts_to_rest : Turn → Bool
 puts_to_rest (Rests number) = true
 puts_to_rest other = false
 
-becomes_same : (turn : Turn) (o x : LiveOrder) → becomes turn o ≡ Some x → IsSame (puts_to_rest turn) o x
+pub becomes_same : (turn : Turn) (o x : LiveOrder) → becomes turn o ≡ Some x → IsSame (puts_to_rest turn) o x
 becomes_same Keeps o x h = it_is false o x (some_is o x h)
 becomes_same (Adds new) o x h = it_is false o x (some_is o x h)
 becomes_same (Sizes number size) o x h = open_or_not (o.number == number) o (record o { total = size }) x (refl, refl, λ k. refl) h
@@ -166,7 +166,7 @@ all_wait [] number h = refl
 all_wait (o ∷ os) number h = ap (λ (b : Bool). cond b (o ∷ filter (λ (o : LiveOrder). o.waits) os) (filter (λ (o : LiveOrder). o.waits) os)) h.0.1 ∙ ap (λ (more : List LiveOrder). o ∷ more) (all_wait os number h.1)
 
 -- what comes new has the record's number, and waits
-abbrev AreNew : RecordData → Turn → Type 0
+abbrev pub AreNew : RecordData → Turn → Type 0
 AreNew r turn = AllByRecursion (λ (o : LiveOrder). (o.number ≡ r.number) × (o.waits ≡ true)) (new_in turn)
 
 new_asked : (policy : PolicyData) (found : List LiveOrder) (r : RecordData) (user : UserName) (q : Request) → AreNew r (turn_asked policy found r user q)
@@ -178,7 +178,7 @@ new_asked policy found r user (requests.Cancel m) =
     elim (live_under found user m.token) as (λ (x : Option LiveOrder). AreNew r (option_map_or (λ (cut : LiveOrder). Sizes cut.number m.shares) x Keeps)) [ None ↦ tt | Some cut ↦ tt ]
 new_asked policy found r user other = tt
 
-new_by : (policy : PolicyData) (found : List LiveOrder) (r : RecordData) (v : Verdict) (s : Step) → AreNew r (turn_by policy found r v s)
+pub new_by : (policy : PolicyData) (found : List LiveOrder) (r : RecordData) (v : Verdict) (s : Step) → AreNew r (turn_by policy found r v s)
 new_by policy found r verdicts.Granted (steps.Asked a) = new_asked policy found r a.user a.request
 new_by policy found r verdicts.Granted (steps.Matching handed) = tt
 new_by policy found r (verdicts.Denied rule) s = tt
@@ -229,7 +229,7 @@ waiting_next policy history step r legal left =
     by (Ends number) new = waits_turned r (Ends number) (live policy history) refl new
 
 -- a price is better, and no better, in a row
-ahead_ranks : (buy : Bool) → IsRanking (ahead buy)
+pub ahead_ranks : (buy : Bool) → IsRanking (ahead buy)
 ahead_ranks true = record {
   goes_on = λ (a b c : LiveOrder) h k. lower c.terms.price b.terms.price a.terms.price k h;
   stays_behind = λ (a b c : LiveOrder) h k. no_lower c.terms.price b.terms.price a.terms.price k h;
@@ -249,7 +249,7 @@ there_alike stock buy o x e = ap (λ (t : OrderTerms). same_stock t.stock stock 
 abbrev side_of : List LiveOrder → List ℕ → Symbol → Bool → List LiveOrder
 side_of found came stock buy = in_order (ahead buy) (filter (is_there stock buy) (filter_map (live_numbered found) came))
 
-live_apart : (policy : PolicyData) (history : List RecordData) → IsOrderly policy history → AreApart (λ (o : LiveOrder). o.number) (live policy history)
+pub live_apart : (policy : PolicyData) (history : List RecordData) → IsOrderly policy history → AreApart (λ (o : LiveOrder). o.number) (live policy history)
 unfolding live_orders
 live_apart policy history orderly =
     subst (AreApart (λ (o : LiveOrder). o.number)) (sym (live_is_kept policy history))
@@ -267,7 +267,7 @@ side_goes_on turn r os came stock buy apart new others =
     ∙ places_turned (ahead buy) (ahead_ranks buy) (becomes turn) (λ x y u v e f. ahead_alike buy x y u v (becomes_same turn x u e).1 (becomes_same turn y v f).1) [] (filter (is_there stock buy) (filter_map (live_numbered os) came)) (λ x. refl)
 
 -- where one does
-number_found : (os : List LiveOrder) (n : ℕ) (o : LiveOrder) → live_numbered os n ≡ Some o → (o.number == n) ≡ true
+pub number_found : (os : List LiveOrder) (n : ℕ) (o : LiveOrder) → live_numbered os n ≡ Some o → (o.number == n) ≡ true
 number_found [] n o h = cc
 number_found (x ∷ os) n o h = at (x.number == n) refl h (number_found os n o)
   where
@@ -349,7 +349,7 @@ goes_by policy found r (requests.Replace m) user =
 goes_by policy found r (requests.Cancel m) user = elim (live_under found user m.token) as (λ (x : Option LiveOrder). puts_to_rest (option_map_or (λ (cut : LiveOrder). Sizes cut.number m.shares) x Keeps) ≡ false) [ None ↦ refl | Some cut ↦ refl ]
 goes_by policy found r other user = refl
 
-goes : (policy : PolicyData) (found : List LiveOrder) (r : RecordData) (v : Verdict) (s : Step) → rested_of v ≡ None → puts_to_rest (turn_by policy found r v s) ≡ false
+pub goes : (policy : PolicyData) (found : List LiveOrder) (r : RecordData) (v : Verdict) (s : Step) → rested_of v ≡ None → puts_to_rest (turn_by policy found r v s) ≡ false
 goes policy found r verdicts.Granted (steps.Asked a) h = goes_by policy found r a.request a.user
 goes policy found r verdicts.Granted (steps.Matching handed) h = refl
 goes policy found r (verdicts.Denied rule) s h = refl

@@ -32,9 +32,10 @@ impl From<OutOfMemory> for ReadFault {
     }
 }
 
-/// Reads once, at most so many bytes, and puts them last: how many came.
+/// Reads once, by way of this room, at most so many bytes, and puts them last: how many came.
 fn read_more<R: Read>(
     reader: &mut Counted<R>,
+    room: &mut [u8; PIECE],
     bytes: &mut Vec<u8>,
     most: usize,
 ) -> Result<usize, ReadFault>
@@ -51,7 +52,6 @@ fn read_more<R: Read>(
     ensures told { IfErr result (IsBlamed reader.old.failed reader.new.failed) }
     ensures not_long { IfErr result (λ e. e ≢ faults.TooLong) }
 {
-    let mut room = [0u8; PIECE];
     let size = most.min(PIECE);
     match reader.read(&mut room[..size]) {
         Ok(n) => put(bytes, &room[..n]),
@@ -95,9 +95,10 @@ pub fn read_within<R: Read>(
     ensures told { IfErr result (IsBlamed reader.old.failed reader.new.failed) }
 {
     let mut bytes = Vec::new(alloc);
+    let mut room = [0u8; PIECE];
     while bytes.len() <= most {
         let left = (most - bytes.len()).saturating_add(1);
-        if read_more(reader, &mut bytes, left)? == 0 {
+        if read_more(reader, &mut room, &mut bytes, left)? == 0 {
             return Ok(bytes);
         }
     }

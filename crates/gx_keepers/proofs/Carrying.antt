@@ -55,7 +55,7 @@ use Rattle.gx_orders.proofs.Turned.{enters_more, others_keep}
 use Rattle.gx_orders.proofs.Tokens.{denied_is_new}
 use Rattle.gx_market.specs.BookInForce.{book_in_force}
 use Rattle.gx_market.specs.Changes.{keeps_book}
-use Rattle.gx_market.proofs.Requested as booked
+use Rattle.gx_market.proofs.ByKind as booked
 use Rattle.gx_people.specs.Entitled.{given, people_in_force}
 use Rattle.gx_people.proofs.Keeping.{accounts_stay, next_users}
 use Rattle.gx_streams.specs.Kept.{places_in}

@@ -50,7 +50,7 @@ use Rattle.gx_orders.proofs.Turned.{closes_end, kills_end, others_keep}
 use Rattle.gx_orders.proofs.Telling.{ends_are_told}
 use Rattle.gx_book.specs.Books.{StockOrders}
 use Rattle.gx_market.specs.Changes.{ended_by}
-use Rattle.gx_market.proofs.Requested as booked
+use Rattle.gx_market.proofs.ByKind as booked
 use Rattle.gx_people.specs.Entitled.{given, has_room, people_in_force}
 use Rattle.gx_people.proofs.Room.{readers_have_room}
 use Rattle.gx_streams.specs.Kept.{UserList, places_in}
@@ -366,7 +366,7 @@ command_goes_on policy history a r c code before k sent t granted asks sound peo
     by_grant policy history a r before k (requests.Command c) t.in_force granted (step_left policy history (steps.Asked a) r t.left) asks people_are rules_are day_is
     (orders_are ∙ ap (λ (orders : OrdersData). with_live (live_left c.action orders.live) orders) t.in_force.orders
     ∙ sym (orders_left policy history a r c t.legal t.left granted asks c.action refl))
-    (book_is ∙ ap (ended_by c.action) t.in_force.book ∙ sym (booked.ends_by policy history a r c.action t.legal t.left granted a.request refl (ap action_of asks)))
+    (book_is ∙ ap (ended_by c.action) t.in_force.book ∙ sym (booked.ends_by policy history a r c.action t.legal t.left granted (ap action_of asks)))
     (command_figured policy history a r c before k.ledger t granted asks closes)
     (ap shown streams_are ∙ all_owed_shown sent owed
     ∙ ap (each_told (owed_to owed)) (shown_by_told sent before.streams (ap (λ (s : AllStreams). s.told) sent_is ∙ sent_told policy before.people k.people before.streams c.action) ∙ t.in_force.streams)

@@ -1,10 +1,10 @@
 -- What a granted Cancel makes of the keepers.
 use Rattle.std.proofs.Common.{◌≡◌, ℕ, ◌-◌, ◌<◌, true, List, [], ◌∷◌, ◌++◌, ◌∙◌, ap, sym, map}
-use Rattle.std.specs.Prelude.{Option, Some, ◌&&◌, is_some, option_map}
-use Rattle.gx_units.specs.Names.{same_token, same_user}
+use Rattle.std.specs.Prelude.{Option, Some, is_some}
+use Rattle.std.specs.Option.{option_map_or}
+use Rattle.gx_units.specs.declared.names.UserName.{UserName}
 use Rattle.gx_ouch.specs.declared.inbound.CancelOrder.{CancelOrder}
 use Rattle.gx_ouch.specs.declared.letters.CancelReason.TheVariants as cancels
-use Rattle.gx_ouch.specs.declared.outbound.Outbound.TheVariants as outbounds
 use Rattle.gx_policy.specs.declared.policy.PolicyData.{PolicyData}
 use Rattle.gx_history.specs.declared.record.Asked.{Asked}
 use Rattle.gx_history.specs.declared.record.RecordData.{RecordData}
@@ -12,26 +12,18 @@ use Rattle.gx_history.specs.declared.record.Request.TheVariants as requests
 use Rattle.gx_history.specs.declared.record.Step.TheVariants as steps
 use Rattle.gx_history.specs.declared.record.Verdict.TheVariants as verdicts
 use Rattle.gx_history.specs.declared.report.Message.{Message}
-use Rattle.gx_history.specs.declared.report.Message.TheVariants as messages
-use Rattle.gx_history.specs.declared.report.Report.{Report}
-use Rattle.gx_history.specs.Effects.{CutsOrder}
-use Rattle.gx_history.specs.Executions.{Standing, done, executions, live_orders}
 use Rattle.gx_history.specs.Streams.{reported, stream, to_user}
+use Rattle.gx_history.specs.World.{World, Nothing, Sizes, moved, world}
 use Rattle.gx_history_laws.proofs.Granting.{verdict_of_next}
-use Rattle.gx_history_laws.proofs.Order.{some_same}
-use Rattle.gx_history_laws.proofs.Owners.{last_such_is}
 use Rattle.gx_history_laws.proofs.Runs.{step_left}
-use Rattle.gx_effects.proofs.Cutting.{cancel_takes_effect}
+use Rattle.gx_effects.proofs.ByKind.{granted_world}
 use Rattle.gx_history.specs.declared.live_order.LiveOrder.{LiveOrder}
-use Rattle.gx_history.specs.LiveOrders.{kept}
 use Rattle.gx_orders.specs.Changes.{with_live}
-use Rattle.gx_orders.specs.InForce.{orders_in_force}
 use Rattle.gx_orders.specs.LiveOrders.{OrdersData, cut_at, order_under}
 use Rattle.gx_orders.proofs.Cutting.{cancels_name_one}
 use Rattle.gx_orders.proofs.Turned.{cuts_one}
-use Rattle.gx_orders.proofs.Keeping.{IsKeptOpen, open_is, under_is}
 use Rattle.gx_market.specs.Changes.{cut_from, left_with}
-use Rattle.gx_market.proofs.Requested.{cancels_take}
+use Rattle.gx_market.proofs.ByKind.{cancels_take}
 use Rattle.gx_streams.specs.Kept.{places_in}
 use Rattle.gx_streams.specs.Laws.{TellsOne}
 use Rattle.gx_streams.specs.Streams.{AllStreams}
@@ -42,7 +34,7 @@ use Rattle.gx_keepers.specs.declared.keepers.Keepers.{Keepers}
 use Rattle.gx_keepers.specs.Keepers.{AreInForceBut, HavePlaces, Takes, with_told}
 use Rattle.gx_keepers.specs.Messages.{canceled_message}
 use Rattle.gx_keepers.proofs.Carrying.{by_grant, has_place, still_sent}
-use Rattle.gx_keepers.proofs.Figuring.{cancel_figured}
+use Rattle.gx_keepers.proofs.Figuring.{cancel_figured, is_his, under_kept}
 
 -- a granted Cancel names a live order
 pub cut_is_there : (policy : PolicyData) (history : List RecordData) (a : Asked) (r : RecordData) (m : CancelOrder) (k : Keepers) (found : Option LiveOrder)
@@ -51,11 +43,6 @@ cut_is_there policy history a r m k found t grants asks is =
     ap is_some (is ∙ ap (λ (d : OrdersData). order_under d.live a.user m.token) t.in_force.orders)
     ∙ cancels_name_one policy history a m t.legal asks (sym (verdict_of_next policy history a r t.left) ∙ grants)
 
--- as definitions say
-names_it : (policy : PolicyData) (history : List RecordData) (a : Asked) (r : RecordData) (m : CancelOrder) (k : Keepers) (o : LiveOrder)
-    → Takes policy history a r k → order_under k.orders.live a.user m.token ≡ Some o → order_under (orders_in_force policy history).live a.user m.token ≡ Some o
-names_it policy history a r m k o t found = sym (ap (λ (d : OrdersData). order_under d.live a.user m.token) t.in_force.orders) ∙ found
-
 -- what its user is told
 abbrev pub cut_message : LiveOrder → ℕ → Message
 cut_message o total = canceled_message o (cut_from o total) cancels.UserRequested
@@ -63,26 +50,10 @@ cut_message o total = canceled_message o (cut_from o total) cancels.UserRequeste
 pub cancel_tells : (policy : PolicyData) (history : List RecordData) (a : Asked) (r : RecordData) (m : CancelOrder) (k : Keepers) (o : LiveOrder)
     → Takes policy history a r k → r.verdict ≡ verdicts.Granted → a.request ≡ requests.Cancel m → order_under k.orders.live a.user m.token ≡ Some o
     → TellsOne policy history (history ++ r ∷ []) r a.user (cut_message o m.shares ∷ [])
-cancel_tells policy history a r m k o t grants asks found = tells (cancel_takes_effect policy history a r m t.legal t.left asks grants)
-  where
-    tells : CutsOrder policy history (history ++ r ∷ []) r a.user m → TellsOne policy history (history ++ r ∷ []) r a.user (cut_message o m.shares ∷ [])
-    tells is user =
-        is.told user
-        ∙ ap (λ (n : ℕ). told_so (is.cut.open_shares - n)) is.is_left
-        ∙ ap (λ (n : ℕ). told_so (n - (m.shares - done (executions policy history) is.cut.order))) opened.0
-        ∙ ap (λ (x : LiveOrder). stream policy history user ++ map (reported r) (to_user a.user user (cut_message x m.shares ∷ []))) (sym it)
-      where
-        told_so : ℕ → List Report
-        told_so n =
-            stream policy history user
-            ++ map (reported r) (to_user a.user user (messages.Order (outbounds.Canceled (record { token = is.cut.order.token; decrement = n; reason = cancels.UserRequested })) ∷ []))
-
-        opened : IsKeptOpen policy history is.cut
-        opened =
-            last_such_is (IsKeptOpen policy history) (λ (s : Standing). same_user s.order.user a.user && same_token s.order.token m.token) (live_orders policy history) is.cut (open_is policy history) is.is_named
-
-        it : o ≡ kept policy history is.cut
-        it = some_same (sym (names_it policy history a r m k o t found) ∙ sym (under_is policy history a.user m.token) ∙ ap (option_map (kept policy history)) is.is_named)
+cancel_tells policy history a r m k o t grants asks found user =
+    ap (λ (w : World). w.streams user) (granted_world policy history a r (requests.Cancel m) t.legal t.left asks grants)
+    ∙ ap (λ (named : Option LiveOrder). (moved policy r (option_map_or (λ (cut : LiveOrder). Sizes cut m.shares) named Nothing) (world policy history)).streams user) (under_kept policy history a r k (Some o) m.token t found)
+    ∙ ap (λ (his : UserName). stream policy history user ++ map (reported r) (to_user his user (cut_message o m.shares ∷ []))) (is_his a.user m.token k.orders.live o found)
 
 pub cancel_has_place : (policy : PolicyData) (history : List RecordData) (a : Asked) (r : RecordData) (m : CancelOrder) (k : Keepers) (o : LiveOrder)
     → Takes policy history a r k → HavePlaces policy history r k.streams → r.verdict ≡ verdicts.Granted → a.request ≡ requests.Cancel m
@@ -101,9 +72,9 @@ pub cancel_goes_on : (policy : PolicyData) (history : List RecordData) (a : Aske
 cancel_goes_on policy history a r m before k o fewer left message t grants asks found fewer_is left_is message_is people_are rules_are day_is orders_are book_is cuts streams_are =
     by_grant policy history a r before k (requests.Cancel m) t.in_force grants (step_left policy history (steps.Asked a) r t.left) asks people_are rules_are day_is
     (orders_are ∙ ap (λ (d : OrdersData). with_live (cut_at o.number m.shares d.live) d) t.in_force.orders
-    ∙ sym (cuts_one policy history a r m o t.legal t.left asks grants (names_it policy history a r m before o t found)))
+    ∙ sym (cuts_one policy history a r m o t.legal t.left asks grants (under_kept policy history a r before (Some o) m.token t found)))
     (book_is ∙ ap (λ (n : ℕ). left_with o n before.book) left_is ∙ ap (left_with o (m.shares - o.done)) t.in_force.book
-    ∙ sym (cancels_take policy history a r m o t.legal t.left asks grants (names_it policy history a r m before o t found)))
+    ∙ sym (cancels_take policy history a r m o t.legal t.left asks grants (under_kept policy history a r before (Some o) m.token t found)))
     (cancel_figured policy history a r m before o fewer k.ledger t grants asks found fewer_is cuts)
     (ap shown (streams_are
     ∙ ap (λ (x : Message). with_told a.user r.moment (Some x) before.streams) (message_is ∙ ap (λ (n : ℕ). canceled_message o n cancels.UserRequested) fewer_is))

@@ -28,21 +28,26 @@ use Rattle.gx_history.specs.declared.record.Verdict.TheVariants as verdicts
 use Rattle.gx_history.specs.Effects.{replacement, whole_order}
 use Rattle.gx_history.specs.Executions.{Standing, done, executions, live_orders, standing_numbered, standing_under}
 use Rattle.gx_history.specs.Figures.{Positions}
-use Rattle.gx_history.specs.Matched.{ExpiresOrder}
+use Rattle.gx_history.specs.MayMove.{MayExpire, MayFill}
 use Rattle.gx_history.specs.Orders.{ends_account}
 use Rattle.gx_policy.specs.People.{account_of}
 use Rattle.gx_history.specs.Verdicts.{FitsDay, IsLegal, next}
 use Rattle.gx_history_laws.proofs.NextReports.{legal_next}
 use Rattle.gx_history_laws.proofs.Order.{some_same}
+use Rattle.gx_history_laws.proofs.Adding.{found_passes, user_is}
+use Rattle.gx_history_laws.proofs.Judging.{both}
+use Rattle.gx_units.specs.Names.{same_token, same_user}
+use Rattle.gx_units.specs.declared.names.Token.{Token}
+use Rattle.gx_units.specs.declared.names.UserName.{UserName}
 use Rattle.gx_history_laws.proofs.Owners.{filtered, last_such_is}
 use Rattle.gx_history_laws.proofs.Runs.{step_left}
 use Rattle.gx_effects.specs.OneMore as ones
 use Rattle.gx_effects.specs.OneMore.{change_by, change_by_request, change_of}
 use Rattle.gx_effects.proofs.Entered.{all_mapped}
-use Rattle.gx_effects.proofs.Expiries.{end_takes_effect}
-use Rattle.gx_effects.proofs.Fills.{IsFill, is_fill}
+use Rattle.gx_effects.proofs.Live.{live_is_kept}
+use Rattle.gx_effects.proofs.Moving.{may_by}
 use Rattle.gx_effects.proofs.NewOrders.{found_is}
-use Rattle.gx_effects.proofs.Orderly.{legal_is_orderly}
+use Rattle.gx_history.specs.World.{world}
 use Rattle.gx_history.specs.declared.live_order.LiveOrder.{LiveOrder}
 use Rattle.gx_history.specs.LiveOrders.{is_under, kept, replacement_order}
 use Rattle.gx_orders.specs.Changes.{is_lasting, keeps_orders, waiting_order}
@@ -50,7 +55,7 @@ use Rattle.gx_orders.specs.InForce.{orders_in_force}
 use Rattle.gx_orders.specs.LiveOrders.{OrdersData, first_waiting, has_number, order_numbered, order_under}
 use Rattle.gx_orders.proofs.Keeping.{under_is}
 use Rattle.gx_market.specs.Changes.{cut_from}
-use Rattle.gx_market.proofs.Crossing.{first_is_kept}
+use Rattle.gx_market.proofs.ByKind.{is_first}
 use Rattle.gx_positions.specs.Changing.{live_positions, nothing, positions_with}
 use Rattle.gx_positions.specs.Sound.{AreSound, MayChange, MayLeave, numbers_of}
 use Rattle.gx_positions.proofs.GoingOn.{days_begin_empty, positions_go_on, records_may_come}
@@ -128,7 +133,9 @@ begins policy ledger stands = subst (StandsFor policy ledger) (sym (days_begin_e
 
 -- each live order that is kept is held
 live_held : (policy : PolicyData) (history : List RecordData) → IsLegal policy history → AllByRecursion (IsHeld (live_positions policy history)) (orders_in_force policy history).live
-live_held policy history legal = all_mapped (IsHeld (live_positions policy history)) (kept policy history) (live_orders policy history) (all_held policy history legal)
+live_held policy history legal =
+    subst (AllByRecursion (IsHeld (live_positions policy history))) (sym (live_is_kept policy history))
+    (all_mapped (IsHeld (live_positions policy history)) (kept policy history) (live_orders policy history) (all_held policy history legal))
 
 -- ---- what nothing changes
 
@@ -213,9 +220,13 @@ enter_figured policy history a r m account before o new t grants enters his is a
 -- ---- a Cancel
 
 -- the order that is kept under the token
-pub under_kept : (policy : PolicyData) (history : List RecordData) (a : Asked) (r : RecordData) (k : Keepers) (o : LiveOrder) (token : _)
-    → Takes policy history a r k → order_under k.orders.live a.user token ≡ Some o → order_under (orders_in_force policy history).live a.user token ≡ Some o
-under_kept policy history a r k o token t found = sym (ap (λ (d : OrdersData). order_under d.live a.user token) t.in_force.orders) ∙ found
+pub under_kept : (policy : PolicyData) (history : List RecordData) (a : Asked) (r : RecordData) (k : Keepers) (found : Option LiveOrder) (token : Token)
+    → Takes policy history a r k → order_under k.orders.live a.user token ≡ found → order_under (orders_in_force policy history).live a.user token ≡ found
+under_kept policy history a r k found token t is = sym (ap (λ (d : OrdersData). order_under d.live a.user token) t.in_force.orders) ∙ is
+
+-- it is his
+pub is_his : (user : UserName) (token : Token) (live : List LiveOrder) (o : LiveOrder) → order_under live user token ≡ Some o → o.user ≡ user
+is_his user token live o found = user_is o.user user (both (same_user o.user user) (same_token o.token token) (found_passes (is_under user token) live o found)).0
 
 cut_by : (policy : PolicyData) (history : List RecordData) (m : CancelOrder) (o : LiveOrder) (found : Option Standing) → option_map (kept policy history) found ≡ Some o
     → option_map_or (λ (cut : Standing). ones.Leaves cut.order.number (m.shares - done (executions policy history) cut.order)) found ones.Nothing ≡ ones.Leaves o.number (m.shares - o.done)
@@ -226,7 +237,7 @@ pub cancel_figured : (policy : PolicyData) (history : List RecordData) (a : Aske
     → Takes policy history a r before → r.verdict ≡ verdicts.Granted → a.request ≡ requests.Cancel m → order_under before.orders.live a.user m.token ≡ Some o
     → fewer ≡ cut_from o m.shares → Cuts o fewer before.ledger new → StandsForDay policy new (history ++ r ∷ [])
 cancel_figured policy history a r m before o fewer new t grants asks found fewer_is cuts =
-    let under : order_under (orders_in_force policy history).live a.user m.token ≡ Some o = under_kept policy history a r before o m.token t found in
+    let under : order_under (orders_in_force policy history).live a.user m.token ≡ Some o = under_kept policy history a r before (Some o) m.token t found in
     let does : change_of policy history r ≡ ones.Leaves o.number (m.shares - o.done) =
     request_changes policy history a r (requests.Cancel m) before t grants asks ∙ cut_by policy history m o (standing_under (live_orders policy history) a.user m.token) (under_is policy history a.user m.token ∙ under) in
     let comes : ComesNext policy history (steps.Asked a) r before.ledger = asked_next policy history a r before t in
@@ -263,7 +274,7 @@ pub replace_figured : (policy : PolicyData) (history : List RecordData) (a : Ask
     → Takes policy history a r before → r.verdict ≡ verdicts.Granted → a.request ≡ requests.Replace m → order_under before.orders.live a.user m.existing_token ≡ Some o
     → coming ≡ replacement_order r m o → Replaces o coming r.moment before.ledger new → StandsForDay policy new (history ++ r ∷ [])
 replace_figured policy history a r m before o coming new t grants asks found coming_is replaces =
-    let under : order_under (orders_in_force policy history).live a.user m.existing_token ≡ Some o = under_kept policy history a r before o m.existing_token t found in
+    let under : order_under (orders_in_force policy history).live a.user m.existing_token ≡ Some o = under_kept policy history a r before (Some o) m.existing_token t found in
     let by : IsReplacement policy history r m o (change_by_request policy history r a.user (requests.Replace m)) =
     replaced_by policy history r m o (standing_under (live_orders policy history) a.user m.existing_token) (under_is policy history a.user m.existing_token ∙ under) in
     let does : change_of policy history r ≡ ones.Replaces o.number by.new = request_changes policy history a r (requests.Replace m) before t grants asks ∙ by.does in
@@ -341,7 +352,8 @@ command_figured policy history a r c before new t grants asks closes =
     let live : List LiveOrder = (orders_in_force policy history).live in
     let sound : AreSound policy held = positions_are_sound policy history t.legal in
     let does : change_of policy history r ≡ ones.EndsAll c.action = request_changes policy history a r (requests.Command c) before t grants asks in
-    let theirs : numbers (ended_orders c.action live) ≡ numbers_of (ended_by c.action held) = ended_numbers policy history c.action (live_orders policy history) in
+    let theirs : numbers (ended_orders c.action live) ≡ numbers_of (ended_by c.action held) =
+    ap (λ (os : List LiveOrder). numbers (ended_orders c.action os)) (live_is_kept policy history) ∙ ended_numbers policy history c.action (live_orders policy history) in
     let are_held : AreHeld held (ended_orders c.action live) = record {
       all_held = filtered (IsHeld held) (is_ended c.action) live (live_held policy history t.legal);
       differ = subst (IsDistinct nat_eq) (sym theirs) (distinct_filtered (λ (s : Standing). ends_account s.order.account c.action) held.standings sound.numbers_differ);
@@ -374,10 +386,10 @@ pub fill_figured : (policy : PolicyData) (history : List RecordData) (first : Li
     → TakesMatch policy history first r before → r.verdict ≡ verdicts.Filled f → order_numbered before.orders.live f.maker ≡ Some maker
     → Fills first maker f.shares f.price before.ledger new → StandsForDay policy new (history ++ r ∷ [])
 fill_figured policy history first r before f maker new t fills found carries =
-    let is : IsFill policy history r f = is_fill policy history t.handed r f (legal_is_orderly policy history t.legal) t.left fills in
+    let is : MayFill (world policy history) r f = may_by policy history (steps.Matching t.handed) r (verdicts.Filled f) t.legal t.left fills in
     let numbered : order_numbered (orders_in_force policy history).live f.maker ≡ Some maker = sym (ap (λ (d : OrdersData). order_numbered d.live f.maker) t.in_force.orders) ∙ found in
     let taker_is : first.number ≡ f.taker =
-    ap (λ (x : LiveOrder). x.number) (first_is_kept policy history is.taker is.waiting first is.comes_first (waits_first policy history first r before t)) ∙ sym is.of_taker in
+    sym (ap (λ (x : Fill). x.taker) is.is_theirs ∙ ap (λ (x : LiveOrder). x.number) (is_first policy history is.taker is.waiting first is.comes_first (waits_first policy history first r before t))) in
     let maker_is : maker.number ≡ f.maker = found_number f.maker (orders_in_force policy history).live maker numbered in
     let theirs : Fill = record { taker = first.number; maker = maker.number; shares = f.shares; price = f.price } in
     let same : f ≡ theirs = λ i. record { taker = sym taker_is i; maker = sym maker_is i; shares = f.shares; price = f.price } in
@@ -395,9 +407,9 @@ fill_figured policy history first r before f maker new t fills found carries =
 pub end_figured : (policy : PolicyData) (history : List RecordData) (first : LiveOrder) (r : RecordData) (before : Keepers) (number : ℕ) (new : Kept)
     → TakesMatch policy history first r before → r.verdict ≡ verdicts.Expired number → Closes first before.ledger new → StandsForDay policy new (history ++ r ∷ [])
 end_figured policy history first r before number new t ends closes =
-    let is : ExpiresOrder policy history (history ++ r ∷ []) r number = end_takes_effect policy history t.handed r number (legal_is_orderly policy history t.legal) t.left ends in
+    let is : MayExpire (world policy history) r number = may_by policy history (steps.Matching t.handed) r (verdicts.Expired number) t.legal t.left ends in
     let number_is : number ≡ first.number =
-    is.has_number ∙ sym (ap (λ (x : LiveOrder). x.number) (first_is_kept policy history is.first is.waiting first is.comes_first (waits_first policy history first r before t))) in
+    is.has_number ∙ ap (λ (x : LiveOrder). x.number) (is_first policy history is.first is.waiting first is.comes_first (waits_first policy history first r before t)) in
     let does : change_of policy history r ≡ ones.Leaves first.number 0 = ap (λ (v : Verdict). change_by policy history r v r.step) ends ∙ ap (λ (n : ℕ). ones.Leaves n 0) number_is in
     carried policy history (steps.Matching t.handed) r before.ledger new (ones.Leaves first.number 0) _ (match_next policy history first r before t) does closes
     (first_held policy history first r before t)

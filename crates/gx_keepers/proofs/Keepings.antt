@@ -28,7 +28,7 @@ use Rattle.gx_history_laws.proofs.Pushing.{all_next}
 use Rattle.gx_history.specs.declared.live_order.LiveOrder.{LiveOrder}
 use Rattle.gx_history.specs.LiveOrders.{kept}
 use Rattle.gx_orders.specs.LiveOrders.{OrdersData, is_of_user}
-use Rattle.gx_orders.proofs.Keeping.{filter_of_map}
+use Rattle.gx_effects.proofs.Live.{filter_kept, live_is_kept}
 use Rattle.gx_people.proofs.Keeping.{officers_stay}
 use Rattle.gx_places.specs.Places.{concerns_many, enough_places, has_kept_places, most_kills, orders_held, report_places}
 use Rattle.gx_places.proofs.Asked.{enough_is_more, kept_places_are_enough, matches_want_no_more, others_want_no_more, so_many_are_enough}
@@ -77,7 +77,7 @@ enough_is : (policy : PolicyData) (history : List RecordData) (k : Keepers) (use
 enough_is policy history k user in_force =
     let orders : count_of k.orders.live user ≡ orders_held policy history user =
     ap (λ (d : OrdersData). count_of d.live user) in_force.orders
-    ∙ ap length (filter_of_map (is_of_user user) (kept policy history) (live_orders policy history))
+    ∙ ap length (ap (filter (is_of_user user)) (live_is_kept policy history) ∙ filter_kept (is_of_user user) (kept policy history) (live_orders policy history))
     ∙ length-map (filter (λ (s : Standing). same_user s.order.user user) (live_orders policy history)) (kept policy history) in
     let kills : cond (is_officer (role_in k.people user)) (length policy.accounts) 0 ≡ most_kills policy user =
     ap (λ (people : List User). cond (is_officer (role_in people user)) (length policy.accounts) 0) in_force.people
@@ -271,7 +271,7 @@ one_finds policy history r k streams receiver message tells has user = record {
 pub few_live : (policy : PolicyData) (history : List RecordData) (k : Keepers) → IsLegal policy history → AreInForce policy history k → length k.orders.live ≤ day_limit
 few_live policy history k legal in_force =
     let same : length k.orders.live ≡ length (live_orders policy history) =
-    ap (λ (d : OrdersData). length d.live) in_force.orders ∙ length-map (live_orders policy history) (kept policy history) in
+    ap (λ (d : OrdersData). length d.live) in_force.orders ∙ ap length (live_is_kept policy history) ∙ length-map (live_orders policy history) (kept policy history) in
     omega (arith, same, live_are_few policy history legal)
 
 -- where nobody has fewer places, those that are kept are there still: a matching step leaves no more to be kept

@@ -1,18 +1,18 @@
 -- What a matching step makes of the keepers.
 use Rattle.std.proofs.Common.{inl, ◌≡◌, ℕ, ◌-◌, ◌<◌, arith, Bool, true, false, not, zero, suc, ◌+◌, cond, get_or, if◌then◌else◌, List, [], ◌∷◌, ◌++◌, refl, ◌∙◌, ap, sym, map}
 use Rattle.std.proofs.Math.Path.{subst}
-use Rattle.std.proofs.lemmas.List.{append_cancel_left}
-use Rattle.std.specs.Prelude.{Option, Some, None, is_some, length, find, position, unwrap_or, option_and_then, option_map, ◌&&◌}
-use Rattle.std.specs.List.{AllByRecursion, position_from, slice_get}
+use Rattle.std.proofs.lemmas.List.{append-nil, append_cancel_left}
+use Rattle.std.specs.Prelude.{Option, Some, None, is_some, length, find, position, unwrap_or, option_and_then, option_map, option_to_list, ◌&&◌}
+use Rattle.std.specs.List.{AllByRecursion, flat_map, position_from, slice_get}
 use Rattle.std.specs.Option.{option_map_or}
 use Rattle.std.proofs.lemmas.List.Quantifiers.{position-Some}
 use Rattle.std.proofs.lemmas.Iterator.Adapters.{position_from-zero}
 use Rattle.gx_units.specs.Names.{same_account}
 use Rattle.gx_units.specs.declared.names.AccountName.{AccountName}
+use Rattle.gx_units.specs.declared.names.UserName.{UserName}
 use Rattle.gx_ouch.specs.declared.letters.CancelReason.TheVariants as cancels
 use Rattle.gx_ouch.specs.declared.letters.Liquidity.{Liquidity}
 use Rattle.gx_ouch.specs.declared.letters.Liquidity.TheVariants as liquidities
-use Rattle.gx_ouch.specs.declared.outbound.Outbound.TheVariants as outbounds
 use Rattle.gx_policy.specs.declared.policy.Account.{Account}
 use Rattle.gx_policy.specs.declared.policy.PolicyData.{PolicyData}
 use Rattle.gx_policy.specs.declared.policy.Role.{Role}
@@ -24,16 +24,18 @@ use Rattle.gx_history.specs.declared.record.Step.TheVariants as steps
 use Rattle.gx_history.specs.declared.record.Verdict.{Verdict}
 use Rattle.gx_history.specs.declared.record.Verdict.TheVariants as verdicts
 use Rattle.gx_history.specs.declared.report.Message.{Message}
-use Rattle.gx_history.specs.declared.report.Message.TheVariants as messages
 use Rattle.gx_history.specs.Book.{is_buy, is_buy_order}
-use Rattle.gx_history.specs.Executions.{Execution, Standing, executions, live_orders, sides, standing_numbered}
+use Rattle.gx_history.specs.Executions.{Execution, Standing, executions, sides}
 use Rattle.gx_history.specs.InForce.{is_entitled}
-use Rattle.gx_history.specs.Matched.{ExpiresOrder, FillsOrders, maker_side, taker_side}
+use Rattle.gx_history.specs.MayMove.{MayExpire}
+use Rattle.gx_history.specs.Matched.{FillsOrders, maker_side, taker_side}
 use Rattle.gx_policy.specs.People.{account_of, account_of_role, is_reader, role_in, user_in}
 use Rattle.gx_history.specs.Requests.{is_judged}
 use Rattle.gx_policy.specs.Soundness.{is_sound}
 use Rattle.gx_history.specs.Streams.{reported, stream, to_user}
+use Rattle.gx_history.specs.Turns.{live}
 use Rattle.gx_history.specs.Verdicts.{IsLegal}
+use Rattle.gx_history.specs.World.{World, expired_of, move_by, moved, world}
 use Rattle.gx_history_laws.proofs.Masks.{same_mask}
 use Rattle.gx_history_laws.proofs.Names.{account_is, accounts_few}
 use Rattle.gx_history_laws.proofs.NextOrders.{executions_next}
@@ -41,14 +43,14 @@ use Rattle.gx_history_laws.proofs.Order.{some_same}
 use Rattle.gx_history_laws.proofs.Owners.{IsHisAccounts}
 use Rattle.gx_history_laws.proofs.Runs.{step_left}
 use Rattle.gx_effects.proofs.Accounts.{accounts_are_known}
-use Rattle.gx_effects.proofs.Expiries.{end_takes_effect}
-use Rattle.gx_effects.proofs.FairFills.{live_found}
 use Rattle.gx_effects.proofs.Fills.{fill_takes_effect, same_fill}
-use Rattle.gx_effects.proofs.Known.{RestsThere, all_resting}
+use Rattle.gx_effects.proofs.Moving.{may_by}
+use Rattle.gx_effects.proofs.Resting.{RestsThere, all_resting, first_lives}
 use Rattle.gx_effects.proofs.Orderly.{IsOrderly, legal_is_orderly}
-use Rattle.gx_effects.proofs.Rests.{rest_takes_effect}
 use Rattle.gx_effects.proofs.Settling.{not_judged}
 use Rattle.gx_effects.proofs.Ungranted.{match_grants_nothing}
+use Rattle.gx_effects.proofs.World.{world_next}
+use Rattle.gx_effects.proofs.WorldKept.{side_is_kept, waiting_is_kept}
 use Rattle.gx_book.specs.Books.{StockOrders, resting_in}
 use Rattle.gx_book.specs.Queue.{IsLatest}
 use Rattle.gx_history.specs.declared.live_order.LiveOrder.{LiveOrder}
@@ -57,15 +59,12 @@ use Rattle.gx_orders.specs.Changes.{with_live}
 use Rattle.gx_orders.specs.InForce.{orders_in_force}
 use Rattle.gx_orders.specs.Laws.{CanFill}
 use Rattle.gx_orders.specs.LiveOrders.{OrdersData, at_rest, changed, filled_at, order_numbered, without}
-use Rattle.gx_orders.proofs.Keeping.{IsKeptOpen}
-use Rattle.gx_orders.proofs.Matching.{numbered_is}
 use Rattle.gx_orders.proofs.Turned.{ends_one, fills_both, rests_one}
 use Rattle.gx_orders.proofs.Matching as matched
 use Rattle.gx_market.specs.BookInForce.{book_in_force}
 use Rattle.gx_market.specs.Changes.{left_with, put_to_rest, resting_of}
-use Rattle.gx_market.proofs.Crossing.{first_is_kept, waiting_open}
+use Rattle.gx_market.proofs.ByKind.{expiries_keep, fills_take, is_first, rests_are_put}
 use Rattle.gx_market.proofs.Latest.{first_is_latest}
-use Rattle.gx_market.proofs.Matches.{expiries_keep, fills_take, rests_are_put}
 use Rattle.gx_streams.specs.declared.fill.FillSide.{FillSide}
 use Rattle.gx_streams.specs.declared.fill.Party.{Party}
 use Rattle.gx_streams.specs.declared.fill.Party.TheVariants as parties
@@ -215,17 +214,20 @@ fill_orders policy history first r k f maker t fills found = of (fill_takes_effe
     of is = record {
       taking = is.taker;
       resting = is.maker;
-      taker_is = first_is_kept policy history is.taker is.waiting first is.comes_first (waits_first policy history first r k t);
+      taker_is = sym (is_first policy history (kept policy history is.taker) (map (kept policy history) is.waiting) first (waiting_is_kept policy history ∙ ap (map (kept policy history)) is.comes_first) (waits_first policy history first r k t));
       maker_is = maker_is;
       sides_are = sides_are;
       taker_his = his.0;
       maker_his = (his.1).0;
     }
       where
-        stock_side : AllByRecursion (RestsThere policy history is.taker.order.terms.stock (not (is_buy_order is.taker.order))) (is.maker ∷ is.behind)
-        stock_side =
-            subst (AllByRecursion (RestsThere policy history is.taker.order.terms.stock (not (is_buy_order is.taker.order)))) is.is_best
-            (all_resting policy history is.taker.order.terms.stock (not (is_buy_order is.taker.order)) orderly)
+        other : Bool
+        other = not (is_buy_order is.taker.order)
+
+        best : RestsThere policy history is.taker.order.terms.stock other (kept policy history is.maker)
+        best =
+            (subst (AllByRecursion (RestsThere policy history is.taker.order.terms.stock other))
+            (side_is_kept policy history is.taker.order.terms.stock other orderly ∙ ap (map (kept policy history)) is.is_best) (all_resting policy history is.taker.order.terms.stock other t.legal)).0
 
         of_maker : f.maker ≡ is.maker.order.number
         of_maker = ap (λ (x : Fill). x.maker) (same_fill f _ (sym fills ∙ is.is_theirs))
@@ -234,9 +236,8 @@ fill_orders policy history first r k f maker t fills found = of (fill_takes_effe
         maker_is = some_same
             (sym found
             ∙ ap (λ (d : OrdersData). order_numbered d.live f.maker) t.in_force.orders
-            ∙ numbered_is policy history f.maker (live_orders policy history)
-            ∙ ap (λ (n : ℕ). option_map (kept policy history) (standing_numbered (live_orders policy history) n)) of_maker
-            ∙ ap (option_map (kept policy history)) (live_found policy history is.maker stock_side.0.known stock_side.0.there.lives))
+            ∙ ap (order_numbered (live policy history)) of_maker
+            ∙ best.found)
 
         sides_are : sides policy history r.verdict ≡ taker_side f is.taker.order ∷ maker_side f is.maker.order ∷ []
         sides_are = append_cancel_left (executions policy history) _ _ (sym (executions_next policy history r) ∙ is.executions_more)
@@ -309,6 +310,13 @@ fill_goes_on policy history first r before k f maker left taken kept_side made t
       moment = ap (λ (x : ToldFill). x.moment) made_is;
     }
 
+-- what each user is told by a matching step
+told_by : (policy : PolicyData) (history : List RecordData) (first : LiveOrder) (r : RecordData) (k : Keepers) (v : Verdict) (user : UserName) → TakesMatch policy history first r k → r.verdict ≡ v
+    → stream policy (history ++ r ∷ []) user ≡ (moved policy r (move_by policy (world policy history) r v r.step) (world policy history)).streams user
+told_by policy history first r k v user t is =
+    ap (λ (w : World). w.streams user) (world_next policy history (steps.Matching t.handed) r t.legal t.left)
+    ∙ ap (λ (x : Verdict). (moved policy r (move_by policy (world policy history) r x r.step) (world policy history)).streams user) is
+
 -- ---- an order that comes to rest
 
 -- its number is above those that rest at its price
@@ -330,7 +338,7 @@ rest_goes_on policy history first r before k number t rests people_are rules_are
     ∙ sym (rests_are_put policy history t.handed r number first t.legal t.left rests (waits_first policy history first r before t)))
     (rest_figured policy history first r before number k.ledger t rests ledger_is)
     (ap shown streams_are
-    ∙ stays_by_none policy history (history ++ r ∷ []) before.streams t.in_force.streams (rest_takes_effect policy history t.handed r number (legal_is_orderly policy history t.legal) t.left rests).told_nothing)
+    ∙ stays_by_none policy history (history ++ r ∷ []) before.streams t.in_force.streams (λ user. told_by policy history first r before (verdicts.Rested number) user t rests))
     (ap (λ (s : AllStreams). s.readers) streams_are)
 
 -- ---- an order that ends
@@ -341,18 +349,16 @@ end_message o = canceled_message o (o.total - o.done) cancels.ImmediateOrCancel
 
 pub end_tells : (policy : PolicyData) (history : List RecordData) (first : LiveOrder) (r : RecordData) (k : Keepers) (number : ℕ)
     → TakesMatch policy history first r k → r.verdict ≡ verdicts.Expired number → TellsOne policy history (history ++ r ∷ []) r first.user (end_message first ∷ [])
-end_tells policy history first r k number t ends = tells (end_takes_effect policy history t.handed r number (legal_is_orderly policy history t.legal) t.left ends)
+end_tells policy history first r k number t ends user = told (may_by policy history (steps.Matching t.handed) r (verdicts.Expired number) t.legal t.left ends)
   where
-    tells : ExpiresOrder policy history (history ++ r ∷ []) r number → TellsOne policy history (history ++ r ∷ []) r first.user (end_message first ∷ [])
-    tells is user =
-        is.told user
-        ∙ ap (λ (n : ℕ). stream policy history user
-        ++ map (reported r) (to_user is.first.order.user user (messages.Order (outbounds.Canceled (record { token = is.first.order.token; decrement = n; reason = cancels.ImmediateOrCancel })) ∷ []))) opened.0
-        ∙ ap (λ (x : LiveOrder). stream policy history user ++ map (reported r) (to_user x.user user (end_message x ∷ [])))
-        (sym (first_is_kept policy history is.first is.waiting first is.comes_first (waits_first policy history first r k t)))
-      where
-        opened : IsKeptOpen policy history is.first
-        opened = (subst (AllByRecursion (IsKeptOpen policy history)) is.comes_first (waiting_open policy history)).0
+    told : MayExpire (world policy history) r number → stream policy (history ++ r ∷ []) user ≡ stream policy history user ++ map (reported r) (to_user first.user user (end_message first ∷ []))
+    told is =
+        told_by policy history first r k (verdicts.Expired number) user t ends
+        ∙ ap (λ (n : ℕ). stream policy history user ++ map (reported r) (expired_of (live policy history) n user)) is.has_number
+        ∙ ap (λ (found : Option LiveOrder). stream policy history user ++ map (reported r) (flat_map (λ (o : LiveOrder). to_user o.user user (end_message o ∷ [])) (option_to_list found)))
+        (first_lives policy history is.first is.waiting t.legal is.comes_first).0.found
+        ∙ ap (λ (ms : List Message). stream policy history user ++ map (reported r) ms) (append-nil (to_user is.first.user user (end_message is.first ∷ [])))
+        ∙ ap (λ (x : LiveOrder). stream policy history user ++ map (reported r) (to_user x.user user (end_message x ∷ []))) (is_first policy history is.first is.waiting first is.comes_first (waits_first policy history first r k t))
 
 pub end_has_place : (policy : PolicyData) (history : List RecordData) (first : LiveOrder) (r : RecordData) (k : Keepers) (number : ℕ)
     → TakesMatch policy history first r k → HavePlaces policy history r k.streams → r.verdict ≡ verdicts.Expired number → 0 < places_in k.streams.told first.user

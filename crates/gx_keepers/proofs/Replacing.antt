@@ -1,8 +1,8 @@
 -- What a granted Replace makes of the keepers.
 use Rattle.std.proofs.Common.{◌≡◌, ℕ, ◌<◌, true, false, List, [], ◌∷◌, ◌++◌, ◌∙◌, ap, sym, map}
 use Rattle.std.proofs.Math.Path.{subst}
-use Rattle.std.specs.Prelude.{IfSome, Option, Some, is_some, option_map}
-use Rattle.gx_units.specs.Names.{same_token, same_user}
+use Rattle.std.specs.Option.{option_map_or}
+use Rattle.std.specs.Prelude.{IfSome, Option, Some, is_some}
 use Rattle.gx_units.specs.declared.names.UserName.{UserName}
 use Rattle.gx_ouch.specs.declared.inbound.ReplaceOrder.{ReplaceOrder}
 use Rattle.gx_policy.specs.declared.policy.PolicyData.{PolicyData}
@@ -12,26 +12,23 @@ use Rattle.gx_history.specs.declared.record.Request.TheVariants as requests
 use Rattle.gx_history.specs.declared.record.Step.TheVariants as steps
 use Rattle.gx_history.specs.declared.record.Verdict.TheVariants as verdicts
 use Rattle.gx_history.specs.declared.report.Message.{Message}
-use Rattle.gx_history.specs.Effects.{ReplacesOrder}
 use Rattle.gx_history.specs.Streams.{reported, stream, to_user}
-use Rattle.gx_history_laws.proofs.Adding.{found_passes, user_is}
+use Rattle.gx_history.specs.World.{World, Nothing, moved, world}
+use Rattle.gx_history.specs.World as moves
 use Rattle.gx_history_laws.proofs.Granting.{verdict_of_next}
-use Rattle.gx_history_laws.proofs.Judging.{both}
 use Rattle.gx_history_laws.proofs.Numbers.{number_left}
-use Rattle.gx_history_laws.proofs.Order.{some_same}
 use Rattle.gx_history_laws.proofs.Runs.{step_left}
-use Rattle.gx_effects.proofs.Replacing.{replace_takes_effect}
+use Rattle.gx_effects.proofs.ByKind.{granted_world}
 use Rattle.gx_history.specs.declared.live_order.LiveOrder.{LiveOrder}
-use Rattle.gx_history.specs.LiveOrders.{is_under, kept, replacement_order}
+use Rattle.gx_history.specs.LiveOrders.{replacement_order}
 use Rattle.gx_orders.specs.Changes.{entering, with_live}
 use Rattle.gx_orders.specs.InForce.{orders_in_force}
 use Rattle.gx_orders.specs.Laws.{CanReplace}
 use Rattle.gx_orders.specs.LiveOrders.{AreBelow, OrdersData, is_used, order_under, without}
 use Rattle.gx_orders.proofs.Cutting.{replaces_new}
 use Rattle.gx_orders.proofs.Turned.{replaces_one}
-use Rattle.gx_orders.proofs.Keeping.{under_is}
 use Rattle.gx_market.specs.Changes.{taken_out}
-use Rattle.gx_market.proofs.Requested.{replaces_take}
+use Rattle.gx_market.proofs.ByKind.{replaces_take}
 use Rattle.gx_streams.specs.Kept.{places_in}
 use Rattle.gx_streams.specs.Laws.{TellsOne}
 use Rattle.gx_streams.specs.Streams.{AllStreams}
@@ -42,29 +39,24 @@ use Rattle.gx_keepers.specs.declared.keepers.Keepers.{Keepers}
 use Rattle.gx_keepers.specs.Keepers.{AreInForceBut, HavePlaces, Takes, with_told}
 use Rattle.gx_keepers.specs.Messages.{replaced_message}
 use Rattle.gx_keepers.proofs.Carrying.{by_grant, has_place, still_sent}
-use Rattle.gx_keepers.proofs.Figuring.{replace_figured}
+use Rattle.gx_keepers.proofs.Figuring.{is_his, replace_figured, under_kept}
 
 -- what a granted Replace asks of the orders
 pub can_replace : (policy : PolicyData) (history : List RecordData) (a : Asked) (r : RecordData) (m : ReplaceOrder) (k : Keepers)
     → Takes policy history a r k → r.verdict ≡ verdicts.Granted → a.request ≡ requests.Replace m → CanReplace policy history a.user m
 can_replace policy history a r m k t grants asks = replaces_new policy history a m t.legal asks (sym (verdict_of_next policy history a r t.left) ∙ grants)
 
--- as definitions say
-found_so : (policy : PolicyData) (history : List RecordData) (a : Asked) (r : RecordData) (m : ReplaceOrder) (k : Keepers) (found : Option LiveOrder)
-    → Takes policy history a r k → order_under k.orders.live a.user m.existing_token ≡ found → order_under (orders_in_force policy history).live a.user m.existing_token ≡ found
-found_so policy history a r m k found t is = sym (ap (λ (d : OrdersData). order_under d.live a.user m.existing_token) t.in_force.orders) ∙ is
-
 -- it names a live order
 pub old_is_there : (policy : PolicyData) (history : List RecordData) (a : Asked) (r : RecordData) (m : ReplaceOrder) (k : Keepers) (found : Option LiveOrder)
     → Takes policy history a r k → r.verdict ≡ verdicts.Granted → a.request ≡ requests.Replace m → found ≡ order_under k.orders.live a.user m.existing_token → is_some found ≡ true
 old_is_there policy history a r m k found t grants asks is =
-    ap is_some (sym (found_so policy history a r m k found t (sym is))) ∙ (can_replace policy history a r m k t grants asks).names_one
+    ap is_some (sym (under_kept policy history a r k found m.existing_token t (sym is))) ∙ (can_replace policy history a r m k t grants asks).names_one
 
 -- whose chain has executed less than the new size
 pub old_has_less : (policy : PolicyData) (history : List RecordData) (a : Asked) (r : RecordData) (m : ReplaceOrder) (k : Keepers) (o : LiveOrder)
     → Takes policy history a r k → r.verdict ≡ verdicts.Granted → a.request ≡ requests.Replace m → order_under k.orders.live a.user m.existing_token ≡ Some o → o.done < m.shares
 old_has_less policy history a r m k o t grants asks found =
-    subst (λ (x : Option LiveOrder). IfSome x (λ (p : LiveOrder). p.done < m.shares)) (found_so policy history a r m k (Some o) t found) (can_replace policy history a r m k t grants asks).has_shares
+    subst (λ (x : Option LiveOrder). IfSome x (λ (p : LiveOrder). p.done < m.shares)) (under_kept policy history a r k (Some o) m.existing_token t found) (can_replace policy history a r m k t grants asks).has_shares
 
 -- the new order has the greatest number
 pub replaces_last : (policy : PolicyData) (history : List RecordData) (a : Asked) (r : RecordData) (m : ReplaceOrder) (k : Keepers)
@@ -73,18 +65,12 @@ replaces_last policy history a r m k t grants asks =
     subst (λ (live : List LiveOrder). AreBelow r.number live) (sym (ap (λ (orders : OrdersData). orders.live) t.in_force.orders))
     (subst (λ (n : ℕ). AreBelow n (orders_in_force policy history).live) (sym (number_left policy history (steps.Asked a) r t.left)) (can_replace policy history a r m k t grants asks).is_new.comes_last)
 
--- the old one is the user's
-his : (policy : PolicyData) (history : List RecordData) (a : Asked) (r : RecordData) (m : ReplaceOrder) (k : Keepers) (o : LiveOrder)
-    → Takes policy history a r k → order_under k.orders.live a.user m.existing_token ≡ Some o → o.user ≡ a.user
-his policy history a r m k o t found =
-    user_is o.user a.user (both (same_user o.user a.user) (same_token o.token m.existing_token) (found_passes (is_under a.user m.existing_token) k.orders.live o found)).0
-
 -- and the new token was not used
 pub replaces_unused : (policy : PolicyData) (history : List RecordData) (a : Asked) (r : RecordData) (m : ReplaceOrder) (k : Keepers) (o : LiveOrder)
     → Takes policy history a r k → r.verdict ≡ verdicts.Granted → a.request ≡ requests.Replace m → order_under k.orders.live a.user m.existing_token ≡ Some o
     → is_used k.orders.used o.user m.replacement_token ≡ false
 replaces_unused policy history a r m k o t grants asks found =
-    ap (λ (user : UserName). is_used k.orders.used user m.replacement_token) (his policy history a r m k o t found)
+    ap (λ (user : UserName). is_used k.orders.used user m.replacement_token) (is_his a.user m.existing_token k.orders.live o found)
     ∙ ap (λ (orders : OrdersData). is_used orders.used a.user m.replacement_token) t.in_force.orders
     ∙ (can_replace policy history a r m k t grants asks).is_new.is_unused
 
@@ -95,13 +81,10 @@ told_of_replace r m o = replaced_message (replacement_order r m o) o.token
 pub replace_tells : (policy : PolicyData) (history : List RecordData) (a : Asked) (r : RecordData) (m : ReplaceOrder) (k : Keepers) (o : LiveOrder)
     → Takes policy history a r k → r.verdict ≡ verdicts.Granted → a.request ≡ requests.Replace m → order_under k.orders.live a.user m.existing_token ≡ Some o
     → TellsOne policy history (history ++ r ∷ []) r a.user (told_of_replace r m o ∷ [])
-replace_tells policy history a r m k o t grants asks found = tells (replace_takes_effect policy history a r m t.legal t.left asks grants)
-  where
-    tells : ReplacesOrder policy history (history ++ r ∷ []) r a.user m → TellsOne policy history (history ++ r ∷ []) r a.user (told_of_replace r m o ∷ [])
-    tells is user = is.told user ∙ ap (λ (x : LiveOrder). stream policy history user ++ map (reported r) (to_user a.user user (told_of_replace r m x ∷ []))) (sym it)
-      where
-        it : o ≡ kept policy history is.old
-        it = some_same (sym (found_so policy history a r m k (Some o) t found) ∙ sym (under_is policy history a.user m.existing_token) ∙ ap (option_map (kept policy history)) is.is_named)
+replace_tells policy history a r m k o t grants asks found user =
+    ap (λ (w : World). w.streams user) (granted_world policy history a r (requests.Replace m) t.legal t.left asks grants)
+    ∙ ap (λ (named : Option LiveOrder). (moved policy r (option_map_or (λ (old : LiveOrder). moves.Replaces old (replacement_order r m old)) named Nothing) (world policy history)).streams user) (under_kept policy history a r k (Some o) m.existing_token t found)
+    ∙ ap (λ (his : UserName). stream policy history user ++ map (reported r) (to_user his user (told_of_replace r m o ∷ []))) (is_his a.user m.existing_token k.orders.live o found)
 
 pub replace_has_place : (policy : PolicyData) (history : List RecordData) (a : Asked) (r : RecordData) (m : ReplaceOrder) (k : Keepers) (o : LiveOrder)
     → Takes policy history a r k → HavePlaces policy history r k.streams → r.verdict ≡ verdicts.Granted → a.request ≡ requests.Replace m
@@ -121,9 +104,9 @@ replace_goes_on policy history a r m before k o new message t grants asks found 
     by_grant policy history a r before k (requests.Replace m) t.in_force grants (step_left policy history (steps.Asked a) r t.left) asks people_are rules_are day_is
     (orders_are ∙ ap (λ (x : LiveOrder). with_live (without o.number (before.orders.live ++ x ∷ [])) (entering x before.orders)) new_is
     ∙ ap (λ (d : OrdersData). with_live (without o.number (d.live ++ replacement_order r m o ∷ [])) (entering (replacement_order r m o) d)) t.in_force.orders
-    ∙ sym (replaces_one policy history a r m o t.legal t.left asks grants (found_so policy history a r m before (Some o) t found)))
+    ∙ sym (replaces_one policy history a r m o t.legal t.left asks grants (under_kept policy history a r before (Some o) m.existing_token t found)))
     (book_is ∙ ap (taken_out o) t.in_force.book
-    ∙ sym (replaces_take policy history a r m o t.legal t.left asks grants (found_so policy history a r m before (Some o) t found)))
+    ∙ sym (replaces_take policy history a r m o t.legal t.left asks grants (under_kept policy history a r before (Some o) m.existing_token t found)))
     (replace_figured policy history a r m before o new k.ledger t grants asks found new_is replaces)
     (ap shown (streams_are
     ∙ ap (λ (x : Message). with_told a.user r.moment (Some x) before.streams) (message_is ∙ ap (λ (x : LiveOrder). replaced_message x o.token) new_is))

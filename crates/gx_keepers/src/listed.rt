@@ -2,7 +2,7 @@
 
 ghost use Rattle.std.specs.Prelude.{◌≡◌, find, position};
 ghost use Rattle.gx_units.specs.Names.{same_account, same_stock};
-ghost use Rattle.gx_history.specs.Asking.{fits_firm, lists_its_stock};
+ghost use Rattle.gx_history.specs.Asking.{fits_firm};
 ghost use Rattle.gx_history.specs.Orders.{firm_of};
 ghost use Rattle.gx_policy.specs.People.{account_named, stock_named};
 ghost use Rattle.gx_keepers.specs.Matching.{place_of};
@@ -75,16 +75,6 @@ pub fn fits_firm(policy: &Policy, account: Option<AccountName>, request: &Reques
             m.firm == BLANK_FIRM || m.firm == firm_of(policy, name, m.firm)
         }
         (Request::Enter(m), None) => m.firm == BLANK_FIRM,
-        _ => true,
-    }
-}
-
-/// Whether an Enter's stock is listed; true for any other request.
-pub fn lists_its_stock(policy: &Policy, request: &Request) -> bool
-    ensures { result ≡ lists_its_stock policy.now request.now }
-{
-    match request {
-        Request::Enter(m) => stock_named(policy, m.stock).is_some(),
         _ => true,
     }
 }

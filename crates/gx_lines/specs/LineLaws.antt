@@ -1,8 +1,6 @@
 -- Whatever names and numbers a line shows, it is one line.
-use Rattle.std.specs.Prelude.{ℕ, ◌≡◌, ◌<◌, ◌^◌, Bool, ◌||◌, List, ◌++◌, IsTrue}
+use Rattle.std.specs.Prelude.{ℕ, ◌≡◌, ◌<◌, ◌^◌, List, ◌++◌, IsTrue}
 use Rattle.std.specs.List.{list_all}
-use Rattle.hex.specs.Hex.{IsBytes}
-use Rattle.gx_units.specs.Spelling.{is_space}
 use Rattle.gx_desk.specs.declared.Action.{Action}
 use Rattle.gx_desk.specs.declared.Action.TheVariants as actions
 use Rattle.gx_desk.specs.declared.Answer.{Answer}
@@ -11,21 +9,18 @@ use Rattle.gx_ouch.specs.declared.outbound.OrderTerms.{OrderTerms}
 use Rattle.gx_ouch.specs.declared.outbound.Executed.{Executed}
 use Rattle.gx_ouch.specs.declared.outbound.Outbound.{Outbound}
 use Rattle.gx_ouch.specs.declared.outbound.Outbound.TheVariants as outbounds
-use Rattle.gx_script.specs.Words.{is_visible}
+use Rattle.gx_text.specs.declared.form.Form.{Form}
+use Rattle.gx_text.specs.Shown.{is_printed}
 use Rattle.gx_script.specs.Printing.{line_end}
-use Rattle.gx_lines.specs.declared.showing.Form.{Form}
+use Rattle.gx_lines.specs.NameLaws.{IsBytes}
 use Rattle.gx_lines.specs.AnswerLines.{answer_line, earlier_answer_line}
 use Rattle.gx_lines.specs.OrderLines.{order_line, copy_line}
-
--- a space, or a visible character
-abbrev pub is_plain : ℕ → Bool
-is_plain byte = is_space byte || is_visible byte
 
 -- spaces and visible characters, and an LF behind them
 pub record IsOneLine (line : List ℕ) : Type 0 where
   pub text : List ℕ
   pub ends : line ≡ text ++ line_end
-  pub plain : IsTrue (list_all is_plain text)
+  pub plain : IsTrue (list_all is_printed text)
 
 -- The values of a message are those that its fields hold: bytes, and numbers of at most 64 bits.
 abbrev pub IsActionInRange : Action → Type 0

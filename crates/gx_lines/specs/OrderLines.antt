@@ -1,5 +1,5 @@
 -- The line that a trader is shown of what became of his orders, and a reader of a fill.
-use Rattle.std.specs.Prelude.{ℕ, ◌==◌, if◌then◌else◌, List, [], ◌∷◌, ◌++◌, codes, decimal}
+use Rattle.std.specs.Prelude.{ℕ, ◌==◌, if◌then◌else◌, List, [], ◌∷◌, ◌++◌, codes, decimal, Option, Some, None, unwrap_or}
 use Rattle.gx_desk.specs.declared.DropCopy.{DropCopy}
 use Rattle.gx_ouch.specs.declared.letters.Liquidity.{Liquidity}
 use Rattle.gx_ouch.specs.declared.letters.Liquidity.TheVariants as liquidities
@@ -14,18 +14,29 @@ use Rattle.gx_ouch.specs.declared.outbound.Outbound.TheVariants as outbounds
 use Rattle.gx_ouch.specs.Letters.{reject_letter}
 use Rattle.gx_history.specs.OuchValues.{side_buy, side_sell, side_sell_short, side_sell_short_exempt}
 use Rattle.gx_script.specs.Printing.{line_end}
-use Rattle.gx_lines.specs.declared.showing.Form.{Form}
-use Rattle.gx_lines.specs.declared.showing.Form.TheVariants.{Text, Json}
-use Rattle.gx_lines.specs.Showing.{shown, shown_byte, moment_text, price_text, text_field, number_field, json_line}
+use Rattle.gx_text.specs.declared.form.Form.{Form}
+use Rattle.gx_text.specs.declared.form.Form.TheVariants.{Text, Json}
+use Rattle.gx_text.specs.declared.moments.Decimals.TheVariants.{Nine}
+use Rattle.gx_text.specs.Moments.{moment_text}
+use Rattle.gx_text.specs.Shown.{shown, shown_name}
+use Rattle.gx_lines.specs.Showing.{price_text, text_field, name_field, number_field, json_line}
 
--- the side of an order, by its Buy/Sell Indicator
-unfoldable pub side_words : Form → ℕ → List ℕ
-side_words form side =
-    if side == side_buy then codes "buy"
-    else (if side == side_sell then codes "sell"
-    else (if side == side_sell_short then codes "sell short"
-    else (if side == side_sell_short_exempt then codes "sell short exempt"
-    else codes "side " ++ shown_byte form side)))
+-- the side of an order by its Buy/Sell Indicator, where there is such a side
+unfoldable pub side_words : ℕ → Option (List ℕ)
+side_words side =
+    if side == side_buy then Some (codes "buy")
+    else (if side == side_sell then Some (codes "sell")
+    else (if side == side_sell_short then Some (codes "sell short")
+    else (if side == side_sell_short_exempt then Some (codes "sell short exempt")
+    else None)))
+
+-- the side of an order
+abbrev pub side_text : ℕ → List ℕ
+side_text side = unwrap_or (side_words side) (codes "side " ++ shown (side ∷ []))
+
+-- the same as a field of a JSON line
+abbrev pub side_field : ℕ → List ℕ
+side_field side = text_field (codes "side") (unwrap_or (side_words side) (codes "side " ++ side ∷ []))
 
 -- whether an execution added liquidity to the book or removed it
 unfoldable pub liquidity_word : Liquidity → List ℕ
@@ -65,7 +76,7 @@ shares_text shares price = decimal shares ++ codes " at " ++ price_text price
 -- what an order asks for, and its number
 unfoldable pub terms_text : OrderTerms → ℕ → List ℕ
 terms_text terms number =
-    side_words Text terms.side ++ codes " " ++ decimal terms.shares ++ codes " " ++ shown Text terms.stock.bytes
+    side_text terms.side ++ codes " " ++ decimal terms.shares ++ codes " " ++ shown_name terms.stock.bytes
     ++ codes " at " ++ price_text terms.price ++ codes ", order " ++ decimal number
 
 -- the number of a fill, and what its order did
@@ -75,29 +86,29 @@ match_text m = codes ", match " ++ decimal m.match_number ++ codes ", " ++ liqui
 -- what a trader is told
 unfoldable pub told_text : Outbound → List ℕ
 told_text (outbounds.SystemEvent event) = codes "the day ends"
-told_text (outbounds.Accepted m) = shown Text m.token.bytes ++ codes " accepted: " ++ terms_text m.terms m.order_reference
+told_text (outbounds.Accepted m) = shown_name m.token.bytes ++ codes " accepted: " ++ terms_text m.terms m.order_reference
 told_text (outbounds.Replaced m) =
-    shown Text m.token.bytes ++ codes " replaces " ++ shown Text m.previous_token.bytes ++ codes ": " ++ terms_text m.terms m.order_reference
+    shown_name m.token.bytes ++ codes " replaces " ++ shown_name m.previous_token.bytes ++ codes ": " ++ terms_text m.terms m.order_reference
 told_text (outbounds.Canceled m) =
-    shown Text m.token.bytes ++ codes " canceled: " ++ decimal m.decrement ++ codes ", " ++ cancel_words m.reason
+    shown_name m.token.bytes ++ codes " canceled: " ++ decimal m.decrement ++ codes ", " ++ cancel_words m.reason
 told_text (outbounds.Executed m) =
-    shown Text m.token.bytes ++ codes " executed: " ++ shares_text m.shares m.price ++ match_text m
+    shown_name m.token.bytes ++ codes " executed: " ++ shares_text m.shares m.price ++ match_text m
 told_text (outbounds.Rejected m) =
-    shown Text m.token.bytes ++ codes " rejected: " ++ reject_letter m.reason ∷ codes ", " ++ reject_words m.reason
+    shown_name m.token.bytes ++ codes " rejected: " ++ reject_letter m.reason ∷ codes ", " ++ reject_words m.reason
 
 -- when it was
 abbrev pub time_text : ℕ → List ℕ
-time_text moment = codes ", at " ++ moment_text moment
+time_text moment = codes ", at " ++ moment_text Nine moment
 
 -- the token of an order, a field of a JSON line
 abbrev pub token_field : List ℕ → List ℕ
-token_field token = text_field (codes "token") (shown Json token)
+token_field token = name_field (codes "token") token
 
 -- the terms of an order that was taken, and its number
 unfoldable pub terms_fields : OrderTerms → ℕ → List ℕ
 terms_fields terms number =
-    text_field (codes "side") (side_words Json terms.side) ++ number_field (codes "shares") (decimal terms.shares)
-    ++ text_field (codes "stock") (shown Json terms.stock.bytes) ++ number_field (codes "price") (price_text terms.price)
+    side_field terms.side ++ number_field (codes "shares") (decimal terms.shares)
+    ++ name_field (codes "stock") terms.stock.bytes ++ number_field (codes "price") (price_text terms.price)
     ++ number_field (codes "time_in_force") (decimal terms.time_in_force) ++ number_field (codes "order") (decimal number)
 
 -- what was executed of an order
@@ -120,7 +131,7 @@ unfoldable pub told_fields : Outbound → List ℕ
 told_fields (outbounds.SystemEvent event) = []
 told_fields (outbounds.Accepted m) = token_field m.token.bytes ++ terms_fields m.terms m.order_reference
 told_fields (outbounds.Replaced m) =
-    token_field m.token.bytes ++ text_field (codes "previous") (shown Json m.previous_token.bytes) ++ terms_fields m.terms m.order_reference
+    token_field m.token.bytes ++ name_field (codes "previous") m.previous_token.bytes ++ terms_fields m.terms m.order_reference
 told_fields (outbounds.Canceled m) =
     token_field m.token.bytes ++ number_field (codes "shares") (decimal m.decrement) ++ text_field (codes "reason") (cancel_words m.reason)
 told_fields (outbounds.Executed m) = executed_fields m
@@ -135,13 +146,13 @@ order_line Json moment message = json_line moment (event_word message) (told_fie
 -- what a reader is told of one side of a fill
 unfoldable pub copy_text : DropCopy → List ℕ
 copy_text copy =
-    shown Text copy.account.bytes ++ codes ": " ++ side_words Text copy.side ++ codes " " ++ shares_text copy.executed.shares copy.executed.price
-    ++ codes ", token " ++ shown Text copy.executed.token.bytes ++ match_text copy.executed
+    shown_name copy.account.bytes ++ codes ": " ++ side_text copy.side ++ codes " " ++ shares_text copy.executed.shares copy.executed.price
+    ++ codes ", token " ++ shown_name copy.executed.token.bytes ++ match_text copy.executed
 
 -- the same as fields of a JSON line
 unfoldable pub copy_fields : DropCopy → List ℕ
 copy_fields copy =
-    text_field (codes "account") (shown Json copy.account.bytes) ++ text_field (codes "side") (side_words Json copy.side)
+    name_field (codes "account") copy.account.bytes ++ side_field copy.side
     ++ executed_fields copy.executed
 
 -- the line of a drop copy of this moment

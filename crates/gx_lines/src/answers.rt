@@ -2,14 +2,14 @@
 
 ghost use Rattle.std.specs.Prelude.{◌≡◌, ◌++◌, ◌&&◌, IfOk, OnOk, codes, decimal};
 ghost use Rattle.gx_units.specs.Names.{has_no_lower_case};
-ghost use Rattle.gx_lines.specs.Showing.{shown};
+ghost use Rattle.gx_text.specs.Shown.{shown_name};
 ghost use Rattle.gx_lines.specs.AnswerLines.{done_text, partly_text, capitals_hint, unknown_text, power_word, powerless_text, foreign_text, unchanged_text, record_text, reason_text, denied_text, answered_text, command_word, named_fields, answer_fields, answer_line};
-ghost use Rattle.gx_lines.specs.declared.showing.Form.TheVariants.{Text, Json};
+ghost use Rattle.gx_text.specs.declared.form.Form.TheVariants.{Text, Json};
 
-use crate::json::{append_front, append_name_field, append_number_field, append_word_field};
-use crate::showing::{Form, LINE_ROOM, append_moment, append_shown};
+use crate::json::{append_front, append_name_field, append_number_field, append_text_field};
+use crate::showing::LINE_ROOM;
 use gx_desk::{Action, Answer, AnswerCode};
-use gx_script::{append, append_number};
+use gx_text::{Decimals, Form, append, append_moment, append_name, append_number};
 use gx_units::{Moment, OutOfMemory};
 use std::alloc::Global;
 
@@ -21,17 +21,17 @@ fn append_named(
     behind: &[u8],
 ) -> Result<(), OutOfMemory>
     ensures { OnOk result (text.new.items
-        ≡ text.old.items ++ (front.now ++ shown Text name.now ++ behind.now)) }
+        ≡ text.old.items ++ (front.now ++ shown_name name.now ++ behind.now)) }
 {
     append(text, front)?;
-    append_shown(text, Form::Text, name)?;
+    append_name(text, name)?;
     append(text, behind)
 }
 
 /// Puts a name, and words with a number behind it, at the end of the text.
 fn append_limit(text: &mut Vec<u8>, rule: &[u8], limit: u64) -> Result<(), OutOfMemory>
     ensures { OnOk result (text.new.items
-        ≡ text.old.items ++ (shown Text rule.now ++ codes " limit is " ++ decimal limit)) }
+        ≡ text.old.items ++ (shown_name rule.now ++ codes " limit is " ++ decimal limit)) }
 {
     append_named(text, b"", rule, b" limit is ")?;
     append_number(text, limit)
@@ -46,10 +46,10 @@ fn append_pair(
     other: &[u8],
 ) -> Result<(), OutOfMemory>
     ensures { OnOk result (text.new.items ≡ text.old.items
-        ++ (front.now ++ shown Text one.now ++ between.now ++ shown Text other.now)) }
+        ++ (front.now ++ shown_name one.now ++ between.now ++ shown_name other.now)) }
 {
     append_named(text, front, one, between)?;
-    append_shown(text, Form::Text, other)
+    append_name(text, other)
 }
 
 /// Puts what a granted command has done at the end of the text.
@@ -114,15 +114,6 @@ fn append_capitals_hint(text: &mut Vec<u8>, in_capitals: bool) -> Result<(), Out
     append(text, b"; names are in capitals")
 }
 
-fn append_unknown_account(text: &mut Vec<u8>, account: &[u8]) -> Result<(), OutOfMemory>
-    ensures { OnOk result (text.new.items ≡ text.old.items
-        ++ (codes "the policy has no account " ++ shown Text account.now
-        ++ capitals_hint (has_no_lower_case account.now))) }
-{
-    append_named(text, b"the policy has no account ", account, b"")?;
-    append_capitals_hint(text, is_in_capitals(account))
-}
-
 /// Puts a name between these words, and the hint on names, at the end of the text.
 fn append_hinted(
     text: &mut Vec<u8>,
@@ -132,7 +123,7 @@ fn append_hinted(
     in_capitals: bool,
 ) -> Result<(), OutOfMemory>
     ensures { OnOk result (text.new.items ≡ text.old.items
-        ++ (front.now ++ shown Text name.now ++ behind.now ++ capitals_hint in_capitals)) }
+        ++ (front.now ++ shown_name name.now ++ behind.now ++ capitals_hint in_capitals)) }
 {
     append_named(text, front, name, behind)?;
     append_capitals_hint(text, in_capitals)
@@ -148,7 +139,7 @@ fn append_hinted_pair(
     in_capitals: bool,
 ) -> Result<(), OutOfMemory>
     ensures { OnOk result (text.new.items ≡ text.old.items
-        ++ (front.now ++ shown Text one.now ++ between.now ++ shown Text other.now
+        ++ (front.now ++ shown_name one.now ++ between.now ++ shown_name other.now
         ++ capitals_hint in_capitals)) }
 {
     append_pair(text, front, one, between, other)?;
@@ -158,8 +149,8 @@ fn append_hinted_pair(
 /// Puts that the policy has no such rule, or no such stock, at the end of the text.
 fn append_unknown_stock(text: &mut Vec<u8>, rule: &[u8], stock: &[u8]) -> Result<(), OutOfMemory>
     ensures { OnOk result (text.new.items ≡ text.old.items
-        ++ (codes "the policy has no rule " ++ shown Text rule.now ++ codes " with a list, or no stock "
-        ++ shown Text stock.now
+        ++ (codes "the policy has no rule " ++ shown_name rule.now ++ codes " with a list, or no stock "
+        ++ shown_name stock.now
         ++ capitals_hint (has_no_lower_case rule.now && has_no_lower_case stock.now))) }
 {
     let in_capitals = is_in_capitals(rule) && is_in_capitals(stock);
@@ -181,8 +172,8 @@ fn append_unknown_reader(
     account: &[u8],
 ) -> Result<(), OutOfMemory>
     ensures { OnOk result (text.new.items ≡ text.old.items
-        ++ (codes "the policy has no reader " ++ shown Text reader.now ++ codes ", or no account "
-        ++ shown Text account.now ++ capitals_hint (has_no_lower_case account.now))) }
+        ++ (codes "the policy has no reader " ++ shown_name reader.now ++ codes ", or no account "
+        ++ shown_name account.now ++ capitals_hint (has_no_lower_case account.now))) }
 {
     let in_capitals = is_in_capitals(account);
     let between = b", or no account ";
@@ -203,7 +194,14 @@ fn append_unknown(text: &mut Vec<u8>, asked: &Action) -> Result<(), OutOfMemory>
 {
     match asked {
         Action::Kill(account) | Action::Lift(account) => {
-            append_unknown_account(text, &account.bytes)
+            let front = b"the policy has no account ";
+            append_hinted(
+                text,
+                front,
+                &account.bytes,
+                b"",
+                is_in_capitals(&account.bytes),
+            )
         }
         Action::SetLimit(rule, _) => {
             let (front, behind) = (b"the policy has no rule ", b" with a limit to set");
@@ -308,7 +306,7 @@ pub(crate) fn append_record(
     append(text, b": record ")?;
     append_number(text, number)?;
     append(text, b" at ")?;
-    append_moment(text, moment)
+    append_moment(text, moment, Decimals::Nine)
 }
 
 /// Puts a word between other words at the end of the text.
@@ -438,9 +436,9 @@ fn append_answer_fields(
     ensures { OnOk result (line.new.items
         ≡ line.old.items ++ answer_fields asked.now answer.now) }
 {
-    append_word_field(line, b"command", command_word(asked))?;
+    append_text_field(line, b"command", command_word(asked))?;
     append_named_fields(line, asked)?;
-    append_word_field(line, b"code", &answer.code.code())?;
+    append_text_field(line, b"code", &answer.code.code())?;
     append_name_field(line, b"tag", &answer.tag.bytes)?;
     append_number_field(line, b"record", answer.record_number)
 }

@@ -1,37 +1,44 @@
 //! Answers to commands that were sent before this run, as lines: of these a user is told the type and the tag alone.
 
-ghost use Rattle.std.specs.Prelude.{◌≡◌, ◌++◌, IfOk, OnOk, codes};
-ghost use Rattle.gx_lines.specs.Showing.{text_field};
-ghost use Rattle.gx_lines.specs.AnswerLines.{type_words, earlier_text, earlier_fields, earlier_answer_line};
-ghost use Rattle.gx_lines.specs.declared.showing.Form.TheVariants.{Text, Json};
+ghost use Rattle.std.specs.Prelude.{◌≡◌, ◌++◌, IfOk, OnOk, option_map};
+ghost use Rattle.gx_lines.specs.AnswerLines.{type_word, type_text, type_field, earlier_text, earlier_fields, earlier_answer_line};
+ghost use Rattle.gx_text.specs.declared.form.Form.TheVariants.{Text, Json};
 
 use crate::answers::append_record;
-use crate::json::{
-    append_front, append_name_field, append_number_field, append_text_key, append_word_field,
-};
-use crate::showing::{Form, LINE_ROOM, append_byte, append_shown};
+use crate::json::{append_front, append_name_field, append_number_field, append_text_field};
+use crate::showing::LINE_ROOM;
 use gx_desk::Answer;
-use gx_script::append;
+use gx_text::{Form, append, append_name, append_shown};
 use gx_units::{Moment, OutOfMemory};
 use std::alloc::Global;
 
-/// Puts a command's word, by its type byte, at the end of the text.
-#[tactic(auto, unfolding(crate::specs::AnswerLines::type_words))]
-fn append_type(text: &mut Vec<u8>, form: Form, kind: u8) -> Result<(), OutOfMemory>
-    ensures { OnOk result (text.new.items ≡ text.old.items ++ type_words form kind) }
+/// The word of a command, by its type byte; `None` where there is no such command.
+#[tactic(auto, unfolding(crate::specs::AnswerLines::type_word))]
+fn type_word(kind: u8) -> Option<&'static [u8]>
+    ensures { option_map (λ word. word.now) result ≡ type_word kind }
 {
     match kind {
-        b'K' => append(text, b"kill"),
-        b'L' => append(text, b"lift"),
-        b'M' => append(text, b"limit"),
-        b'R' => append(text, b"restrict"),
-        b'N' => append(text, b"unrestrict"),
-        b'G' => append(text, b"grant"),
-        b'V' => append(text, b"revoke"),
-        b'Z' => append(text, b"close"),
-        other => {
+        b'K' => Some(b"kill"),
+        b'L' => Some(b"lift"),
+        b'M' => Some(b"limit"),
+        b'R' => Some(b"restrict"),
+        b'N' => Some(b"unrestrict"),
+        b'G' => Some(b"grant"),
+        b'V' => Some(b"revoke"),
+        b'Z' => Some(b"close"),
+        _ => None,
+    }
+}
+
+/// Puts a command's word, by its type byte, at the end of the text.
+fn append_type(text: &mut Vec<u8>, kind: u8) -> Result<(), OutOfMemory>
+    ensures { OnOk result (text.new.items ≡ text.old.items ++ type_text kind) }
+{
+    match type_word(kind) {
+        Some(word) => append(text, word),
+        None => {
             append(text, b"command ")?;
-            append_byte(text, form, other)
+            append_shown(text, &[kind])
         }
     }
 }
@@ -41,22 +48,25 @@ fn append_type(text: &mut Vec<u8>, form: Form, kind: u8) -> Result<(), OutOfMemo
 fn append_earlier(text: &mut Vec<u8>, answer: &Answer) -> Result<(), OutOfMemory>
     ensures { OnOk result (text.new.items ≡ text.old.items ++ earlier_text answer.now) }
 {
-    append_type(text, Form::Text, answer.command_type)?;
+    append_type(text, answer.command_type)?;
     append(text, b" with tag ")?;
-    append_shown(text, Form::Text, &answer.tag.bytes)?;
+    append_name(text, &answer.tag.bytes)?;
     append(text, b" answered ")?;
     append(text, &answer.code.code())
 }
 
 /// Puts a command's word, by its type byte, at the end of a JSON line.
-#[tactic(auto, unfolding(crate::specs::Showing::text_field))]
 fn append_type_field(line: &mut Vec<u8>, kind: u8) -> Result<(), OutOfMemory>
-    ensures { OnOk result (line.new.items
-        ≡ line.old.items ++ text_field (codes "command") (type_words Json kind)) }
+    ensures { OnOk result (line.new.items ≡ line.old.items ++ type_field kind) }
 {
-    append_text_key(line, b"command")?;
-    append_type(line, Form::Json, kind)?;
-    append(line, b"\"")
+    match type_word(kind) {
+        Some(word) => append_text_field(line, b"command", word),
+        None => {
+            let mut words = *b"command ?";
+            words[8] = kind;
+            append_text_field(line, b"command", &words)
+        }
+    }
 }
 
 /// Puts what an answer says at the end of a JSON line.
@@ -65,7 +75,7 @@ fn append_earlier_fields(line: &mut Vec<u8>, answer: &Answer) -> Result<(), OutO
     ensures { OnOk result (line.new.items ≡ line.old.items ++ earlier_fields answer.now) }
 {
     append_type_field(line, answer.command_type)?;
-    append_word_field(line, b"code", &answer.code.code())?;
+    append_text_field(line, b"code", &answer.code.code())?;
     append_name_field(line, b"tag", &answer.tag.bytes)?;
     append_number_field(line, b"record", answer.record_number)
 }

@@ -1,12 +1,11 @@
 //! The fields of a JSON line.
 
-ghost use Rattle.std.specs.Prelude.{◌≡◌, ◌++◌, codes, decimal, OnOk};
-ghost use Rattle.gx_lines.specs.Showing.{shown, price_text, key_text, text_field, number_field, json_front};
-ghost use Rattle.gx_lines.specs.declared.showing.Form.TheVariants.{Json};
+ghost use Rattle.std.specs.Prelude.{◌≡◌, ◌++◌, decimal, OnOk};
+ghost use Rattle.gx_lines.specs.Showing.{price_text, key_text, text_field, name_field, number_field, json_front};
 
-use crate::showing::{Form, append_moment, append_price, append_shown};
-use gx_script::{append, append_number};
-use gx_units::{Moment, OutOfMemory};
+use crate::showing::append_price;
+use gx_text::{Decimals, append, append_json_string, append_moment, append_number};
+use gx_units::{Moment, OutOfMemory, unpadded};
 
 /// Begins a line: when, and what.
 #[tactic(auto, unfolding(crate::specs::Showing::json_front))]
@@ -18,10 +17,9 @@ pub(crate) fn append_front(
     ensures { OnOk result (line.new.items ≡ line.old.items ++ json_front moment event.now) }
 {
     append(line, b"{\"at\":\"")?;
-    append_moment(line, moment)?;
-    append(line, b"\",\"event\":\"")?;
-    append(line, event)?;
-    append(line, b"\"")
+    append_moment(line, moment, Decimals::Nine)?;
+    append(line, b"\"")?;
+    append_text_field(line, b"event", event)
 }
 
 /// Puts the beginning of a field at the end of the line.
@@ -34,41 +32,28 @@ fn append_key(line: &mut Vec<u8>, key: &[u8]) -> Result<(), OutOfMemory>
     append(line, b"\":")
 }
 
-/// Puts a field whose value is a text at the end of the line, as far as that text.
-pub(crate) fn append_text_key(line: &mut Vec<u8>, key: &[u8]) -> Result<(), OutOfMemory>
-    ensures { OnOk result (line.new.items ≡ line.old.items ++ (key_text key.now ++ codes "\"")) }
-{
-    append_key(line, key)?;
-    append(line, b"\"")
-}
-
-/// Puts a field whose value is a word of the gate's own at the end of the line.
+/// Puts a field whose value is a text at the end of the line.
 #[tactic(auto, unfolding(crate::specs::Showing::text_field))]
-pub(crate) fn append_word_field(
+pub(crate) fn append_text_field(
     line: &mut Vec<u8>,
     key: &[u8],
-    word: &[u8],
+    text: &[u8],
 ) -> Result<(), OutOfMemory>
-    ensures { OnOk result (line.new.items ≡ line.old.items ++ text_field key.now word.now) }
+    ensures { OnOk result (line.new.items ≡ line.old.items ++ text_field key.now text.now) }
 {
-    append_text_key(line, key)?;
-    append(line, word)?;
-    append(line, b"\"")
+    append_key(line, key)?;
+    append_json_string(line, text)
 }
 
 /// Puts a field whose value is a name at the end of the line, without the spaces that fill the name up.
-#[tactic(auto, unfolding(crate::specs::Showing::text_field))]
 pub(crate) fn append_name_field(
     line: &mut Vec<u8>,
     key: &[u8],
     name: &[u8],
 ) -> Result<(), OutOfMemory>
-    ensures { OnOk result (line.new.items
-        ≡ line.old.items ++ text_field key.now (shown Json name.now)) }
+    ensures { OnOk result (line.new.items ≡ line.old.items ++ name_field key.now name.now) }
 {
-    append_text_key(line, key)?;
-    append_shown(line, Form::Json, name)?;
-    append(line, b"\"")
+    append_text_field(line, key, unpadded(name))
 }
 
 /// Puts a field whose value is a number at the end of the line.

@@ -1,13 +1,18 @@
 //! What is so of every line.
 
-ghost use Rattle.gx_lines.specs.NameLaws.{NamesAreVisible};
+ghost use Rattle.gx_lines.specs.NameLaws.{NamesAreVisible, JsonNamesArePrinted};
 ghost use Rattle.gx_lines.specs.LineLaws.{AnswersAreOneLine, EarlierAnswersAreOneLine, OrdersAreOneLine, CopiesAreOneLine};
 
-/// Whatever bytes a peer put into a name, visible characters alone are shown of it: none ends a line, and none speaks to a
-/// terminal.
+use gx_text::shown_bytes_are_visible;
+
+/// Whatever bytes a peer put into a name, visible characters alone are shown of it, and in JSON spaces: none ends a line, and
+/// none speaks to a terminal.
 pub fn names_are_visible()
-    ensures { NamesAreVisible }
-{}
+    ensures text { NamesAreVisible }
+    ensures json { JsonNamesArePrinted }
+{
+    shown_bytes_are_visible();
+}
 
 /// Each line is one line, whatever its message holds: visible characters and spaces, and an LF at its end.
 pub fn lines_are_whole()
@@ -15,4 +20,6 @@ pub fn lines_are_whole()
     ensures earlier_answers { EarlierAnswersAreOneLine }
     ensures orders { OrdersAreOneLine }
     ensures copies { CopiesAreOneLine }
-{}
+{
+    shown_bytes_are_visible();
+}

@@ -12,4 +12,3 @@ pub use answers::answer_line;
 pub use earlier::earlier_answer_line;
 pub use laws::{lines_are_whole, names_are_visible};
 pub use orders::{copy_line, order_line};
-pub use showing::Form;

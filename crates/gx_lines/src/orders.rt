@@ -1,39 +1,48 @@
 //! What traders and readers are told, as lines.
 
-ghost use Rattle.std.specs.Prelude.{◌≡◌, ◌++◌, IfOk, OnOk, codes, decimal};
-ghost use Rattle.gx_lines.specs.Showing.{shown, text_field};
+ghost use Rattle.std.specs.Prelude.{◌≡◌, ◌++◌, IfOk, OnOk, decimal, option_map};
+ghost use Rattle.gx_text.specs.Shown.{shown_name};
 ghost use Rattle.gx_script.specs.Printing.{line_end};
 ghost use Rattle.gx_ouch.specs.declared.outbound.Outbound.TheVariants as messages;
-ghost use Rattle.gx_lines.specs.OrderLines.{side_words, liquidity_word, cancel_words, reject_words, shares_text, terms_text, match_text, told_text, time_text, terms_fields, executed_fields, event_word, told_fields, order_line, copy_text, copy_fields, copy_line};
-ghost use Rattle.gx_lines.specs.declared.showing.Form.TheVariants.{Text, Json};
+ghost use Rattle.gx_lines.specs.OrderLines.{side_words, side_text, side_field, liquidity_word, cancel_words, reject_words, shares_text, terms_text, match_text, told_text, time_text, terms_fields, executed_fields, event_word, told_fields, order_line, copy_text, copy_fields, copy_line};
+ghost use Rattle.gx_text.specs.declared.form.Form.TheVariants.{Text, Json};
 
 use crate::json::{
-    append_front, append_name_field, append_number_field, append_price_field, append_text_key,
-    append_word_field,
+    append_front, append_name_field, append_number_field, append_price_field, append_text_field,
 };
-use crate::showing::{Form, LINE_ROOM, append_byte, append_moment, append_price, append_shown};
+use crate::showing::{LINE_ROOM, append_price};
 use gx_desk::DropCopy;
 use gx_ouch::{
     Accepted, CancelReason, Canceled, Executed, Liquidity, OrderTerms, Outbound, RejectReason,
     Rejected, Replaced,
 };
-use gx_script::{append, append_number};
+use gx_text::{Decimals, Form, append, append_moment, append_name, append_number, append_shown};
 use gx_units::{Moment, OutOfMemory};
 use std::alloc::Global;
 
-/// Puts the side of an order at the end of the text.
+/// The side of an order in words, by its Buy/Sell Indicator; `None` where there is no such side.
 #[tactic(auto, unfolding(crate::specs::OrderLines::side_words))]
-fn append_side(text: &mut Vec<u8>, form: Form, side: u8) -> Result<(), OutOfMemory>
-    ensures { OnOk result (text.new.items ≡ text.old.items ++ side_words form side) }
+fn side_words(side: u8) -> Option<&'static [u8]>
+    ensures { option_map (λ words. words.now) result ≡ side_words side }
 {
     match side {
-        b'B' => append(text, b"buy"),
-        b'S' => append(text, b"sell"),
-        b'T' => append(text, b"sell short"),
-        b'E' => append(text, b"sell short exempt"),
-        other => {
+        b'B' => Some(b"buy"),
+        b'S' => Some(b"sell"),
+        b'T' => Some(b"sell short"),
+        b'E' => Some(b"sell short exempt"),
+        _ => None,
+    }
+}
+
+/// Puts the side of an order at the end of the text.
+fn append_side(text: &mut Vec<u8>, side: u8) -> Result<(), OutOfMemory>
+    ensures { OnOk result (text.new.items ≡ text.old.items ++ side_text side) }
+{
+    match side_words(side) {
+        Some(words) => append(text, words),
+        None => {
             append(text, b"side ")?;
-            append_byte(text, form, other)
+            append_shown(text, &[side])
         }
     }
 }
@@ -103,11 +112,11 @@ fn append_numbered(text: &mut Vec<u8>, front: &[u8], number: u64) -> Result<(), 
 }
 
 /// Puts a name, and words behind it, at the end of the text.
-fn append_name(text: &mut Vec<u8>, name: &[u8], behind: &[u8]) -> Result<(), OutOfMemory>
+fn append_subject(text: &mut Vec<u8>, name: &[u8], behind: &[u8]) -> Result<(), OutOfMemory>
     ensures { OnOk result (text.new.items
-        ≡ text.old.items ++ (shown Text name.now ++ behind.now)) }
+        ≡ text.old.items ++ (shown_name name.now ++ behind.now)) }
 {
-    append_shown(text, Form::Text, name)?;
+    append_name(text, name)?;
     append(text, behind)
 }
 
@@ -116,10 +125,10 @@ fn append_name(text: &mut Vec<u8>, name: &[u8], behind: &[u8]) -> Result<(), Out
 fn append_terms(text: &mut Vec<u8>, terms: &OrderTerms, number: u64) -> Result<(), OutOfMemory>
     ensures { OnOk result (text.new.items ≡ text.old.items ++ terms_text terms.now number) }
 {
-    append_side(text, Form::Text, terms.side)?;
+    append_side(text, terms.side)?;
     append_numbered(text, b" ", u64::from(terms.shares))?;
     append(text, b" ")?;
-    append_name(text, &terms.stock.bytes, b" at ")?;
+    append_subject(text, &terms.stock.bytes, b" at ")?;
     append_price(text, terms.price)?;
     append_numbered(text, b", order ", number)
 }
@@ -140,8 +149,8 @@ fn append_replaced(text: &mut Vec<u8>, message: &Replaced) -> Result<(), OutOfMe
     ensures { OnOk result (text.new.items
         ≡ text.old.items ++ told_text (messages.Replaced message.now)) }
 {
-    append_name(text, &message.token.bytes, b" replaces ")?;
-    append_name(text, &message.previous_token.bytes, b": ")?;
+    append_subject(text, &message.token.bytes, b" replaces ")?;
+    append_subject(text, &message.previous_token.bytes, b": ")?;
     append_terms(text, &message.terms, message.order_reference)
 }
 
@@ -150,7 +159,7 @@ fn append_canceled(text: &mut Vec<u8>, message: &Canceled) -> Result<(), OutOfMe
     ensures { OnOk result (text.new.items
         ≡ text.old.items ++ told_text (messages.Canceled message.now)) }
 {
-    append_name(text, &message.token.bytes, b" canceled: ")?;
+    append_subject(text, &message.token.bytes, b" canceled: ")?;
     append_number(text, u64::from(message.decrement))?;
     append(text, b", ")?;
     append(text, cancel_words(message.reason))
@@ -161,7 +170,7 @@ fn append_executed(text: &mut Vec<u8>, message: &Executed) -> Result<(), OutOfMe
     ensures { OnOk result (text.new.items
         ≡ text.old.items ++ told_text (messages.Executed message.now)) }
 {
-    append_name(text, &message.token.bytes, b" executed: ")?;
+    append_subject(text, &message.token.bytes, b" executed: ")?;
     append_shares(text, message.shares, message.price)?;
     append_match(text, message)
 }
@@ -171,7 +180,7 @@ fn append_rejected(text: &mut Vec<u8>, message: &Rejected) -> Result<(), OutOfMe
     ensures { OnOk result (text.new.items
         ≡ text.old.items ++ told_text (messages.Rejected message.now)) }
 {
-    append_name(text, &message.token.bytes, b" rejected: ")?;
+    append_subject(text, &message.token.bytes, b" rejected: ")?;
     append(text, &[message.reason.letter()])?;
     append(text, b", ")?;
     append(text, reject_words(message.reason))
@@ -185,7 +194,7 @@ fn append_told(text: &mut Vec<u8>, message: &Outbound) -> Result<(), OutOfMemory
     match message {
         Outbound::SystemEvent(_) => append(text, b"the day ends"),
         Outbound::Accepted(message) => {
-            append_name(text, &message.token.bytes, b" accepted: ")?;
+            append_subject(text, &message.token.bytes, b" accepted: ")?;
             append_terms(text, &message.terms, message.order_reference)
         }
         Outbound::Replaced(message) => append_replaced(text, message),
@@ -200,19 +209,22 @@ fn append_time(text: &mut Vec<u8>, moment: Moment) -> Result<(), OutOfMemory>
     ensures { OnOk result (text.new.items ≡ text.old.items ++ (time_text moment ++ line_end)) }
 {
     append(text, b", at ")?;
-    append_moment(text, moment)?;
+    append_moment(text, moment, Decimals::Nine)?;
     append(text, b"\n")
 }
 
 /// Puts the side of an order at the end of a JSON line.
-#[tactic(auto, unfolding(crate::specs::Showing::text_field))]
 fn append_side_field(line: &mut Vec<u8>, side: u8) -> Result<(), OutOfMemory>
-    ensures { OnOk result (line.new.items
-        ≡ line.old.items ++ text_field (codes "side") (side_words Json side)) }
+    ensures { OnOk result (line.new.items ≡ line.old.items ++ side_field side) }
 {
-    append_text_key(line, b"side")?;
-    append_side(line, Form::Json, side)?;
-    append(line, b"\"")
+    match side_words(side) {
+        Some(words) => append_text_field(line, b"side", words),
+        None => {
+            let mut words = *b"side ?";
+            words[5] = side;
+            append_text_field(line, b"side", &words)
+        }
+    }
 }
 
 /// Puts the terms of an order, and its number, at the end of a JSON line.
@@ -241,7 +253,7 @@ fn append_executed_fields(line: &mut Vec<u8>, message: &Executed) -> Result<(), 
     append_number_field(line, b"shares", u64::from(message.shares))?;
     append_price_field(line, b"price", message.price)?;
     append_number_field(line, b"match", message.match_number)?;
-    append_word_field(line, b"liquidity", liquidity_word(message.liquidity))
+    append_text_field(line, b"liquidity", liquidity_word(message.liquidity))
 }
 
 /// The event of a message.
@@ -285,7 +297,7 @@ fn append_canceled_fields(line: &mut Vec<u8>, message: &Canceled) -> Result<(), 
 {
     append_name_field(line, b"token", &message.token.bytes)?;
     append_number_field(line, b"shares", u64::from(message.decrement))?;
-    append_word_field(line, b"reason", cancel_words(message.reason))
+    append_text_field(line, b"reason", cancel_words(message.reason))
 }
 
 #[tactic(auto, unfolding(crate::specs::OrderLines::told_fields))]
@@ -294,8 +306,8 @@ fn append_rejected_fields(line: &mut Vec<u8>, message: &Rejected) -> Result<(), 
         ≡ line.old.items ++ told_fields (messages.Rejected message.now)) }
 {
     append_name_field(line, b"token", &message.token.bytes)?;
-    append_word_field(line, b"reason", &[message.reason.letter()])?;
-    append_word_field(line, b"text", reject_words(message.reason))
+    append_text_field(line, b"reason", &[message.reason.letter()])?;
+    append_text_field(line, b"text", reject_words(message.reason))
 }
 
 /// Puts what a trader is told at the end of a JSON line.
@@ -353,12 +365,12 @@ pub fn order_line(
 fn append_copy(text: &mut Vec<u8>, copy: &DropCopy) -> Result<(), OutOfMemory>
     ensures { OnOk result (text.new.items ≡ text.old.items ++ copy_text copy.now) }
 {
-    append_name(text, &copy.account.bytes, b": ")?;
-    append_side(text, Form::Text, copy.side)?;
+    append_subject(text, &copy.account.bytes, b": ")?;
+    append_side(text, copy.side)?;
     append(text, b" ")?;
     append_shares(text, copy.executed.shares, copy.executed.price)?;
     append(text, b", token ")?;
-    append_shown(text, Form::Text, &copy.executed.token.bytes)?;
+    append_name(text, &copy.executed.token.bytes)?;
     append_match(text, &copy.executed)
 }
 

@@ -1,246 +1,159 @@
 -- Orders come to rest in the order of their numbers.
-use Rattle.std.proofs.Common.{◌≡◌, ℕ, ◌+◌, ◌-◌, ◌<◌, ◌≤◌, Bool, true, false, not, List, [], ◌∷◌, ◌++◌, refl, ◌∙◌, ap, sym, map, cond, length, arith}
+use Rattle.std.proofs.Common.{◌≡◌, ℕ, ◌<◌, ◌≤◌, Bool, true, false, List, [], ◌∷◌, ◌++◌, refl, ◌∙◌, ap, sym, cond, arith}
 use Rattle.std.proofs.Math.Path.{subst}
-use Rattle.std.specs.Prelude.{Option, Some, None, option_map, slice_get, option_to_list, ◌==◌, ◌||◌}
-use Rattle.std.specs.Option.{option_map_or}
-use Rattle.std.specs.List.{filter, list_any, AllByRecursion}
-use Rattle.std.proofs.lemmas.Bool.{eqb-true}
+use Rattle.std.specs.Prelude.{Option, Some, None, ◌==◌}
+use Rattle.std.specs.List.{AllByRecursion, cons_option, filter_map}
+use Rattle.std.proofs.lemmas.Bool.{ne_eqb}
 use Rattle.std.proofs.lemmas.List.{append-nil}
-use Rattle.gx_units.specs.declared.names.AccountName.{AccountName}
-use Rattle.gx_units.specs.declared.names.Symbol.{Symbol}
-use Rattle.gx_units.specs.declared.names.UserName.{UserName}
 use Rattle.gx_policy.specs.declared.policy.PolicyData.{PolicyData}
+use Rattle.gx_history.specs.declared.live_order.LiveOrder.{LiveOrder}
 use Rattle.gx_history.specs.declared.record.RecordData.{RecordData}
-use Rattle.gx_history.specs.declared.record.Request.{Request}
-use Rattle.gx_history.specs.declared.record.Request.TheVariants as requests
-use Rattle.gx_history.specs.declared.record.Step.{Step}
-use Rattle.gx_history.specs.declared.record.Step.TheVariants as steps
 use Rattle.gx_history.specs.declared.record.Verdict.{Verdict}
 use Rattle.gx_history.specs.declared.record.Verdict.TheVariants as verdicts
-use Rattle.gx_history.specs.Book.{has_rested, incoming, is_buy, rested, rested_of, resting}
-use Rattle.gx_history.specs.Effects.{replacement, still_open, whole_order, with_open}
-use Rattle.gx_history.specs.Executions.{Standing, done, executions, is_live, live_orders, standing, standing_under, standings}
-use Rattle.gx_history.specs.Orders.{Order, orders}
-use Rattle.gx_policy.specs.People.{account_of}
-use Rattle.gx_history.specs.Requests.{is_judged}
-use Rattle.gx_history.specs.Verdicts.{next, IsLegal}
-use Rattle.gx_history_laws.proofs.Granting.{asked_is_judged, legal_keeps}
-use Rattle.gx_history_laws.proofs.Listed.{IsListed}
-use Rattle.gx_history_laws.proofs.NextOrders.{orders_none, rested_next}
+use Rattle.gx_history.specs.Book.{is_buy, rested_of}
+use Rattle.gx_history.specs.MayMove.{MayRest}
+use Rattle.gx_history.specs.Turns.{Turn, Adds, Replaces, Rests, becomes, live, new_in, side, turn_by, turned}
+use Rattle.gx_history.specs.Verdicts.{IsLegal, next}
+use Rattle.gx_history.specs.World.{world}
+use Rattle.gx_history_laws.proofs.Granting.{legal_keeps}
 use Rattle.gx_history_laws.proofs.NextReports.{legal_next, legal_none}
 use Rattle.gx_history_laws.proofs.Numbers.{all_weaker, number_left}
-use Rattle.gx_history_laws.proofs.Owners.{all_both, filtered}
-use Rattle.gx_effects.specs.OneMore.{Change, Nothing, Adds, Leaves, Replaces, EndsAll, Fills, Rests, change_by, change_by_request, change_of, incoming_with}
+use Rattle.gx_history_laws.proofs.Order.{some_same}
+use Rattle.gx_history_laws.proofs.Owners.{all_both}
 use Rattle.gx_effects.proofs.Entered.{all_mapped}
-use Rattle.gx_effects.proofs.Known.{RestsThere, all_resting}
-use Rattle.gx_effects.proofs.OneMore.{one_more}
-use Rattle.gx_effects.proofs.Orderly.{IsOrderly, legal_is_orderly}
-use Rattle.gx_effects.proofs.Rests.{IsRest, incoming_after_rest, is_rest, same_standings}
+use Rattle.gx_effects.proofs.Known.{all_found_of}
+use Rattle.gx_effects.proofs.Live.{live_next}
+use Rattle.gx_effects.proofs.Moving.{may_by}
+use Rattle.gx_effects.proofs.NewOrders.{found_is}
+use Rattle.gx_effects.proofs.Resting.{IsLiving, RestsThere, all_living, all_resting}
+use Rattle.gx_effects.proofs.Sides.{AreNew, becomes_same, goes, new_by, puts_to_rest}
+use Rattle.gx_orders.specs.LiveOrders.{OrdersData, first_waiting}
+use Rattle.gx_orders.proofs.Staying.{live_within, none_at_first}
 use Rattle.gx_book.specs.declared.resting.Resting.{Resting}
-use Rattle.gx_book.specs.Books.{resting_in}
-use Rattle.gx_book.specs.Queue.{IsLatest}
-use Rattle.gx_history.specs.declared.live_order.LiveOrder.{LiveOrder}
-use Rattle.gx_history.specs.LiveOrders.{kept}
-use Rattle.gx_orders.specs.InForce.{orders_in_force}
-use Rattle.gx_orders.specs.LiveOrders.{first_waiting}
-use Rattle.gx_orders.proofs.Keeping.{first_is}
-use Rattle.gx_market.specs.BookInForce.{book_in_force, rested_as}
 use Rattle.gx_market.specs.Changes.{resting_of}
+use Rattle.gx_market.specs.Laws.{FirstIsLatest}
 use Rattle.gx_market.proofs.Booked.{resting_found}
-use Rattle.gx_market.proofs.Crossing.{first_is_kept}
-use Rattle.gx_market.proofs.Listed.{waiting_are_listed}
+use Rattle.gx_market.proofs.ByKind.{comes_first}
 
-abbrev IsAbove : ℕ → Standing → Type 0
-IsAbove n s = n < s.order.number
+never : {X : Type 0} {b : Bool} → b ≡ true → b ≡ false → X
+never h k = cc
 
--- each order has a number above those before it
-abbrev Ascend : List Standing → Type 0
+-- p has the greater number, and waits where o does
+abbrev IsBehind : LiveOrder → LiveOrder → Type 0
+IsBehind o p = (o.number < p.number) × (o.waits ≡ true → p.waits ≡ true)
+
+-- numbers rise, and those that wait come last
+abbrev Ascend : List LiveOrder → Type 0
 Ascend [] = Unit {0}
-Ascend (s ∷ ss) = AllByRecursion (IsAbove s.order.number) ss × Ascend ss
+Ascend (o ∷ os) = AllByRecursion (IsBehind o) os × Ascend os
 
--- the order is above these numbers
-abbrev IsAboveAll : List ℕ → Standing → Type 0
-IsAboveAll ns s = AllByRecursion (λ (n : ℕ). n < s.order.number) ns
-
--- orders that stand behind these numbers, in the order of their own
-record InTurn (ns : List ℕ) (ss : List Standing) : Type 0 where
-  ascend : Ascend ss
-  above : AllByRecursion (IsAboveAll ns) ss
-
-ascend_chosen : (p : Standing → Bool) (ss : List Standing) → Ascend ss → Ascend (filter p ss)
-ascend_chosen p [] h = tt
-ascend_chosen p (s ∷ ss) h = at (p s) (filtered (IsAbove s.order.number) p ss h.0) (ascend_chosen p ss h.1)
+ascend_turned : (f : LiveOrder → Option LiveOrder) (Q : LiveOrder → Type 0) → ((o p x y : LiveOrder) → Q o → IsBehind o p → f o ≡ Some x → f p ≡ Some y → IsBehind x y)
+    → (os : List LiveOrder) → AllByRecursion Q os → Ascend os → Ascend (filter_map f os)
+ascend_turned f Q step [] all h = tt
+ascend_turned f Q step (o ∷ os) all h = at (f o) refl (ascend_turned f Q step os all.1 h.1)
   where
-    at : (b : Bool) → AllByRecursion (IsAbove s.order.number) (filter p ss) → Ascend (filter p ss) → Ascend (cond b (s ∷ filter p ss) (filter p ss))
-    at true later deeper = (later, deeper)
-    at false later deeper = deeper
+    at : (found : Option LiveOrder) → f o ≡ found → Ascend (filter_map f os) → Ascend (cons_option found (filter_map f os))
+    at None e later = later
+    at (Some x) e later = (all_found_of (IsBehind o) (IsBehind x) f (λ p y behind k. step o p x y all.0 behind e k) os h.0, later)
 
-chosen : (p : Standing → Bool) (ns : List ℕ) (ss : List Standing) → InTurn ns ss → InTurn ns (filter p ss)
-chosen p ns ss h = record { ascend = ascend_chosen p ss h.ascend; above = filtered (IsAboveAll ns) p ss h.above }
-
-ascend_opened : (g : Standing → ℕ) (ss : List Standing) → Ascend ss → Ascend (map (with_open g) ss)
-ascend_opened g [] h = tt
-ascend_opened g (s ∷ ss) h = (all_mapped (IsAbove s.order.number) (with_open g) ss h.0, ascend_opened g ss h.1)
-
-opened : (g : Standing → ℕ) (ns : List ℕ) (ss : List Standing) → InTurn ns ss → InTurn ns (still_open g ss)
-opened g ns ss h =
-    chosen is_live ns (map (with_open g) ss) (record { ascend = ascend_opened g ss h.ascend; above = all_mapped (IsAboveAll ns) (with_open g) ss h.above })
-
-abbrev IsWithin : ℕ → Standing → Type 0
-IsWithin limit s = s.order.number ≤ limit
-
-ascend_joined : (limit : ℕ) (new : Standing) (ss : List Standing) → limit < new.order.number → AllByRecursion (IsWithin limit) ss → Ascend ss → Ascend (ss ++ new ∷ [])
-ascend_joined limit new [] over within h = (tt, tt)
-ascend_joined limit new (s ∷ ss) over within h =
-    let small : s.order.number ≤ limit = within.0 in
-    (all_both (IsAbove s.order.number) ss (new ∷ []) h.0 (omega arith, tt), ascend_joined limit new ss over within.1 h.1)
-
-joined : (limit : ℕ) (new : Standing) (ns : List ℕ) (ss : List Standing) → limit < new.order.number → AllByRecursion (λ (n : ℕ). n ≤ limit) ns
-    → AllByRecursion (IsWithin limit) ss → InTurn ns ss → InTurn ns (ss ++ new ∷ [])
-joined limit new ns ss over small within h = record {
-  ascend = ascend_joined limit new ss over within h.ascend;
-  above = all_both (IsAboveAll ns) ss (new ∷ []) h.above (all_weaker (λ (n : ℕ). n ≤ limit) (λ (n : ℕ). n < new.order.number) (λ n k. omega arith) ns small, tt);
-}
-
--- what a change adds has a number above this one, and it puts none to rest
-abbrev AddsAbove : ℕ → Change → Type 0
-AddsAbove limit Nothing = Unit {0}
-AddsAbove limit (Adds new) = limit < new.order.number
-AddsAbove limit (Leaves number left) = Unit {0}
-AddsAbove limit (Replaces number new) = limit < new.order.number
-AddsAbove limit (EndsAll action) = Unit {0}
-AddsAbove limit (Fills f) = Unit {0}
-AddsAbove limit (Rests s) = ⊥
-
--- those that wait still stand in turn
-changed : (limit : ℕ) (c : Change) (ns : List ℕ) (ss : List Standing) → AddsAbove limit c → AllByRecursion (λ (n : ℕ). n ≤ limit) ns → AllByRecursion (IsWithin limit) ss → InTurn ns ss
-    → InTurn ns (incoming_with c ss)
-changed limit Nothing ns ss over small within h = h
-changed limit (Adds new) ns ss over small within h = joined limit new ns ss over small within h
-changed limit (Leaves number left) ns ss over small within h = opened _ ns ss h
-changed limit (Replaces number new) ns ss over small within h =
-    joined limit new ns (filter (λ (s : Standing). not (s.order.number == number)) ss) over small
-    (filtered (IsWithin limit) (λ (s : Standing). not (s.order.number == number)) ss within) (chosen (λ (s : Standing). not (s.order.number == number)) ns ss h)
-changed limit (EndsAll action) ns ss over small within h = chosen _ ns ss h
-changed limit (Fills f) ns ss over small within h = opened _ ns ss h
-changed limit (Rests s) ns ss over small within h = absurd over
-
-request_adds : (policy : PolicyData) (history : List RecordData) (r : RecordData) (limit : ℕ) (user : UserName) → r.number ≡ limit + 1 → (q : Request)
-    → AddsAbove limit (change_by_request policy history r user q)
-request_adds policy history r limit user is (requests.Login m) = tt
-request_adds policy history r limit user is requests.Logout = tt
-request_adds policy history r limit user is (requests.Unreadable m) = tt
-request_adds policy history r limit user is (requests.Enter m) = at (account_of policy user)
+ascend_joined : (r : RecordData) (turn : Turn) (os : List LiveOrder) → AreNew r turn → AllByRecursion (λ (o : LiveOrder). o.number < r.number) os → Ascend os → Ascend (os ++ new_in turn)
+ascend_joined r turn [] new within h = alone turn
   where
-    at : (found : Option AccountName) → AddsAbove limit (option_map_or (λ (account : AccountName). Adds (whole_order policy r user account m)) found Nothing)
-    at None = tt
-    at (Some account) = omega arith
-request_adds policy history r limit user is (requests.Replace m) = at (standing_under (live_orders policy history) user m.existing_token)
+    alone : (t : Turn) → Ascend (new_in t)
+    alone (Adds o) = (tt, tt)
+    alone (Replaces number o) = (tt, tt)
+    alone other = tt
+ascend_joined r turn (o ∷ os) new within h = (
+  all_both (IsBehind o) os (new_in turn) h.0
+      (all_weaker (λ (p : LiveOrder). (p.number ≡ r.number) × (p.waits ≡ true)) (IsBehind o) (λ p is. (subst (λ (n : ℕ). o.number < n) (sym is.0) within.0, λ waits. is.1)) (new_in turn) new),
+  ascend_joined r turn os new within.1 h.1,
+)
+
+-- a turn that puts none to rest
+turns_on : (r : RecordData) (turn : Turn) (os : List LiveOrder) → puts_to_rest turn ≡ false → AreNew r turn → AllByRecursion (λ (o : LiveOrder). o.number < r.number) os → Ascend os → Ascend (turned turn os)
+turns_on r turn os stays new within h =
+    ascend_joined r turn (filter_map (becomes turn) os) new
+    (all_found_of (λ (o : LiveOrder). o.number < r.number) (λ (o : LiveOrder). o.number < r.number) (becomes turn) (λ o x k e. subst (λ (n : ℕ). n < r.number) (sym (becomes_same turn o x e).0) k) os within)
+    (ascend_turned (becomes turn) (λ (o : LiveOrder). o.number < r.number) by os within h)
   where
-    at : (found : Option Standing) → AddsAbove limit (option_map_or (λ (old : Standing). Replaces old.order.number (replacement policy history r m old.order)) found Nothing)
-    at None = tt
-    at (Some old) = omega arith
-request_adds policy history r limit user is (requests.Cancel m) = at (standing_under (live_orders policy history) user m.token)
+    by : (o p x y : LiveOrder) → o.number < r.number → IsBehind o p → becomes turn o ≡ Some x → becomes turn p ≡ Some y → IsBehind x y
+    by o p x y small behind e k = (
+      subst (λ (n : ℕ). n < y.number) (sym (becomes_same turn o x e).0) (subst (λ (n : ℕ). o.number < n) (sym (becomes_same turn p y k).0) behind.0),
+      λ waits. (becomes_same turn p y k).2 stays ∙ behind.1 (sym ((becomes_same turn o x e).2 stays) ∙ waits),
+    )
+
+-- those before the first that waits rest, and have lesser numbers
+abbrev IsParted : LiveOrder → LiveOrder → Type 0
+IsParted first o = (o.waits ≡ true → first.number ≤ o.number) × (o.waits ≡ false → o.number < first.number)
+
+parted : (first : LiveOrder) (os : List LiveOrder) → Ascend os → first_waiting os ≡ Some first → AllByRecursion (IsParted first) os
+parted first [] h e = tt
+parted first (o ∷ os) h e = at o.waits refl e (parted first os h.1)
   where
-    at : (found : Option Standing) → AddsAbove limit (option_map_or (λ (cut : Standing). Leaves cut.order.number (m.shares - done (executions policy history) cut.order)) found Nothing)
-    at None = tt
-    at (Some cut) = tt
-request_adds policy history r limit user is (requests.Command c) = tt
+    behind : o.waits ≡ true → (p : LiveOrder) → IsBehind o p → IsParted o p
+    behind w p b = (λ waits. let less : o.number < p.number = b.0 in omega arith, λ rests. never (b.1 w) rests)
 
-adds : (policy : PolicyData) (history : List RecordData) (r : RecordData) (limit : ℕ) → r.number ≡ limit + 1 → (v : Verdict) (s : Step) → rested_of v ≡ None
-    → AddsAbove limit (change_by policy history r v s)
-adds policy history r limit is verdicts.Granted (steps.Asked a) none = request_adds policy history r limit a.user is a.request
-adds policy history r limit is verdicts.Granted (steps.Matching handed) none = tt
-adds policy history r limit is (verdicts.Denied rule) s none = tt
-adds policy history r limit is (verdicts.Filled f) s none = tt
-adds policy history r limit is (verdicts.Rested number) s none = cc
-adds policy history r limit is (verdicts.Expired number) s none = tt
+    at : (b : Bool) → o.waits ≡ b → cond b (Some o) (first_waiting os) ≡ Some first → (first_waiting os ≡ Some first → AllByRecursion (IsParted first) os) → IsParted first o × AllByRecursion (IsParted first) os
+    at true w k deeper = subst (λ (x : LiveOrder). AllByRecursion (IsParted x) (o ∷ os)) (some_same k) ((λ waits. omega arith, λ rests. never w rests), all_weaker (IsBehind o) (IsParted o) (behind w) os h.0)
+    at false w k deeper = ((λ waits. never waits w, λ rests. (found_is (IsBehind o) (λ (x : LiveOrder). x.waits) os first h.0 k).0), deeper k)
 
-waiting_within : (policy : PolicyData) (history : List RecordData) → IsOrderly policy history → AllByRecursion (IsWithin (length history)) (incoming policy history)
-unfolding incoming live_orders standings
-waiting_within policy history orderly =
-    filtered (IsWithin (length history)) (λ (s : Standing). not (has_rested history s)) (live_orders policy history)
-    (filtered (IsWithin (length history)) is_live (standings policy history)
-    (all_mapped (IsWithin (length history)) (standing (executions policy history) history) (orders policy history) orderly.within))
-
--- the first of them comes to rest, and the others are above it
-put_behind : (k : ℕ) (ns : List ℕ) (ss : List Standing) → AllByRecursion (IsAbove k) ss → AllByRecursion (IsAboveAll ns) ss → AllByRecursion (IsAboveAll (ns ++ k ∷ [])) ss
-put_behind k ns [] later above = tt
-put_behind k ns (s ∷ ss) later above = (all_both (λ (n : ℕ). n < s.order.number) ns (k ∷ []) above.0 (later.0, tt), put_behind k ns ss later.1 above.1)
-
-in_turn_next : (policy : PolicyData) (history : List RecordData) (r : RecordData) → IsLegal policy history → next policy history r.step ≡ Some r → InTurn (rested history) (incoming policy history)
-    → InTurn (rested (history ++ r ∷ [])) (incoming policy (history ++ r ∷ []))
-in_turn_next policy history r legal left h = by r.verdict refl
+-- the first that waits comes to rest
+rests_on : (number : ℕ) (first : LiveOrder) (os : List LiveOrder) → first_waiting os ≡ Some first → number ≡ first.number → Ascend os → Ascend (filter_map (becomes (Rests number)) os)
+rests_on number first os e is h = ascend_turned (becomes (Rests number)) (IsParted first) by os (parted first os h e) h
   where
-    orderly : IsOrderly policy history
-    orderly = legal_is_orderly policy history legal
+    kept : (o x : LiveOrder) → (number == o.number) ≡ false → becomes (Rests number) o ≡ Some x → x.waits ≡ o.waits
+    kept o x other k = ap (λ (y : LiveOrder). y.waits) (sym (ap (λ (b : Bool). cond b (record o { waits = false }) o) (sym other) ∙ some_same k))
 
-    none_rests : rested_of r.verdict ≡ None → InTurn (rested (history ++ r ∷ [])) (incoming policy (history ++ r ∷ []))
-    none_rests none =
-        subst (λ (ns : List ℕ). InTurn ns (incoming policy (history ++ r ∷ [])))
-        (sym (rested_next history r ∙ ap (λ (found : Option ℕ). rested history ++ option_to_list found) none ∙ append-nil (rested history)))
-        (subst (InTurn (rested history)) (sym (one_more policy history r.step r legal left).waits)
-        (changed (length history) (change_of policy history r) (rested history) (incoming policy history)
-        (adds policy history r (length history) (number_left policy history r.step r left) r.verdict r.step none) orderly.rested_within (waiting_within policy history orderly) h))
+    waits_on : (o p x y : LiveOrder) → IsParted first o → IsBehind o p → becomes (Rests number) o ≡ Some x → becomes (Rests number) p ≡ Some y → x.waits ≡ true → (b : Bool) → (number == o.number) ≡ b → y.waits ≡ true
+    waits_on o p x y sides behind k l waits true same = never waits (ap (λ (z : LiveOrder). z.waits) (sym (ap (λ (b : Bool). cond b (record o { waits = false }) o) (sym same) ∙ some_same k)))
+    waits_on o p x y sides behind k l waits false other =
+        let did : o.waits ≡ true = sym (kept o x other k) ∙ waits in
+        let above : first.number ≤ o.number = sides.0 did in
+        let less : o.number < p.number = behind.0 in
+        kept p y (ne_eqb number p.number (λ same. absurd (omega (arith, same, is)))) l ∙ behind.1 did
 
-    first_rests : (number : ℕ) → r.verdict ≡ verdicts.Rested number → (s : Step) → next policy history s ≡ Some r → InTurn (rested (history ++ r ∷ [])) (incoming policy (history ++ r ∷ []))
-    first_rests number e (steps.Asked a) asked = let judged : false ≡ true = ap is_judged (sym e) ∙ asked_is_judged policy history a r asked in cc
-    first_rests number e (steps.Matching handed) matched = of_first (is_rest policy history handed r number orderly matched e)
-      where
-        of_first : IsRest policy history r number → InTurn (rested (history ++ r ∷ [])) (incoming policy (history ++ r ∷ []))
-        of_first is =
-            let before : InTurn (rested history) (is.first ∷ is.waiting) = subst (InTurn (rested history)) is.comes_first h in
-            subst (λ (ns : List ℕ). InTurn ns (incoming policy (history ++ r ∷ [])))
-            (sym (rested_next history r ∙ ap (λ (v : Verdict). rested history ++ option_to_list (rested_of v)) e ∙ ap (λ (n : ℕ). rested history ++ n ∷ []) is.has_number))
-            (subst (InTurn (rested history ++ is.first.order.number ∷ [])) (sym (incoming_after_rest policy history r number is (same_standings policy history r number is)))
-            (record { ascend = before.ascend.1; above = put_behind is.first.order.number (rested history) is.waiting before.ascend.0 before.above.1 }))
+    by : (o p x y : LiveOrder) → IsParted first o → IsBehind o p → becomes (Rests number) o ≡ Some x → becomes (Rests number) p ≡ Some y → IsBehind x y
+    by o p x y sides behind k l = (
+      subst (λ (n : ℕ). n < y.number) (sym (becomes_same (Rests number) o x k).0) (subst (λ (n : ℕ). o.number < n) (sym (becomes_same (Rests number) p y l).0) behind.0),
+      λ waits. waits_on o p x y sides behind k l waits (number == o.number) refl,
+    )
 
-    by : (v : Verdict) → r.verdict ≡ v → InTurn (rested (history ++ r ∷ [])) (incoming policy (history ++ r ∷ []))
-    by verdicts.Granted e = none_rests (ap rested_of e)
-    by (verdicts.Denied rule) e = none_rests (ap rested_of e)
-    by (verdicts.Filled f) e = none_rests (ap rested_of e)
-    by (verdicts.Rested number) e = first_rests number e r.step left
-    by (verdicts.Expired number) e = none_rests (ap rested_of e)
-
-none_waits : (policy : PolicyData) → incoming policy [] ≡ []
-unfolding incoming live_orders standings
-none_waits policy =
-    ap (λ (os : List Order). filter (λ (s : Standing). not (has_rested [] s)) (filter is_live (map (standing (executions policy []) []) os))) (orders_none policy)
-
-in_turn : (policy : PolicyData) (history : List RecordData) → IsLegal policy history → InTurn (rested history) (incoming policy history)
-in_turn policy history legal =
-    (legal_keeps policy (λ h. IsLegal policy h × InTurn (rested h) (incoming policy h)) (legal_none policy, subst (InTurn []) (sym (none_waits policy)) (record { ascend = tt; above = tt }))
-    (λ h r kept follows. (legal_next policy h r kept.0 follows, in_turn_next policy h r kept.0 follows.is_next kept.1)) history legal).1
-
--- a number among numbers below another is below it
-below : (k m : ℕ) (ns : List ℕ) → AllByRecursion (λ (n : ℕ). n < k) ns → list_any (λ n. n == m) ns ≡ true → m < k
-below k m [] small among = cc
-below k m (n ∷ ns) small among = at (n == m) refl among (below k m ns small.1)
+ascend_next : (policy : PolicyData) (history : List RecordData) (r : RecordData) → IsLegal policy history → next policy history r.step ≡ Some r → Ascend (live policy history) → Ascend (live policy (history ++ r ∷ []))
+ascend_next policy history r legal left h = by r.verdict refl
   where
-    at : (b : Bool) → (n == m) ≡ b → (b || list_any (λ x. x == m) ns) ≡ true → (list_any (λ x. x == m) ns ≡ true → m < k) → m < k
-    at true e h deeper = subst (λ (x : ℕ). x < k) (eqb-true n m e) small.0
-    at false e h deeper = deeper h
+    os : List LiveOrder
+    os = live policy history
+
+    then_by : (v : Verdict) → r.verdict ≡ v → Ascend (turned (turn_by policy os r v r.step) os) → Ascend (live policy (history ++ r ∷ []))
+    then_by v e k = subst Ascend (sym (live_next policy history r.step r legal left ∙ ap (λ (x : Verdict). turned (turn_by policy os r x r.step) os) e)) k
+
+    none_rests : (v : Verdict) → r.verdict ≡ v → rested_of v ≡ None → Ascend (live policy (history ++ r ∷ []))
+    none_rests v e none =
+        then_by v e (turns_on r (turn_by policy os r v r.step) os (goes policy os r v r.step none) (new_by policy os r v r.step) (live_within policy history r.number legal (number_left policy history r.step r left)) h)
+
+    first_rests : (number : ℕ) → r.verdict ≡ verdicts.Rested number → MayRest (world policy history) r number → Ascend (live policy (history ++ r ∷ []))
+    first_rests number e is =
+        then_by (verdicts.Rested number) e (subst Ascend (sym (append-nil _)) (rests_on number is.first os (comes_first policy history is.first is.waiting is.comes_first) is.has_number h))
+
+    by : (v : Verdict) → r.verdict ≡ v → Ascend (live policy (history ++ r ∷ []))
+    by (verdicts.Rested number) e = first_rests number e (may_by policy history r.step r (verdicts.Rested number) legal left e)
+    by verdicts.Granted e = none_rests verdicts.Granted e refl
+    by (verdicts.Denied rule) e = none_rests (verdicts.Denied rule) e refl
+    by (verdicts.Filled f) e = none_rests (verdicts.Filled f) e refl
+    by (verdicts.Expired number) e = none_rests (verdicts.Expired number) e refl
+
+live_ascend : (policy : PolicyData) (history : List RecordData) → IsLegal policy history → Ascend (live policy history)
+live_ascend policy history legal =
+    (legal_keeps policy (λ h. IsLegal policy h × Ascend (live policy h)) (legal_none policy, subst Ascend (sym (ap (λ (d : OrdersData). d.live) (none_at_first policy))) tt)
+    (λ h r kept follows. (legal_next policy h r kept.0 follows, ascend_next policy h r kept.0 follows.is_next kept.1)) history legal).1
 
 -- the first that waits has a number above those that rest
-pub first_is_latest : (policy : PolicyData) (history : List RecordData) (o : LiveOrder) → IsLegal policy history → first_waiting (orders_in_force policy history).live ≡ Some o
-    → IsLatest (resting_of o) (resting_in (book_in_force policy history) o.terms.stock (is_buy o.terms.side))
-first_is_latest policy history o legal waits = at (incoming policy history) refl
-  where
-    stands : List Standing → Type 0
-    stands found = AllByRecursion (IsAboveAll (rested history)) found
-
-    of_first : (s : Standing) → IsAboveAll (rested history) s → (stock : Symbol) (buy : Bool) → IsLatest (rested_as s) (map rested_as (resting policy history stock buy))
-    of_first s above stock buy =
-        all_mapped (λ (r : Resting). r.price ≡ s.order.terms.price → r.number < s.order.number) rested_as (resting policy history stock buy)
-        (all_weaker (RestsThere policy history stock buy) (λ (x : Standing). x.order.terms.price ≡ s.order.terms.price → x.order.number < s.order.number)
-        (λ (x : Standing) k price. below s.order.number x.order.number (rested history) above k.has_come_to_rest) (resting policy history stock buy)
-        (all_resting policy history stock buy (legal_is_orderly policy history legal)))
-
-    at : (found : List Standing) → incoming policy history ≡ found → IsLatest (resting_of o) (resting_in (book_in_force policy history) o.terms.stock (is_buy o.terms.side))
-    at [] e = let none : None ≡ Some o = sym (first_is policy history ∙ ap (λ (ss : List Standing). option_map (kept policy history) (slice_get ss 0)) e) ∙ waits in cc
-    at (s ∷ others) e =
-        subst (λ (x : LiveOrder). IsLatest (resting_of x) (resting_in (book_in_force policy history) x.terms.stock (is_buy x.terms.side)))
-        (sym (first_is_kept policy history s others o e waits))
-        (subst (IsLatest (rested_as s))
-        (sym (resting_found policy history s.order.terms.stock (is_buy s.order.terms.side) (subst (AllByRecursion (λ (x : Standing). IsListed policy x.order)) e (waiting_are_listed policy history legal)).0))
-        (of_first s (subst stands e (in_turn policy history legal).above).0 s.order.terms.stock (is_buy s.order.terms.side)))
+pub first_is_latest : FirstIsLatest
+first_is_latest policy history o legal waits =
+    let lives : IsLiving policy history o = found_is (IsLiving policy history) (λ (x : LiveOrder). x.waits) (live policy history) o (all_living policy history legal) waits in
+    let sides : AllByRecursion (IsParted o) (live policy history) = parted o (live policy history) (live_ascend policy history legal) waits in
+    subst (AllByRecursion (λ (r : Resting). r.price ≡ o.terms.price → r.number < o.number)) (sym (resting_found policy history o.terms.stock (is_buy o.terms.side) lives.listed))
+    (all_mapped (λ (r : Resting). r.price ≡ o.terms.price → r.number < o.number) resting_of (side policy history o.terms.stock (is_buy o.terms.side))
+    (all_weaker (RestsThere policy history o.terms.stock (is_buy o.terms.side)) (λ (x : LiveOrder). x.terms.price ≡ o.terms.price → x.number < o.number)
+    (λ x there price. (found_is (IsParted o) (λ (y : LiveOrder). y.number == x.number) (live policy history) x sides there.found).1 there.rests) (side policy history o.terms.stock (is_buy o.terms.side))
+    (all_resting policy history o.terms.stock (is_buy o.terms.side) legal)))

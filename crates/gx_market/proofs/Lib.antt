@@ -1,13 +1,7 @@
-pub mod Lists
-pub mod Listed
 pub mod Booked
-pub mod Homes
-pub mod Sides
-pub mod Changing
-pub mod Requested
-pub mod Crossing
+pub mod Turned
+pub mod ByKind
 pub mod Latest
-pub mod Matches
-pub mod Uncrossed
+pub mod Crossing
 pub mod Sound
 pub mod Living

@@ -1,140 +1,140 @@
 -- The book has the live orders that do not wait, and no other.
-use Rattle.std.proofs.Common.{◌≡◌, ℕ, Bool, true, false, not, List, refl, ◌∙◌, ap, sym, cond}
+use Rattle.std.proofs.Common.{◌≡◌, Bool, true, false, not, List, [], ◌∷◌, refl, ◌∙◌, ap, sym, map, cond}
 use Rattle.std.proofs.Math.Path.{subst}
-use Rattle.std.specs.Prelude.{Option, Some, None, ◌==◌, is_some, option_map}
-use Rattle.std.specs.List.{AllByRecursion}
+use Rattle.std.specs.Prelude.{Option, Some, None, ◌==◌, ◌&&◌, option_map}
+use Rattle.std.specs.Option.{option_map_or}
+use Rattle.std.specs.List.{AllByRecursion, find}
 use Rattle.std.proofs.lemmas.Bool.{eq-eqb, eqb-true}
+use Rattle.std.proofs.lemmas.Slice.Eq.{bytes_eq-Decides}
 use Rattle.gx_units.specs.Names.{same_stock}
+use Rattle.gx_units.specs.declared.names.Symbol.{Symbol}
 use Rattle.gx_policy.specs.declared.policy.PolicyData.{PolicyData}
 use Rattle.gx_policy.specs.declared.policy.Stock.{Stock}
-use Rattle.gx_history.specs.declared.record.RecordData.{RecordData}
-use Rattle.gx_history.specs.Book.{has_rested, is_on_side, resting}
-use Rattle.gx_history.specs.Executions.{Standing, executions, is_live, live_orders, standing, standings, standing_numbered}
-use Rattle.gx_history.specs.Orders.{orders}
-use Rattle.gx_policy.specs.People.{stock_named}
-use Rattle.gx_history.specs.Verdicts.{IsLegal}
-use Rattle.gx_history_laws.proofs.Listed.{IsListed, orders_are_listed}
-use Rattle.gx_history_laws.proofs.Numbers.{all_weaker}
-use Rattle.gx_history_laws.proofs.Order.{IsFirstSuch, first_such}
-use Rattle.gx_history_laws.proofs.Owners.{filtered}
-use Rattle.gx_effects.proofs.BookSides.{all_of_these}
-use Rattle.gx_effects.proofs.Entered.{all_mapped}
-use Rattle.gx_effects.proofs.FairFills.{live_found}
-use Rattle.gx_effects.proofs.Known.{IsKnown, live_known}
-use Rattle.gx_effects.proofs.NewOrders.{found_is}
-use Rattle.gx_effects.proofs.NotLive.{all_and}
-use Rattle.gx_effects.proofs.Orderly.{IsOrderly, legal_is_orderly}
-use Rattle.gx_book.specs.declared.resting.Resting.{Resting}
-use Rattle.gx_book.specs.Books.{all_orders, order_in}
-use Rattle.gx_book.specs.Queue.{is_numbered}
 use Rattle.gx_history.specs.declared.live_order.LiveOrder.{LiveOrder}
-use Rattle.gx_history.specs.LiveOrders.{kept}
-use Rattle.gx_orders.specs.InForce.{orders_in_force}
-use Rattle.gx_orders.specs.LiveOrders.{order_numbered}
-use Rattle.gx_market.specs.BookInForce.{book_in_force, rested_as}
+use Rattle.gx_history.specs.declared.record.RecordData.{RecordData}
+use Rattle.gx_history.specs.Book.{is_buy, rested}
+use Rattle.gx_history.specs.Figures.{is_on}
+use Rattle.gx_history.specs.Turns.{has_come, is_there, live, live_numbered, side}
+use Rattle.gx_history.specs.Verdicts.{IsLegal}
+use Rattle.gx_history_laws.proofs.Numbers.{all_weaker}
+use Rattle.gx_history_laws.proofs.Order.{IsFirstSuch, first_such, none_such}
+use Rattle.gx_history_laws.proofs.Owners.{all_both}
+use Rattle.gx_effects.proofs.Among.{none_pass}
+use Rattle.gx_effects.proofs.Entered.{all_mapped}
+use Rattle.gx_effects.proofs.NewOrders.{found_is}
+use Rattle.gx_effects.proofs.Ordered.{all_parted}
+use Rattle.gx_book.specs.declared.resting.Resting.{Resting}
+use Rattle.gx_book.specs.Books.{StockOrders, all_orders, both_sides, order_in, resting_in, side_of, stock_in}
+use Rattle.gx_book.specs.Queue.{is_numbered}
+use Rattle.gx_market.specs.BookInForce.{book_in_force, rested_in, stock_in_force}
 use Rattle.gx_market.specs.Changes.{resting_of}
-use Rattle.gx_market.proofs.Crossing.{rests_open}
-use Rattle.gx_market.proofs.Homes.{HasNone, HasOther, IsHome, all_home, buys, none_of_number, own_side, own_stock, same_order}
-use Rattle.gx_market.proofs.Lists.{stock_is, stock_is_itself}
-use Rattle.gx_market.proofs.Matches.{absent}
-
-live_are_listed : (policy : PolicyData) (history : List RecordData) → IsLegal policy history → AllByRecursion (λ (s : Standing). IsListed policy s.order) (live_orders policy history)
-unfolding live_orders standings
-live_are_listed policy history legal =
-    filtered (λ (s : Standing). IsListed policy s.order) is_live (standings policy history)
-    (all_mapped (λ (s : Standing). IsListed policy s.order) (standing (executions policy history) history) (orders policy history) (orders_are_listed policy history legal))
-
--- a side of a listed stock is among those of which something holds
-at_listed : (P : Stock → Type 0) (policy : PolicyData) (s : Standing) → IsListed policy s.order → AllByRecursion P policy.stocks → (st : Stock) × P st × (st.name ≡ own_stock s)
-at_listed P policy s listed all = at (stock_named policy (own_stock s)) refl listed
-  where
-    at : (found : Option Stock) → stock_named policy (own_stock s) ≡ found → is_some found ≡ true → (st : Stock) × P st × (st.name ≡ own_stock s)
-    at None e h = cc
-    at (Some st) e h =
-        let such : IsFirstSuch (λ (x : Stock). same_stock x.name (own_stock s)) policy.stocks st = first_such (λ (x : Stock). same_stock x.name (own_stock s)) policy.stocks st e in
-        (st, found_is P (λ (x : Stock). same_stock x.name (own_stock s)) policy.stocks st all e, stock_is st.name (own_stock s) such.3)
+use Rattle.gx_market.specs.Laws.{LiveWaitOrRest, RestingAreLive}
+use Rattle.gx_market.proofs.Booked.{resting_found}
+use Rattle.gx_effects.proofs.Resting.{IsLiving, RestsThere, all_living, all_resting, same_order, side_has}
 
 clash : {b : Bool} → b ≡ true → b ≡ false → ⊥
 clash h k = cc
 
--- what is known of a live order
-record IsLiving (policy : PolicyData) (history : List RecordData) (s : Standing) : Type 0 where
-  known : IsKnown policy history s
-  lives : is_live s ≡ true
-  listed : IsListed policy s.order
-  found : has_rested history s ≡ true → standing_numbered (resting policy history (own_stock s) (buys s)) s.order.number ≡ Some s
+-- an order of the book is a live one that waits no more
+record IsHome (policy : PolicyData) (history : List RecordData) (r : Resting) : Type 0 where
+  order : LiveOrder
+  is : r ≡ resting_of order
+  found : live_numbered (live policy history) order.number ≡ Some order
+  rests : order.waits ≡ false
 
--- a live order that came to rest is in the book
-rests_in_book : (policy : PolicyData) (history : List RecordData) (s : Standing) → IsOrderly policy history → IsLiving policy history s → has_rested history s ≡ true
-    → order_in (book_in_force policy history) s.order.number ≡ Some (rested_as s)
-rests_in_book policy history s orderly is has_come = at (order_in (book_in_force policy history) s.order.number) refl
+all_home : (policy : PolicyData) (history : List RecordData) → IsLegal policy history → AllByRecursion (IsHome policy history) (all_orders (book_in_force policy history))
+unfolding book_in_force
+all_home policy history legal = by policy.stocks
   where
-    at : (found : Option Resting) → order_in (book_in_force policy history) s.order.number ≡ found → found ≡ Some (rested_as s)
-    at None e =
-        let none = at_listed (HasNone policy history s.order.number) policy s is.listed (none_of_number policy history s.order.number e) in
-        let others : AllByRecursion (HasOther s.order.number) (resting policy history (own_stock s) (buys s)) =
-        subst (λ stock. AllByRecursion (HasOther s.order.number) (resting policy history stock (buys s))) none.2 (none.1 (buys s)) in
+    on_side : (stock : Symbol) (buy : Bool) → AllByRecursion (IsHome policy history) (rested_in policy history stock buy)
+    on_side stock buy =
+        all_mapped (IsHome policy history) resting_of (side policy history stock buy)
+        (all_weaker (RestsThere policy history stock buy) (λ (o : LiveOrder). IsHome policy history (resting_of o)) (λ o there. record { order = o; is = refl; found = there.found; rests = there.rests })
+        (side policy history stock buy) (all_resting policy history stock buy legal))
+
+    by : (ss : List Stock) → AllByRecursion (IsHome policy history) (all_orders (map (stock_in_force policy history) ss))
+    by [] = tt
+    by (s ∷ ss) =
+        all_both (IsHome policy history) (both_sides (stock_in_force policy history s)) (all_orders (map (stock_in_force policy history) ss))
+        (all_both (IsHome policy history) (rested_in policy history s.name true) (rested_in policy history s.name false) (on_side s.name true) (on_side s.name false)) (by ss)
+
+-- what holds of all orders of a book holds on each side of each stock
+part_of : (P : Resting → Type 0) (book : List StockOrders) (stock : Symbol) (buy : Bool) → AllByRecursion P (all_orders book) → AllByRecursion P (resting_in book stock buy)
+part_of P [] stock buy h = tt
+part_of P (s ∷ book) stock buy h = at (same_stock stock s.stock) (part_of P book stock buy halves.1)
+  where
+    halves : AllByRecursion P (both_sides s) × AllByRecursion P (all_orders book)
+    halves = all_parted P (both_sides s) (all_orders book) h
+
+    half : (c : Bool) → AllByRecursion P (side_of c s)
+    half true = (all_parted P s.buys s.sells halves.0).0
+    half false = (all_parted P s.buys s.sells halves.0).1
+
+    at : (b : Bool) → AllByRecursion P (resting_in book stock buy) → AllByRecursion P (option_map_or (side_of buy) (cond b (Some s) (stock_in book stock)) [])
+    at true deeper = half buy
+    at false deeper = deeper
+
+unmapped : {X Y : Type 0} (P : Y → Type 0) (f : X → Y) (xs : List X) → AllByRecursion P (map f xs) → AllByRecursion (λ (x : X). P (f x)) xs
+unmapped P f [] h = tt
+unmapped P f (x ∷ xs) h = (h.0, unmapped P f xs h.1)
+
+waits_or_rests : (policy : PolicyData) (history : List RecordData) (o : LiveOrder) → IsLegal policy history → IsLiving policy history o
+    → order_in (book_in_force policy history) o.number ≡ cond o.waits None (Some (resting_of o))
+waits_or_rests policy history o legal is = at (order_in (book_in_force policy history) o.number) refl
+  where
+    numbered : Resting → Bool
+    numbered = is_numbered o.number
+
+    all : List Resting
+    all = all_orders (book_in_force policy history)
+
+    stock : Symbol
+    stock = o.terms.stock
+
+    buy : Bool
+    buy = is_buy o.terms.side
+
+    was_true : (b : Bool) → not b ≡ false → b ≡ true
+    was_true true h = refl
+    was_true false h = cc
+
+    own : (b : Bool) → is_buy o.terms.side ≡ b → is_on b o.terms.side ≡ true
+    own true e = e
+    own false e = ap not e
+
+    there : is_there stock buy o ≡ true
+    there = ap (λ (b : Bool). b && is_on buy o.terms.side) ((bytes_eq-Decides stock.bytes stock.bytes).1 refl) ∙ own buy refl
+
+    -- where the book has none of its number, it waits
+    none_there : find numbered all ≡ None → (b : Bool) → o.waits ≡ b → None ≡ cond b None (Some (resting_of o))
+    none_there e true waits = refl
+    none_there e false rests =
         absurd
-        (clash (eq-eqb s.order.number s.order.number refl)
-        (found_is (HasOther s.order.number) (λ (x : Standing). x.order.number == s.order.number) (resting policy history (own_stock s) (buys s)) s others (is.found has_come)))
+        (clash (eq-eqb o.number o.number refl)
+        (side_has policy history stock buy (λ (x : LiveOrder). (x.number == o.number) ≡ false) o is.found (was_true (has_come (rested history) o.number) (sym is.waits ∙ rests)) there
+        (unmapped (λ (r : Resting). numbered r ≡ false) resting_of (side policy history stock buy)
+        (subst (AllByRecursion (λ (r : Resting). numbered r ≡ false)) (resting_found policy history stock buy is.listed)
+        (part_of (λ (r : Resting). numbered r ≡ false) (book_in_force policy history) stock buy (none_pass numbered all (none_such numbered all e)))))))
+
+    at : (found : Option Resting) → find numbered all ≡ found → found ≡ cond o.waits None (Some (resting_of o))
+    at None e = none_there e o.waits refl
     at (Some r) e =
-        let home : IsHome policy history r = found_is (IsHome policy history) (is_numbered s.order.number) (all_orders (book_in_force policy history)) r (all_home policy history orderly) e in
-        let such : IsFirstSuch (is_numbered s.order.number) (all_orders (book_in_force policy history)) r = first_such (is_numbered s.order.number) (all_orders (book_in_force policy history)) r e in
-        ap (λ (x : Resting). Some x) home.is
-        ∙ ap (λ (x : Standing). Some (rested_as x))
-        (same_order policy history s home.order is.known.is_found home.there.known.is_found (sym (ap (λ (x : Resting). x.number) home.is) ∙ eqb-true r.number s.order.number such.3))
+        let home : IsHome policy history r = found_is (IsHome policy history) numbered all r (all_home policy history legal) e in
+        let such : IsFirstSuch numbered all r = first_such numbered all r e in
+        let it : home.order ≡ o = same_order policy history o home.order is.found home.found (sym (ap (λ (x : Resting). x.number) home.is) ∙ eqb-true r.number o.number such.3) in
+        ap (λ (x : Resting). Some x) (home.is ∙ ap resting_of it)
+        ∙ sym (ap (λ (b : Bool). cond {A = Option Resting} b None (Some (resting_of o))) (ap (λ (x : LiveOrder). x.waits) (sym it) ∙ home.rests))
 
-waits_or_rests : (policy : PolicyData) (history : List RecordData) (s : Standing) → IsOrderly policy history → IsLiving policy history s
-    → order_in (book_in_force policy history) s.order.number ≡ cond (not (has_rested history s)) None (Some (resting_of (kept policy history s)))
-waits_or_rests policy history s orderly is = at (has_rested history s) refl
-  where
-    at : (b : Bool) → has_rested history s ≡ b → order_in (book_in_force policy history) s.order.number ≡ cond (not b) None (Some (resting_of (kept policy history s)))
-    at true e = rests_in_book policy history s orderly is e
-    at false e = absent policy history s orderly (record { known = is.known; lives = is.lives; has_not_rested = e })
-
-all_living : (policy : PolicyData) (history : List RecordData) → IsLegal policy history → AllByRecursion (IsLiving policy history) (live_orders policy history)
-all_living policy history legal =
-    all_weaker (λ (s : Standing). (IsHere s × IsListed policy s.order) × IsFound s) (IsLiving policy history)
-    (λ s h. record { known = h.0.0.0; lives = h.0.0.1; listed = h.0.1; found = λ has_come. h.1 has_come }) (live_orders policy history)
-    (all_and (λ (s : Standing). IsHere s × IsListed policy s.order) IsFound (live_orders policy history)
-    (all_and IsHere (λ (s : Standing). IsListed policy s.order) (live_orders policy history) (live_known policy history orderly) (live_are_listed policy history legal)) found_there)
-  where
-    orderly : IsOrderly policy history
-    orderly = legal_is_orderly policy history legal
-
-    IsHere : Standing → Type 0
-    IsHere s = IsKnown policy history s × (is_live s ≡ true)
-
-    IsFound : Standing → Type 0
-    IsFound s = has_rested history s ≡ true → standing_numbered (resting policy history (own_stock s) (buys s)) s.order.number ≡ Some s
-
-    found_there : AllByRecursion IsFound (live_orders policy history)
-    found_there =
-        all_weaker (λ (s : Standing). IsKnown policy history s × (is_live s ≡ true)) IsFound
-        (λ (s : Standing) h has_come.
-        found_is (λ (x : Standing). has_rested history x ≡ true → same_stock (own_stock x) (own_stock s) ≡ true → is_on_side (buys s) x.order ≡ true
-        → standing_numbered (resting policy history (own_stock s) (buys s)) x.order.number ≡ Some x)
-        (λ (x : Standing). x.order.number == s.order.number) (live_orders policy history) s (all_of_these policy history (own_stock s) (buys s) legal)
-        (live_found policy history s h.0 h.1) has_come (stock_is_itself (own_stock s)) (own_side s.order (buys s) refl))
-        (live_orders policy history) (live_known policy history orderly)
-
-pub live_wait_or_rest : (policy : PolicyData) (history : List RecordData) → IsLegal policy history
-    → AllByRecursion (λ (o : LiveOrder). order_in (book_in_force policy history) o.number ≡ cond o.waits None (Some (resting_of o))) (orders_in_force policy history).live
+pub live_wait_or_rest : LiveWaitOrRest
 live_wait_or_rest policy history legal =
-    all_mapped (λ (o : LiveOrder). order_in (book_in_force policy history) o.number ≡ cond o.waits None (Some (resting_of o))) (kept policy history) (live_orders policy history)
-    (all_weaker (IsLiving policy history)
-    (λ (s : Standing). order_in (book_in_force policy history) s.order.number ≡ cond (not (has_rested history s)) None (Some (resting_of (kept policy history s))))
-    (λ (s : Standing) is. waits_or_rests policy history s (legal_is_orderly policy history legal) is) (live_orders policy history) (all_living policy history legal))
+    all_weaker (IsLiving policy history) (λ (o : LiveOrder). order_in (book_in_force policy history) o.number ≡ cond o.waits None (Some (resting_of o))) (λ o is. waits_or_rests policy history o legal is)
+    (live policy history) (all_living policy history legal)
 
-resting_is_live : (policy : PolicyData) (history : List RecordData) (r : Resting) → IsHome policy history r
-    → option_map resting_of (order_numbered (orders_in_force policy history).live r.number) ≡ Some r
+resting_is_live : (policy : PolicyData) (history : List RecordData) (r : Resting) → IsHome policy history r → option_map resting_of (live_numbered (live policy history) r.number) ≡ Some r
 resting_is_live policy history r home =
-    ap (λ (n : ℕ). option_map resting_of (order_numbered (orders_in_force policy history).live n)) (ap (λ (x : Resting). x.number) home.is)
-    ∙ ap (option_map resting_of) (rests_open policy history (own_stock home.order) (buys home.order) home.order home.there).0
-    ∙ ap (λ (x : Resting). Some x) (sym home.is)
+    ap (λ (x : Resting). option_map resting_of (live_numbered (live policy history) x.number)) home.is ∙ ap (option_map resting_of) home.found ∙ ap (λ (x : Resting). Some x) (sym home.is)
 
-pub resting_are_live : (policy : PolicyData) (history : List RecordData) → IsLegal policy history
-    → AllByRecursion (λ (r : Resting). option_map resting_of (order_numbered (orders_in_force policy history).live r.number) ≡ Some r) (all_orders (book_in_force policy history))
+pub resting_are_live : RestingAreLive
 resting_are_live policy history legal =
-    all_weaker (IsHome policy history) (λ (r : Resting). option_map resting_of (order_numbered (orders_in_force policy history).live r.number) ≡ Some r) (resting_is_live policy history)
-    (all_orders (book_in_force policy history)) (all_home policy history (legal_is_orderly policy history legal))
+    all_weaker (IsHome policy history) (λ (r : Resting). option_map resting_of (live_numbered (live policy history) r.number) ≡ Some r) (resting_is_live policy history)
+    (all_orders (book_in_force policy history)) (all_home policy history legal)

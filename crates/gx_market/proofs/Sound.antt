@@ -1,42 +1,111 @@
--- A book in force is sound: each side has the better price first.
-use Rattle.std.proofs.Common.{◌≡◌, Bool, true, false, not, List, [], ◌∷◌, refl, ap, map}
-use Rattle.std.specs.List.{AllByRecursion, list_all}
+-- Each side of a book in force has the better price first, and no book is crossed.
+use Rattle.std.proofs.Common.{◌≡◌, ◌<◌, Bool, true, false, not, List, [], ◌∷◌, refl, ◌∙◌, ap, sym, map, arith}
+use Rattle.std.proofs.Math.Path.{subst}
+use Rattle.std.specs.Prelude.{◌&&◌, nat_le}
+use Rattle.std.specs.List.{AllByRecursion, filter, filter_map, list_all}
+use Rattle.std.proofs.lemmas.Bool.{le-ltb, leb-false}
+use Rattle.gx_units.specs.declared.names.Symbol.{Symbol}
 use Rattle.gx_policy.specs.declared.policy.PolicyData.{PolicyData}
 use Rattle.gx_policy.specs.declared.policy.Stock.{Stock}
-use Rattle.gx_history.specs.declared.record.RecordData.{RecordData}
-use Rattle.gx_history.specs.Book.{is_ahead, resting}
-use Rattle.gx_history.specs.Executions.{Standing}
 use Rattle.gx_policy.specs.Lists.{IsInOrder}
+use Rattle.gx_history.specs.declared.live_order.LiveOrder.{LiveOrder}
+use Rattle.gx_history.specs.declared.record.RecordData.{RecordData}
+use Rattle.gx_history.specs.Book.{is_buy_order, rested, resting}
+use Rattle.gx_history.specs.Executions.{Standing}
+use Rattle.gx_history.specs.LiveOrders.{kept}
+use Rattle.gx_history.specs.Matching.{crosses}
+use Rattle.gx_history.specs.Turns.{ahead, is_there, live, live_numbered, side}
 use Rattle.gx_history.specs.Verdicts.{IsLegal}
 use Rattle.gx_history_laws.proofs.Numbers.{all_weaker}
-use Rattle.gx_effects.proofs.NeverCrossed.{resting_ordered}
+use Rattle.gx_effects.proofs.Entered.{all_mapped}
+use Rattle.gx_effects.proofs.Known as known
+use Rattle.gx_effects.proofs.Known.{RestsThere}
+use Rattle.gx_effects.proofs.NeverCrossed.{never_crossed}
+use Rattle.gx_effects.proofs.NotLive.{all_and}
+use Rattle.gx_effects.proofs.Ordered.{ordered_by}
+use Rattle.gx_effects.proofs.Orderly.{IsOrderly, legal_is_orderly}
+use Rattle.gx_effects.proofs.Sides.{ahead_ranks}
+use Rattle.gx_effects.proofs.WorldKept.{side_is_kept}
 use Rattle.gx_book.specs.declared.resting.Resting.{Resting}
-use Rattle.gx_book.specs.Books.{is_sound_book, is_sound_stock}
+use Rattle.gx_book.specs.Books.{is_sound_stock}
 use Rattle.gx_book.specs.Queue.{is_better, is_in_order}
-use Rattle.gx_market.specs.BookInForce.{book_in_force, rested_as, rested_in, stock_in_force}
-use Rattle.gx_market.proofs.Homes.{both_are}
+use Rattle.gx_market.specs.BookInForce.{book_in_force, rested_in, stock_in_force}
+use Rattle.gx_market.specs.Changes.{resting_of}
+use Rattle.gx_market.specs.Laws.{BooksAreSound, BooksAreUncrossed, IsUncrossed}
 
-all_hold : {X Y : Type 0} (p : Y → Bool) (f : X → Y) (xs : List X) → AllByRecursion (λ (x : X). p (f x) ≡ true) xs → list_all p (map f xs) ≡ true
-all_hold p f [] h = refl
-all_hold p f (x ∷ xs) h = both_are (p (f x)) (list_all p (map f xs)) h.0 (all_hold p f xs h.1)
+both_are : (a b : Bool) → a ≡ true → b ≡ true → (a && b) ≡ true
+both_are a b h k = ap (λ (c : Bool). c && b) h ∙ k
 
-in_order : (buy : Bool) (side : List Standing) → IsInOrder (is_ahead buy) side → is_in_order buy (map rested_as side) ≡ true
+-- no order is ahead of itself
+not_ahead : (buy : Bool) (o : LiveOrder) → ahead buy o o ≡ false
+not_ahead true o = le-ltb o.terms.price o.terms.price (omega arith)
+not_ahead false o = le-ltb o.terms.price o.terms.price (omega arith)
+
+side_ordered : (policy : PolicyData) (history : List RecordData) (stock : Symbol) (buy : Bool) → IsInOrder (ahead buy) (side policy history stock buy)
+unfolding side
+side_ordered policy history stock buy =
+    ordered_by (ahead buy) (ahead_ranks buy) (not_ahead buy) [] (filter (is_there stock buy) (filter_map (live_numbered (live policy history)) (rested history))) tt
+
+none_better : (buy : Bool) (o : LiveOrder) (os : List LiveOrder) → AllByRecursion (λ (x : LiveOrder). ahead buy x o ≡ false) os → list_all (λ (later : Resting). not (is_better buy later (resting_of o))) (map resting_of os) ≡ true
+none_better buy o [] h = refl
+none_better buy o (x ∷ os) h = both_are (not (ahead buy x o)) (list_all (λ (later : Resting). not (is_better buy later (resting_of o))) (map resting_of os)) (ap not h.0) (none_better buy o os h.1)
+
+in_order : (buy : Bool) (os : List LiveOrder) → IsInOrder (ahead buy) os → is_in_order buy (map resting_of os) ≡ true
 in_order buy [] h = refl
-in_order buy (x ∷ xs) h =
-    both_are (list_all (λ (later : Resting). not (is_better buy later (rested_as x))) (map rested_as xs)) (is_in_order buy (map rested_as xs))
-    (all_hold (λ (later : Resting). not (is_better buy later (rested_as x))) rested_as xs
-    (all_weaker (λ (y : Standing). is_ahead buy y x ≡ false) (λ (y : Standing). not (is_better buy (rested_as y) (rested_as x)) ≡ true) (λ (y : Standing) k. ap not k) xs h.0))
-    (in_order buy xs h.1)
+in_order buy (o ∷ os) h =
+    both_are (list_all (λ (later : Resting). not (is_better buy later (resting_of o))) (map resting_of os)) (is_in_order buy (map resting_of os)) (none_better buy o os h.0) (in_order buy os h.1)
 
-all_sound : (policy : PolicyData) (history : List RecordData) → (ss : List Stock) → list_all is_sound_stock (map (stock_in_force policy history) ss) ≡ true
-all_sound policy history [] = refl
-all_sound policy history (s ∷ ss) =
-    both_are (is_sound_stock (stock_in_force policy history s)) (list_all is_sound_stock (map (stock_in_force policy history) ss))
-    (both_are (is_in_order true (rested_in policy history s.name true)) (is_in_order false (rested_in policy history s.name false))
-    (in_order true (resting policy history s.name true) (resting_ordered policy history s.name true))
-    (in_order false (resting policy history s.name false) (resting_ordered policy history s.name false)))
-    (all_sound policy history ss)
-
-pub books_sound : (policy : PolicyData) (history : List RecordData) → IsLegal policy history → is_sound_book (book_in_force policy history) ≡ true
+pub books_sound : BooksAreSound
 unfolding book_in_force
-books_sound policy history legal = all_sound policy history policy.stocks
+books_sound policy history legal = by policy.stocks
+  where
+    by : (ss : List Stock) → list_all is_sound_stock (map (stock_in_force policy history) ss) ≡ true
+    by [] = refl
+    by (s ∷ ss) =
+        both_are (is_sound_stock (stock_in_force policy history s)) (list_all is_sound_stock (map (stock_in_force policy history) ss))
+        (both_are (is_in_order true (rested_in policy history s.name true)) (is_in_order false (rested_in policy history s.name false))
+        (in_order true (side policy history s.name true) (side_ordered policy history s.name true)) (in_order false (side policy history s.name false) (side_ordered policy history s.name false)))
+        (by ss)
+
+-- ---- no buy crosses a sell
+
+below : (b s : Standing) → is_buy_order b.order ≡ true → crosses b.order s.order ≡ false → b.order.terms.price < s.order.terms.price
+below b s buys apart =
+    leb-false s.order.terms.price b.order.terms.price
+    (sym (ap (λ (x : Bool). elim x [ true ↦ nat_le s.order.terms.price b.order.terms.price | false ↦ nat_le b.order.terms.price s.order.terms.price ]) buys) ∙ apart)
+
+-- an order that rests is above all that rest for sale
+abbrev IsBelowAll : List LiveOrder → LiveOrder → Type 0
+IsBelowAll sells b = AllByRecursion (λ (s : LiveOrder). b.terms.price < s.terms.price) sells
+
+sides_apart : (policy : PolicyData) (history : List RecordData) (stock : Symbol) → IsLegal policy history → AllByRecursion (IsBelowAll (side policy history stock false)) (side policy history stock true)
+sides_apart policy history stock legal =
+    subst (λ (sells : List LiveOrder). AllByRecursion (IsBelowAll sells) (side policy history stock true)) (sym (side_is_kept policy history stock false orderly))
+    (subst (AllByRecursion (IsBelowAll (map (kept policy history) sells))) (sym (side_is_kept policy history stock true orderly))
+    (all_mapped (IsBelowAll (map (kept policy history) sells)) (kept policy history) buys
+    (all_weaker (λ (b : Standing). RestsThere policy history stock true b × AllByRecursion (λ (x : Standing). crosses b.order x.order ≡ false) sells) (λ (b : Standing). IsBelowAll (map (kept policy history) sells) (kept policy history b))
+    (λ b h. all_mapped (λ (s : LiveOrder). b.order.terms.price < s.terms.price) (kept policy history) sells
+    (all_weaker (λ (x : Standing). crosses b.order x.order ≡ false) (λ (x : Standing). b.order.terms.price < x.order.terms.price) (λ x k. below b x h.0.there.of_side k) sells h.1)) buys
+    (all_and (RestsThere policy history stock true) (λ (b : Standing). AllByRecursion (λ (x : Standing). crosses b.order x.order ≡ false) sells) buys (known.all_resting policy history stock true orderly) (never_crossed policy history stock legal)))))
+  where
+    orderly : IsOrderly policy history
+    orderly = legal_is_orderly policy history legal
+
+    buys : List Standing
+    buys = resting policy history stock true
+
+    sells : List Standing
+    sells = resting policy history stock false
+
+pub books_uncrossed : BooksAreUncrossed
+unfolding book_in_force
+books_uncrossed policy history legal = all_mapped IsUncrossed (stock_in_force policy history) policy.stocks (by policy.stocks)
+  where
+    by : (ss : List Stock) → AllByRecursion (λ (s : Stock). IsUncrossed (stock_in_force policy history s)) ss
+    by [] = tt
+    by (s ∷ ss) = (
+      all_mapped (λ (buy : Resting). AllByRecursion (λ (sell : Resting). buy.price < sell.price) (rested_in policy history s.name false)) resting_of (side policy history s.name true)
+          (all_weaker (IsBelowAll (side policy history s.name false)) (λ (b : LiveOrder). AllByRecursion (λ (sell : Resting). b.terms.price < sell.price) (rested_in policy history s.name false))
+          (λ b h. all_mapped (λ (sell : Resting). b.terms.price < sell.price) resting_of (side policy history s.name false) h) (side policy history s.name true) (sides_apart policy history s.name legal)),
+      by ss,
+    )

@@ -4,18 +4,14 @@ use Rattle.gx_units.specs.declared.names.Symbol.{Symbol}
 use Rattle.gx_policy.specs.declared.policy.PolicyData.{PolicyData}
 use Rattle.gx_policy.specs.declared.policy.Stock.{Stock}
 use Rattle.gx_history.specs.declared.record.RecordData.{RecordData}
-use Rattle.gx_history.specs.Book.{resting}
-use Rattle.gx_history.specs.Executions.{Standing}
+use Rattle.gx_history.specs.Turns.{side}
 use Rattle.gx_book.specs.declared.resting.Resting.{Resting}
 use Rattle.gx_book.specs.Books.{StockOrders}
+use Rattle.gx_market.specs.Changes.{resting_of}
 
--- what the book holds of an order that rests
-abbrev pub rested_as : Standing → Resting
-rested_as s = record { number = s.order.number; account = s.order.account; price = s.order.terms.price }
-
--- what it holds on one side of a stock, true for buys
+-- what the book holds on one side of a stock, true for buys
 abbrev pub rested_in : PolicyData → List RecordData → Symbol → Bool → List Resting
-rested_in policy history stock buy = map rested_as (resting policy history stock buy)
+rested_in policy history stock buy = map resting_of (side policy history stock buy)
 
 -- both sides of a stock
 abbrev pub stock_in_force : PolicyData → List RecordData → Stock → StockOrders

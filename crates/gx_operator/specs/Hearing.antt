@@ -10,7 +10,7 @@ use Rattle.gx_ouch.specs.declared.outbound.Outbound.{Outbound}
 use Rattle.gx_ouch.specs.declared.outbound.Outbound.TheVariants as outbounds
 use Rattle.gx_history.specs.declared.report.Message.{Message}
 use Rattle.gx_history.specs.declared.report.Message.TheVariants as messages
-use Rattle.gx_lines.specs.declared.showing.Form.{Form}
+use Rattle.gx_text.specs.declared.form.Form.{Form}
 use Rattle.gx_lines.specs.AnswerLines.{answer_line, earlier_answer_line}
 use Rattle.gx_lines.specs.OrderLines.{order_line, copy_line}
 use Rattle.gx_operator.specs.declared.asked.Asked.{Asked}

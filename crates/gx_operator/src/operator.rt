@@ -11,8 +11,8 @@ ghost use Rattle.gx_operator.specs.Hearing.{answers, answered_by, still_waiting,
 use crate::asked::{Asked, answers, asked_of, kills_of};
 use crate::telling::{is_of_run, shown_answer, shown_copy, shown_order};
 use gx_history::report::Message;
-use gx_lines::Form;
 use gx_terminal::{Status, Wish};
+use gx_text::Form;
 use gx_units::{AccountName, Moment, OutOfMemory};
 use std::alloc::Global;
 use std::marker::Model;

@@ -12,8 +12,9 @@ use crate::serial::serial;
 use gx_client::{Report as Told, Stamped, read_report};
 use gx_desk::{Answer, DropCopy};
 use gx_history::report::{Message, Report};
-use gx_lines::{Form, answer_line, copy_line, earlier_answer_line, order_line};
+use gx_lines::{answer_line, copy_line, earlier_answer_line, order_line};
 use gx_ouch::Outbound;
+use gx_text::Form;
 use gx_units::{Moment, OutOfMemory, Token};
 use std::alloc::Global;
 

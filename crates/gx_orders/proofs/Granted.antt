@@ -1,5 +1,5 @@
 -- What a denied and a granted request does to the orders that are kept.
-use Rattle.std.proofs.Common.{◌≡◌, ◌+◌, Bool, true, false, [], ◌∷◌, ◌++◌, length, refl, ◌∙◌, sym, ap, if◌then◌else◌}
+use Rattle.std.proofs.Common.{◌≡◌, ◌+◌, Bool, true, false, length, refl, ◌∙◌, ap, if◌then◌else◌}
 use Rattle.std.specs.Prelude.{None, is_some, option_map}
 use Rattle.std.proofs.lemmas.Bool.{ltb-true}
 use Rattle.gx_history.specs.declared.record.Asked.{Asked}
@@ -21,7 +21,7 @@ use Rattle.gx_orders.specs.Changes.{denied_token}
 use Rattle.gx_orders.specs.Laws.{DenialsKeepOrders, EntersAreNew}
 use Rattle.std.proofs.lemmas.List.{append-nil}
 use Rattle.gx_history.specs.Turns.{live}
-use Rattle.gx_effects.proofs.Live.{live_is_kept, live_stays}
+use Rattle.gx_effects.proofs.Live.{live_stays}
 use Rattle.gx_orders.proofs.Turned.{all_stay}
 use Rattle.gx_orders.proofs.Staying.{data_is, live_within, used_then}
 use Rattle.gx_orders.proofs.Tokens.{granted_is_new, is_left, left_now}
@@ -44,7 +44,7 @@ denials_keep policy history a r rule left denied =
     let d : IsDenial r = record { rule = rule; verdict = denied } in
     let nothing = denial_adds_nothing policy history r d in
     data_is _ _
-    (sym (live_is_kept policy (history ++ r ∷ [])) ∙ live_stays policy history r nothing (denial_ends_none r d) ∙ append-nil _ ∙ all_stay (live policy history) ∙ live_is_kept policy history)
+    (live_stays policy history r nothing (denial_ends_none r d) ∙ append-nil _ ∙ all_stay (live policy history))
     (used_then history r _ (token_denied r a rule (step_left policy history (steps.Asked a) r left) denied))
 
 -- a granted Enter

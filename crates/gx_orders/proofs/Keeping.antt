@@ -18,6 +18,7 @@ use Rattle.gx_history.specs.Executions.{Standing, executions, done, is_live, liv
 use Rattle.gx_history.specs.Orders.{Order, asks_under, is_dead, is_token_used, orders, record_uses, total, uses_token}
 use Rattle.gx_history.specs.Requests.{asked, named_token, new_token}
 use Rattle.gx_history_laws.proofs.Adding.{all_pass}
+use Rattle.gx_effects.proofs.Live.{filter_kept, last_kept, live_is_kept}
 use Rattle.gx_effects.proofs.NotLive.{all_and}
 use Rattle.gx_history_laws.proofs.Numbers.{all_weaker}
 use Rattle.gx_history_laws.proofs.Owners.{filtered}
@@ -28,26 +29,15 @@ use Rattle.gx_history.specs.LiveOrders.{is_under, kept, key}
 use Rattle.gx_orders.specs.LiveOrders.{first_waiting, is_used, order_under, same_user_token, waiting}
 use Rattle.gx_orders.specs.InForce.{order_named, orders_in_force, token_asked, token_used_by, used_tokens}
 
--- a test of what is made of each
-pub filter_of_map : {X Y : Type 0} (p : Y → Bool) (f : X → Y) (xs : List X) → filter p (map f xs) ≡ map f (filter (λ x. p (f x)) xs)
-filter_of_map p f [] = refl
-filter_of_map p f (x ∷ xs) =
-    ap (λ ys. cond (p (f x)) (f x ∷ ys) ys) (filter_of_map p f xs)
-    ∙ elim (p (f x)) as (λ b. cond b (f x ∷ map f (filter (λ y. p (f y)) xs)) (map f (filter (λ y. p (f y)) xs)) ≡ map f (cond b (x ∷ filter (λ y. p (f y)) xs) (filter (λ y. p (f y)) xs)))
-    [ true ↦ refl | false ↦ refl ]
-
-last_of_map : {X Y : Type 0} (f : X → Y) (xs : List X) (o : Option X) → last_or (option_map f o) (map f xs) ≡ option_map f (last_or o xs)
-last_of_map f [] o = refl
-last_of_map f (x ∷ xs) o = last_of_map f xs (Some x)
-
 -- the live order of a user under a token
 pub under_is : (policy : PolicyData) (history : List RecordData) (user : UserName) (token : Token)
     → option_map (kept policy history) (standing_under (live_orders policy history) user token) ≡ order_under (orders_in_force policy history).live user token
 under_is policy history user token =
     let under : Standing → Bool = λ (s : Standing). same_user s.order.user user && same_token s.order.token token in
     sym
-    (ap (last_or None) (filter_of_map (is_under user token) (kept policy history) (live_orders policy history))
-    ∙ last_of_map (kept policy history) (filter under (live_orders policy history)) None)
+    (ap (λ (os : List LiveOrder). order_under os user token) (live_is_kept policy history)
+    ∙ ap (last_or None) (filter_kept (is_under user token) (kept policy history) (live_orders policy history))
+    ∙ last_kept (kept policy history) (filter under (live_orders policy history)) None)
 
 -- the live order that a request names
 pub named_is : (policy : PolicyData) (history : List RecordData) (user : UserName) (q : Request)
@@ -62,9 +52,9 @@ named_is policy history user q = at (named_token q)
 -- those that wait are the incoming ones
 pub waiting_is : (policy : PolicyData) (history : List RecordData) → waiting (orders_in_force policy history).live ≡ map (kept policy history) (incoming policy history)
 unfolding incoming
-waiting_is policy history = filter_of_map (λ (o : LiveOrder). o.waits) (kept policy history) (live_orders policy history)
+waiting_is policy history = ap waiting (live_is_kept policy history) ∙ filter_kept (λ (o : LiveOrder). o.waits) (kept policy history) (live_orders policy history)
 
-first_of_filter : {X : Type 0} (p : X → Bool) (xs : List X) → find p xs ≡ slice_get (filter p xs) 0
+pub first_of_filter : {X : Type 0} (p : X → Bool) (xs : List X) → find p xs ≡ slice_get (filter p xs) 0
 first_of_filter p [] = refl
 first_of_filter p (x ∷ xs) =
     ap (λ o. cond (p x) (Some x) o) (first_of_filter p xs)

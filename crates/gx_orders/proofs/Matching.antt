@@ -1,22 +1,25 @@
 -- What the record of a matching step does to the orders that are kept.
-use Rattle.std.proofs.Common.{◌≡◌, ℕ, ◌+◌, ◌-◌, ◌<◌, ◌≤◌, Bool, true, false, cond, List, [], ◌∷◌, map, refl, ◌∙◌, sym, ap, subst, arith, if◌then◌else◌}
-use Rattle.std.specs.Prelude.{Option, Some, ◌||◌, ◌==◌, is_some, nat_lt, option_map, IfSome}
-use Rattle.std.proofs.lemmas.Bool.{le-ltb, lt-ltb, ltb-false, eqb-true, eq-eqb}
-use Rattle.gx_policy.specs.declared.policy.PolicyData.{PolicyData}
-use Rattle.gx_history.specs.declared.record.Fill.{Fill}
-use Rattle.gx_history.specs.declared.record.RecordData.{RecordData}
-use Rattle.gx_history.specs.Executions.{Standing, executions, done, live_orders, standing_numbered}
-use Rattle.gx_history.specs.Matched.{IsFair}
-use Rattle.gx_history.specs.Orders.{total}
-use Rattle.gx_history_laws.proofs.Order.{some_same}
-use Rattle.gx_effects.proofs.FairFills.{fills_are_fair}
-use Rattle.gx_effects.proofs.NewOrders.{found_is}
+use Rattle.std.proofs.Common.{◌≡◌, ℕ, ◌+◌, ◌-◌, ◌<◌, ◌≤◌, Bool, true, false, not, cond, List, [], ◌∷◌, map, refl, ◌∙◌, sym, ap, subst, arith, if◌then◌else◌, min}
+use Rattle.std.proofs.Math.Nat.{min-le_left, min-le_right}
+use Rattle.std.specs.Prelude.{Option, Some, ◌||◌, ◌==◌, is_some, IfSome}
+use Rattle.std.specs.List.{AllByRecursion}
+use Rattle.std.proofs.lemmas.Bool.{le-ltb, ltb-false, ltb-true, eqb-true, eq-eqb, ne_eqb}
 use Rattle.gx_history.specs.declared.live_order.LiveOrder.{LiveOrder}
-use Rattle.gx_history.specs.LiveOrders.{kept}
+use Rattle.gx_history.specs.declared.record.Fill.{Fill}
+use Rattle.gx_history.specs.declared.record.Step.TheVariants as steps
+use Rattle.gx_history.specs.declared.record.Verdict.TheVariants as verdicts
+use Rattle.gx_history.specs.Book.{is_buy}
+use Rattle.gx_history.specs.LiveOrders.{shares_open}
+use Rattle.gx_history.specs.MayMove.{MayFill}
+use Rattle.gx_history.specs.Turns.{live}
+use Rattle.gx_history.specs.World.{world}
+use Rattle.gx_history_laws.proofs.Order.{some_same}
+use Rattle.gx_effects.proofs.Live.{live_are_open}
+use Rattle.gx_effects.proofs.Moving.{may_by}
+use Rattle.gx_effects.proofs.NewOrders.{found_is}
+use Rattle.gx_effects.proofs.Resting.{RestsThere, all_resting, does_not_rest, first_lives}
 use Rattle.gx_orders.specs.LiveOrders.{HasOpen, filled, filled_at, has_number, is_open, open_ones, order_numbered}
-use Rattle.gx_orders.specs.InForce.{orders_in_force}
-use Rattle.gx_orders.specs.Laws.{FillsFit}
-use Rattle.gx_orders.proofs.Keeping.{IsKeptOpen, open_is}
+use Rattle.gx_orders.specs.Laws.{CanFill, FillsFit}
 
 -- a fill
 
@@ -72,18 +75,6 @@ clash h k = cc
 pub differ : (m n : ℕ) → (m == n) ≡ false → m ≡ n → ⊥
 differ m n h e = clash (eq-eqb m n e) h
 
--- the order of a number
-pub numbered_is : (policy : PolicyData) (history : List RecordData) (number : ℕ) (ss : List Standing)
-    → order_numbered (map (kept policy history) ss) number ≡ option_map (kept policy history) (standing_numbered ss number)
-numbered_is policy history number [] = refl
-numbered_is policy history number (s ∷ ss) = at (s.order.number == number) (numbered_is policy history number ss)
-  where
-    at : (b : Bool) → order_numbered (map (kept policy history) ss) number ≡ option_map (kept policy history) (standing_numbered ss number)
-        → cond b (Some (kept policy history s)) (order_numbered (map (kept policy history) ss) number)
-        ≡ option_map (kept policy history) (cond b (Some s) (standing_numbered ss number))
-    at true later = refl
-    at false later = later
-
 -- an open order is found under its number once another has changed
 found_beside : (n m shares : ℕ) (live : List LiveOrder) (o : LiveOrder) → (m == n) ≡ false → is_open o ≡ true → order_numbered live n ≡ Some o → order_numbered (filled_at m shares live) n ≡ Some o
 found_beside n m shares [] o other opens found = cc
@@ -107,36 +98,35 @@ found_beside n m shares (p ∷ ps) o other opens found = at (p.number == n) (p.n
     at false true e k is later = passed (filled shares p) (is_open (filled shares p)) e ∙ later is
     at false false e k is later = passed p (is_open p) e ∙ later is
 
-room_of : (shares left whole gone : ℕ) → left ≡ whole - gone → 0 < left → shares ≤ left → gone + shares ≤ whole
-room_of shares left whole gone a b c = omega arith
-
-opens_of : (left whole gone : ℕ) → left ≡ whole - gone → 0 < left → nat_lt gone whole ≡ true
-opens_of left whole gone a b = lt-ltb gone whole (omega arith)
+room_of : (shares total done : ℕ) → shares ≤ total - done → done < total → done + shares ≤ total
+room_of shares total done a b = omega arith
 
 pub fills_fit : FillsFit
-fills_fit policy history handed r f legal next_is fills =
-    let fair : IsFair policy history f = fills_are_fair policy history handed r f legal next_is fills in
-    let live : List Standing = live_orders policy history in
-    let orders_now : List LiveOrder = (orders_in_force policy history).live in
-    let is_open_of : (n : ℕ) (s : Standing) → standing_numbered live n ≡ Some s → IsKeptOpen policy history s =
-    λ n s found. found_is (IsKeptOpen policy history) (λ (x : Standing). x.order.number == n) live s (open_is policy history) found in
-    let taker_there : order_numbered orders_now f.taker ≡ Some (kept policy history fair.taker) = numbered_is policy history f.taker live ∙ ap (option_map (kept policy history)) fair.taker_lives in
-    let maker_there : order_numbered orders_now f.maker ≡ Some (kept policy history fair.maker) = numbered_is policy history f.maker live ∙ ap (option_map (kept policy history)) fair.maker_lives in
-    let taker_open : IsKeptOpen policy history fair.taker = is_open_of f.taker fair.taker fair.taker_lives in
-    let maker_open : IsKeptOpen policy history fair.maker = is_open_of f.maker fair.maker fair.maker_lives in
-    let maker_then : order_numbered (filled_at f.taker f.shares orders_now) f.maker ≡ Some (kept policy history fair.maker) =
-    found_beside f.maker f.taker f.shares orders_now (kept policy history fair.maker) fair.they_differ
-    (opens_of fair.maker.open_shares (total history fair.maker.order) (done (executions policy history) fair.maker.order) maker_open.0 maker_open.1) maker_there in
-    record {
-      sides_differ = fair.they_differ;
-      taker_lives = ap is_some taker_there;
-      maker_lives = ap is_some maker_there;
-      taker_has_them = subst (λ (found : Option LiveOrder). IfSome found (HasOpen f.shares)) (sym taker_there)
-          (room_of f.shares fair.taker.open_shares (total history fair.taker.order) (done (executions policy history) fair.taker.order) taker_open.0 taker_open.1 fair.taker_has_them);
-      maker_has_them = subst (λ (found : Option LiveOrder). IfSome found (HasOpen f.shares)) (sym maker_then)
-          (room_of f.shares fair.maker.open_shares (total history fair.maker.order) (done (executions policy history) fair.maker.order) maker_open.0 maker_open.1 fair.maker_has_them);
-    }
+fills_fit policy history handed r f legal left fills = fit (may_by policy history (steps.Matching handed) r (verdicts.Filled f) legal left fills)
+  where
+    now : List LiveOrder
+    now = live policy history
 
--- an expiry
-
--- a rest
+    fit : MayFill (world policy history) r f → CanFill now f
+    fit is =
+        let taker : LiveOrder = is.taker in
+        let maker : LiveOrder = is.maker in
+        let best : RestsThere policy history taker.terms.stock (not (is_buy taker.terms.side)) maker =
+        (subst (AllByRecursion (RestsThere policy history taker.terms.stock (not (is_buy taker.terms.side)))) is.is_best (all_resting policy history taker.terms.stock (not (is_buy taker.terms.side)) legal)).0 in
+        let taker_is : f.taker ≡ taker.number = ap (λ (x : Fill). x.taker) is.is_theirs in
+        let maker_is : f.maker ≡ maker.number = ap (λ (x : Fill). x.maker) is.is_theirs in
+        let taker_there : order_numbered now f.taker ≡ Some taker = ap (order_numbered now) taker_is ∙ (first_lives policy history taker is.waiting legal is.comes_first).0.found in
+        let maker_there : order_numbered now f.maker ≡ Some maker = ap (order_numbered now) maker_is ∙ best.found in
+        let opens : (n : ℕ) (o : LiveOrder) → order_numbered now n ≡ Some o → is_open o ≡ true = λ n o found. found_is (λ (x : LiveOrder). is_open x ≡ true) (has_number n) now o (live_are_open policy history) found in
+        let they_differ : (f.taker == f.maker) ≡ false = ne_eqb f.taker f.maker (λ same. does_not_rest policy history taker is.waiting legal is.comes_first maker best.found best.rests (sym maker_is ∙ sym same ∙ taker_is)) in
+        let room : (o : LiveOrder) → f.shares ≤ shares_open o → is_open o ≡ true → HasOpen f.shares o = λ o few some. room_of f.shares o.total o.done few (ltb-true o.done o.total some) in
+        let few : f.shares ≡ min (shares_open taker) (shares_open maker) = ap (λ (x : Fill). x.shares) is.is_theirs in
+        record {
+          sides_differ = they_differ;
+          taker_lives = ap is_some taker_there;
+          maker_lives = ap is_some maker_there;
+          taker_has_them = subst (λ (found : Option LiveOrder). IfSome found (HasOpen f.shares)) (sym taker_there)
+              (room taker (subst (λ (n : ℕ). n ≤ shares_open taker) (sym few) (min-le_left (shares_open taker) (shares_open maker))) (opens f.taker taker taker_there));
+          maker_has_them = subst (λ (found : Option LiveOrder). IfSome found (HasOpen f.shares)) (sym (found_beside f.maker f.taker f.shares now maker they_differ (opens f.maker maker maker_there) maker_there))
+              (room maker (subst (λ (n : ℕ). n ≤ shares_open maker) (sym few) (min-le_right (shares_open taker) (shares_open maker))) (opens f.maker maker maker_there));
+        }

@@ -1,7 +1,7 @@
 -- What of the orders that are kept stays after one more record.
-use Rattle.std.proofs.Common.{◌≡◌, ℕ, ◌+◌, ◌<◌, ◌≤◌, Bool, false, List, [], ◌∷◌, ◌++◌, map, length, ◌∙◌, ap, arith, if◌then◌else◌}
+use Rattle.std.proofs.Common.{◌≡◌, ℕ, ◌+◌, ◌<◌, ◌≤◌, Bool, false, List, [], ◌∷◌, ◌++◌, length, ◌∙◌, ap, arith, if◌then◌else◌}
 use Rattle.std.specs.Prelude.{Option, Some, None, option_map, option_to_list}
-use Rattle.std.specs.List.{AllByRecursion}
+use Rattle.std.specs.List.{AllByRecursion, filter_map}
 use Rattle.std.proofs.lemmas.List.{append-nil}
 use Rattle.gx_policy.specs.declared.policy.PolicyData.{PolicyData}
 use Rattle.gx_history.specs.declared.record.Asked.{Asked}
@@ -9,21 +9,22 @@ use Rattle.gx_history.specs.declared.record.RecordData.{RecordData}
 use Rattle.gx_history.specs.declared.record.Request.{Request}
 use Rattle.gx_history.specs.declared.record.Step.{Step}
 use Rattle.gx_history.specs.declared.record.Verdict.{Verdict}
-use Rattle.gx_history.specs.Executions.{Standing, executions, is_live, live_orders, standing, standings}
-use Rattle.gx_history.specs.Orders.{Order, orders, uses_token}
+use Rattle.gx_history.specs.Executions.{executions}
+use Rattle.gx_history.specs.Orders.{Order, uses_token}
 use Rattle.gx_policy.specs.People.{account_of}
 use Rattle.gx_history.specs.Requests.{asked, new_token}
 use Rattle.gx_history.specs.Verdicts.{IsLegal}
-use Rattle.gx_history_laws.proofs.NextOrders.{live_orders_none}
-use Rattle.gx_history_laws.proofs.Numbers.{all_weaker, numbers_are_within}
-use Rattle.gx_history_laws.proofs.Owners.{filtered, orders_are_their_users}
-use Rattle.gx_effects.proofs.Entered.{all_mapped}
+use Rattle.gx_history_laws.proofs.NextOrders.{orders_none}
+use Rattle.gx_history_laws.proofs.Numbers.{numbers_are_within}
+use Rattle.gx_history_laws.proofs.Owners.{orders_are_their_users}
 use Rattle.gx_effects.proofs.OrderRequests.{Grants}
+use Rattle.gx_effects.proofs.Resting.{of_live}
 use Rattle.gx_history.specs.declared.live_order.LiveOrder.{LiveOrder}
 use Rattle.gx_history.specs.declared.live_order.UserToken.{UserToken}
-use Rattle.gx_history.specs.LiveOrders.{kept, key}
+use Rattle.gx_history.specs.LiveOrders.{key}
+use Rattle.gx_history.specs.Turns.{live, open_now}
 use Rattle.gx_orders.specs.LiveOrders.{OrdersData}
-use Rattle.gx_orders.specs.InForce.{orders_in_force, token_asked, token_used_by, used_tokens}
+use Rattle.gx_orders.specs.InForce.{token_asked, token_used_by, used_tokens}
 use Rattle.gx_orders.specs.Laws.{AccountsAreTheUsers, NoneAtFirst}
 use Rattle.gx_orders.proofs.Keeping.{used_next}
 
@@ -51,28 +52,18 @@ used_stay history r none = used_then history r None none ∙ append-nil (used_to
 pub no_verdict_uses : (r : RecordData) → uses_token r.verdict ≡ false → token_used_by r ≡ None
 no_verdict_uses r e = ap (λ (b : Bool). if b then token_asked (asked r.step) else None) e
 
--- what holds of all orders holds of those of the live ones
-pub of_live : (policy : PolicyData) (history : List RecordData) (P : Order → Type 0) → AllByRecursion P (orders policy history) → AllByRecursion (λ (s : Standing). P s.order) (live_orders policy history)
-unfolding live_orders standings
-of_live policy history P h =
-    filtered (λ (s : Standing). P s.order) is_live (map (standing (executions policy history) history) (orders policy history))
-    (all_mapped (λ (s : Standing). P s.order) (standing (executions policy history) history) (orders policy history) h)
-
 -- their numbers are those of records
 pub live_within : (policy : PolicyData) (history : List RecordData) (number : ℕ) → IsLegal policy history → number ≡ length history + 1
-    → AllByRecursion (λ (o : LiveOrder). o.number < number) (orders_in_force policy history).live
+    → AllByRecursion (λ (o : LiveOrder). o.number < number) (live policy history)
 live_within policy history number legal place =
-    all_mapped (λ (o : LiveOrder). o.number < number) (kept policy history) (live_orders policy history)
-    (of_live policy history (λ (o : Order). o.number < number)
-    (all_weaker (λ (o : Order). o.number ≤ length history) (λ (o : Order). o.number < number) (λ o h. omega arith) (orders policy history) (numbers_are_within policy history legal)))
+    of_live policy history (λ (o : Order). o.number ≤ length history) (λ (o : LiveOrder). o.number < number) (λ o size gone h. omega (arith, place)) (numbers_are_within policy history legal)
 
 -- and their accounts their users'
 pub accounts_are_theirs : AccountsAreTheUsers
 accounts_are_theirs policy history =
-    all_mapped (λ (o : LiveOrder). account_of policy o.user ≡ Some o.account) (kept policy history) (live_orders policy history)
-    (of_live policy history (λ (o : Order). account_of policy o.user ≡ Some o.account) (orders_are_their_users policy history))
+    of_live policy history (λ (o : Order). account_of policy o.user ≡ Some o.account) (λ (o : LiveOrder). account_of policy o.user ≡ Some o.account) (λ o size gone h. h) (orders_are_their_users policy history)
 
 -- before any record nothing is kept
 pub none_at_first : NoneAtFirst
-unfolding used_tokens
-none_at_first policy = ap (λ (live : List Standing). these (map (kept policy []) live) []) (live_orders_none policy)
+unfolding used_tokens live
+none_at_first policy = ap (λ (os : List Order). these (filter_map (open_now (executions policy []) []) os) []) (orders_none policy)

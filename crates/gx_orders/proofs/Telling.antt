@@ -12,13 +12,14 @@ use Rattle.gx_history.specs.Executions.{Standing, live_orders}
 use Rattle.gx_history.specs.Orders.{ends_account}
 use Rattle.gx_history.specs.Streams.{canceled, ended}
 use Rattle.gx_history_laws.proofs.Owners.{filtered}
+use Rattle.gx_effects.proofs.Live.{filter_kept, live_is_kept}
 use Rattle.gx_history.specs.declared.live_order.LiveOrder.{LiveOrder}
 use Rattle.gx_history.specs.LiveOrders.{kept}
 use Rattle.gx_orders.specs.LiveOrders.{is_of_user}
 use Rattle.gx_orders.specs.InForce.{orders_in_force}
 use Rattle.gx_orders.specs.Changes.{ended_message}
 use Rattle.gx_orders.specs.Laws.{EndsAreFew, EndsAreTold}
-use Rattle.gx_orders.proofs.Keeping.{IsKeptOpen, filter_of_map, open_is}
+use Rattle.gx_orders.proofs.Keeping.{IsKeptOpen, open_is}
 
 each_told : (policy : PolicyData) (history : List RecordData) (ss : List Standing) → AllByRecursion (IsKeptOpen policy history) ss
     → flat_map (λ (s : Standing). canceled cancels.Supervisory s.open_shares s.order) ss ≡ map ended_message (map (kept policy history) ss)
@@ -29,9 +30,10 @@ each_told policy history (s ∷ ss) h =
 
 pub ends_are_told : EndsAreTold
 ends_are_told policy history action user =
+    let told : LiveOrder → Bool = λ (o : LiveOrder). is_of_user user o && ends_account o.account action in
     let of_these : Standing → Bool = λ (s : Standing). same_user s.order.user user && ends_account s.order.account action in
     each_told policy history (filter of_these (live_orders policy history)) (filtered (IsKeptOpen policy history) of_these (live_orders policy history) (open_is policy history))
-    ∙ ap (map ended_message) (sym (filter_of_map (λ (o : LiveOrder). is_of_user user o && ends_account o.account action) (kept policy history) (live_orders policy history)))
+    ∙ ap (map ended_message) (sym (ap (filter told) (live_is_kept policy history) ∙ filter_kept told (kept policy history) (live_orders policy history)))
 
 fewer : {X : Type 0} (p q : X → Bool) (xs : List X) → length (filter (λ x. p x && q x) xs) ≤ length (filter p xs)
 fewer p q [] = omega arith

@@ -1,6 +1,5 @@
 -- What each record makes of the orders that are kept, from the one law of the live orders.
 use Rattle.std.proofs.Common.{◌≡◌, ℕ, ◌+◌, ◌<◌, Bool, true, false, not, List, [], ◌∷◌, ◌++◌, refl, ◌∙◌, ap, sym, cond, map, length, arith}
-use Rattle.std.proofs.Math.Path.{subst}
 use Rattle.std.specs.Prelude.{Option, Some, None, ◌||◌, ◌==◌, option_map}
 use Rattle.std.specs.Option.{option_map_or}
 use Rattle.std.specs.List.{AllByRecursion, cons_option, filter, filter_map}
@@ -25,7 +24,6 @@ use Rattle.gx_history.specs.declared.record.Verdict.{Verdict}
 use Rattle.gx_history.specs.declared.record.Verdict.TheVariants as verdicts
 use Rattle.gx_history.specs.LiveOrders.{is_under, key, replacement_order}
 use Rattle.gx_history.specs.Orders.{ends_account, uses_token}
-use Rattle.gx_history.specs.Matched.{IsFair}
 use Rattle.gx_history.specs.Requests.{action_of, new_token}
 use Rattle.gx_history.specs.Verdicts.{IsLegal, next}
 use Rattle.gx_history_laws.proofs.Adding.{found_passes, user_is}
@@ -35,14 +33,13 @@ use Rattle.gx_history_laws.proofs.Owners.{last_such_is}
 use Rattle.gx_history.specs.Turns as turns
 use Rattle.gx_history.specs.Turns.{Turn, becomes, live, live_under, new_in, new_order, turn_asked, turn_by, turn_granted, turn_of, turned, while_open}
 use Rattle.gx_effects.proofs.Commanding.{command_of}
-use Rattle.gx_effects.proofs.FairFills.{fills_are_fair}
-use Rattle.gx_orders.proofs.Matching.{differ, in_turn}
-use Rattle.gx_effects.proofs.Live.{live_are_open, live_is_kept, live_next}
+use Rattle.gx_orders.proofs.Matching.{differ, fills_fit, in_turn}
+use Rattle.gx_effects.proofs.Live.{live_are_open, live_next}
 use Rattle.gx_effects.proofs.OrderRequests.{Grants, it_grants}
 use Rattle.gx_orders.specs.Changes.{is_lasting, keeps_orders, with_live}
 use Rattle.gx_orders.specs.InForce.{orders_in_force}
 use Rattle.gx_orders.specs.Laws.{CancelsAreKept, ClosesAreKept, EntersAreKept, ExpiriesAreKept, FillsAreKept, KillsAreKept, OthersKeepOrders, ReplacesAreKept, RestsAreKept}
-use Rattle.gx_orders.specs.LiveOrders.{at_rest, filled, has_number, is_open, open_ones, order_under, sized, without}
+use Rattle.gx_orders.specs.LiveOrders.{at_rest, filled, has_number, is_open, open_ones, sized, without}
 use Rattle.gx_orders.proofs.Staying.{data_is, live_within, no_verdict_uses, token_granted, used_stay, used_then}
 
 -- one lemma a word: what becomes of each, as a list
@@ -82,21 +79,14 @@ all_change f (o ∷ os) = ap (λ (more : List LiveOrder). f o ∷ more) (all_cha
 live_turned : (policy : PolicyData) (history : List RecordData) (step : Step) (r : RecordData) (turn : Turn) → IsLegal policy history → next policy history step ≡ Some r → turn_of policy (live policy history) r ≡ turn
     → (orders_in_force policy (history ++ r ∷ [])).live ≡ turned turn (orders_in_force policy history).live
 live_turned policy history step r turn legal left is =
-    sym (live_is_kept policy (history ++ r ∷ [])) ∙ live_next policy history step r legal left ∙ ap (λ (t : Turn). turned t (live policy history)) is ∙ ap (turned turn) (live_is_kept policy history)
-
-all_open : (policy : PolicyData) (history : List RecordData) → AllByRecursion (λ (o : LiveOrder). is_open o ≡ true) (orders_in_force policy history).live
-all_open policy history = subst (AllByRecursion (λ (o : LiveOrder). is_open o ≡ true)) (live_is_kept policy history) (live_are_open policy history)
+    live_next policy history step r legal left ∙ ap (λ (t : Turn). turned t (live policy history)) is
 
 -- what a granted request does
-turn_is : (policy : PolicyData) (history : List RecordData) (r : RecordData) (a : Asked) (q : Request) → Grants r a q → turn_of policy (live policy history) r ≡ turn_asked policy (live policy history) r a.user q
+pub turn_is : (policy : PolicyData) (history : List RecordData) (r : RecordData) (a : Asked) (q : Request) → Grants r a q → turn_of policy (live policy history) r ≡ turn_asked policy (live policy history) r a.user q
 turn_is policy history r a q g =
     ap (λ (v : Verdict). turn_by policy (live policy history) r v r.step) g.grants
     ∙ ap (λ (s : Step). turn_granted policy (live policy history) r s) g.asks
     ∙ ap (λ (x : Request). turn_asked policy (live policy history) r a.user x) g.is_for
-
--- the order under a token is the same in both
-named_is : (policy : PolicyData) (history : List RecordData) (user : UserName) (token : _) (o : LiveOrder) → order_under (orders_in_force policy history).live user token ≡ Some o → live_under (live policy history) user token ≡ Some o
-named_is policy history user token o named = ap (λ (os : List LiveOrder). live_under os user token) (live_is_kept policy history) ∙ named
 
 -- a granted Enter
 pub enters_more : EntersAreKept
@@ -139,9 +129,9 @@ cuts_one policy history a r m o legal left cancels grants named =
     data_is _ _
     (live_turned policy history (steps.Asked a) r (turns.Sizes o.number m.shares) legal left
     (turn_is policy history r a (requests.Cancel m) g
-    ∙ ap (λ (found : Option LiveOrder). option_map_or (λ (cut : LiveOrder). turns.Sizes cut.number m.shares) found turns.Keeps) (named_is policy history a.user m.token o named))
+    ∙ ap (λ (found : Option LiveOrder). option_map_or (λ (cut : LiveOrder). turns.Sizes cut.number m.shares) found turns.Keeps) named)
     ∙ append-nil _
-    ∙ those_change (has_number o.number) (sized m.shares) (orders_in_force policy history).live (all_open policy history))
+    ∙ those_change (has_number o.number) (sized m.shares) (orders_in_force policy history).live (live_are_open policy history))
     (used_stay history r (token_granted r a (requests.Cancel m) g))
 
 -- an order of another number that is entered first stays
@@ -160,7 +150,7 @@ replaces_one policy history a r m o legal left replaces grants named =
     data_is _ _
     (live_turned policy history (steps.Asked a) r (turns.Replaces o.number (replacement_order r m o)) legal left
     (turn_is policy history r a (requests.Replace m) g
-    ∙ ap (λ (found : Option LiveOrder). option_map_or (λ (old : LiveOrder). turns.Replaces old.number (replacement_order r m old)) found turns.Keeps) (named_is policy history a.user m.existing_token o named))
+    ∙ ap (λ (found : Option LiveOrder). option_map_or (λ (old : LiveOrder). turns.Replaces old.number (replacement_order r m old)) found turns.Keeps) named)
     ∙ ap (λ (os : List LiveOrder). os ++ replacement_order r m o ∷ []) (those_go (has_number o.number) live_now)
     ∙ entered_first o.number live_now (replacement_order r m o) (ne_eqb r.number o.number (λ e. absurd (omega arith))))
     (used_then history r _ (token_granted r a (requests.Replace m) g)
@@ -244,10 +234,9 @@ others_keep policy history a r legal left grants keeps = by a.request refl keeps
 -- a fill: first the taker, then the maker
 pub fills_both : FillsAreKept
 fills_both policy history handed r f legal next_is fills =
-    let fair : IsFair policy history f = fills_are_fair policy history handed r f legal next_is fills in
     data_is _ _
     (live_turned policy history (steps.Matching handed) r (turns.Fills f) legal next_is (ap (λ (v : Verdict). turn_by policy (live policy history) r v r.step) fills)
     ∙ append-nil _
-    ∙ those_change (λ (o : LiveOrder). o.number == f.taker || o.number == f.maker) (filled f.shares) (orders_in_force policy history).live (all_open policy history)
-    ∙ in_turn f (differ f.taker f.maker fair.they_differ) (orders_in_force policy history).live)
+    ∙ those_change (λ (o : LiveOrder). o.number == f.taker || o.number == f.maker) (filled f.shares) (orders_in_force policy history).live (live_are_open policy history)
+    ∙ in_turn f (differ f.taker f.maker (fills_fit policy history handed r f legal next_is fills).sides_differ) (orders_in_force policy history).live)
     (used_stay history r (no_verdict_uses r (ap uses_token fills)))

@@ -10,14 +10,12 @@ ghost use Rattle.gx_policy.specs.Lists.{are_distinct};
 ghost use Rattle.gx_history.specs.Rules.{kind_forbids, rule_forbids};
 ghost use Rattle.gx_rules.specs.Books.{kind_of, lists_once, rule_named};
 
-use crate::file_rule::{
-    is_above, is_for_scope, is_forbidden_by_kind, is_net_above, is_outside_collar, new_open,
-};
+use crate::file_rule::{is_for_scope, is_forbidden_by_kind};
 use crate::request::proposed;
-use gx_history::facts::{Facts, NO_FIGURES, ProposedOrder, TellsFigures};
+use gx_history::facts::{Facts, ProposedOrder, TellsFigures};
 use gx_history::record::Request;
 use gx_policy::{FileRule, RuleKind, Scope, Symbols};
-use gx_units::{OutOfMemory, RuleId, Symbol, value_of};
+use gx_units::{OutOfMemory, RuleId, Symbol};
 use indexmap::IndexSet;
 use std::alloc::Global;
 
@@ -186,48 +184,7 @@ impl BookRule {
     {
         match &self.kind {
             RuleKind::Halt(_) | RuleKind::Restricted(_) => self.stocks.contains(&w.stock),
-            RuleKind::NoShort
-            | RuleKind::NoIso
-            | RuleKind::OddLot
-            | RuleKind::OrderShares(_)
-            | RuleKind::OrderValue(_) => is_forbidden_by_kind(&self.kind, &NO_FIGURES, w),
-            RuleKind::Collar(limit) => {
-                is_outside_collar(*limit, figures.of(place).reference, w.price)
-            }
-            RuleKind::GrossShares(limit, _) => {
-                let told = figures.of(place);
-                is_above(
-                    told.live_shares,
-                    told.done_shares,
-                    u128::from(new_open(w)),
-                    told.replaced_shares,
-                    *limit,
-                )
-            }
-            RuleKind::GrossValue(limit, _) => {
-                let told = figures.of(place);
-                is_above(
-                    told.live_value,
-                    told.done_value,
-                    value_of(new_open(w), w.price),
-                    told.replaced_value,
-                    *limit,
-                )
-            }
-            RuleKind::NetShares(limit, _) => {
-                let told = figures.of(place);
-                is_net_above(
-                    told.net_done,
-                    told.side_live,
-                    u128::from(new_open(w)),
-                    told.replaced_shares,
-                    *limit,
-                )
-            }
-            RuleKind::Rate(rate, _) => rate.limit <= figures.of(place).recent,
-            RuleKind::Repeat(repeat, _) => {
-                w.is_new && repeat.limit <= figures.of(place).equal_recent
-            }
+            kind => is_forbidden_by_kind(kind, place, figures, w),
         }
     }
 

@@ -7,7 +7,7 @@ ghost use Rattle.gx_history.specs.InForce.{lists_stock};
 ghost use Rattle.gx_policy.specs.People.{covers};
 ghost use Rattle.gx_history.specs.Rules.{kind_forbids, is_outside_collar, new_open};
 
-use gx_history::facts::{Facts, ProposedOrder, RuleFigures};
+use gx_history::facts::{Facts, ProposedOrder, RuleFigures, TellsFigures};
 use gx_policy::{RuleKind, Scope};
 use gx_units::{Symbol, value_of};
 
@@ -18,7 +18,7 @@ fn lists_stock(stocks: &[Symbol], stock: Symbol) -> bool
 }
 
 /// Whether the price is more than `limit` ten-thousandths of the reference away from it.
-pub fn is_outside_collar(limit: u64, reference: u32, price: u32) -> bool
+fn is_outside_collar(limit: u64, reference: u32, price: u32) -> bool
     ensures { result ≡ is_outside_collar limit reference price }
 {
     let scaled = u128::from(price) * 10_000;
@@ -29,7 +29,7 @@ pub fn is_outside_collar(limit: u64, reference: u32, price: u32) -> bool
 
 /// Whether live, done and new together, without what is replaced, pass the limit: right for any figures, as the
 /// replaced part is taken out before anything is added.
-pub fn is_above(live: u128, done: u128, new: u128, replaced: u128, limit: u64) -> bool
+fn is_above(live: u128, done: u128, new: u128, replaced: u128, limit: u64) -> bool
     ensures { result ≡ nat_lt limit (live + done + new - replaced) }
 {
     let live_left = live.saturating_sub(replaced);
@@ -48,7 +48,7 @@ pub fn is_above(live: u128, done: u128, new: u128, replaced: u128, limit: u64) -
 
 /// Whether what was executed on the side, less what was on the other, with live and new and without
 /// what is replaced, passes the limit: right for any figures.
-pub fn is_net_above(net: i128, live: u128, new: u128, replaced: u128, limit: u64) -> bool
+fn is_net_above(net: i128, live: u128, new: u128, replaced: u128, limit: u64) -> bool
     ensures { result ≡ int_lt (pos limit) (net +ℤ pos live +ℤ pos new -ℤ pos replaced) }
 {
     let done = net.unsigned_abs();
@@ -62,16 +62,53 @@ pub fn is_net_above(net: i128, live: u128, new: u128, replaced: u128, limit: u64
 }
 
 /// The shares that the order would have open: what it asks for, less what its chain has executed.
-pub fn new_open(w: &ProposedOrder) -> u32
+fn new_open(w: &ProposedOrder) -> u32
     ensures { result ≡ new_open w.now }
 {
     w.shares.saturating_sub(w.done)
 }
 
-/// Whether a rule of this kind forbids the order, with the figures that the kind asks for.
+/// Whether the account's shares that are live, executed and new, without what is replaced, pass the limit.
+fn has_shares_above(told: &RuleFigures, w: &ProposedOrder, limit: u64) -> bool
+    ensures { result ≡ nat_lt limit
+        (told.now.live_shares + told.now.done_shares + new_open w.now - told.now.replaced_shares) }
+{
+    let new = u128::from(new_open(w));
+    is_above(
+        told.live_shares,
+        told.done_shares,
+        new,
+        told.replaced_shares,
+        limit,
+    )
+}
+
+/// Whether the value of what is live, executed and new, without what is replaced, passes the limit.
+fn has_value_above(told: &RuleFigures, w: &ProposedOrder, limit: u64) -> bool
+    ensures { result ≡ nat_lt limit
+        (told.now.live_value + told.now.done_value + value (new_open w.now) w.now.price
+        - told.now.replaced_value) }
+{
+    let new = value_of(new_open(w), w.price);
+    is_above(
+        told.live_value,
+        told.done_value,
+        new,
+        told.replaced_value,
+        limit,
+    )
+}
+
+/// Whether a rule of this kind, which stands at this place in the file, forbids the order. Figures are told where the kind
+/// asks for some.
 #[inline(always)]
-pub fn is_forbidden_by_kind(kind: &RuleKind, figures: &RuleFigures, w: &ProposedOrder) -> bool
-    ensures { result ≡ kind_forbids kind.now figures.now w.now }
+pub fn is_forbidden_by_kind<F: TellsFigures>(
+    kind: &RuleKind,
+    place: usize,
+    figures: &F,
+    w: &ProposedOrder,
+) -> bool
+    ensures { result ≡ kind_forbids kind.now (F.told figures.now place) w.now }
 {
     match kind {
         RuleKind::Halt(stocks) => lists_stock(stocks.as_slice(), w.stock),
@@ -81,30 +118,22 @@ pub fn is_forbidden_by_kind(kind: &RuleKind, figures: &RuleFigures, w: &Proposed
         RuleKind::OddLot => w.shares % 100 != 0,
         RuleKind::OrderShares(limit) => u64::from(w.shares) > *limit,
         RuleKind::OrderValue(limit) => value_of(w.shares, w.price) > u128::from(*limit),
-        RuleKind::Collar(limit) => is_outside_collar(*limit, figures.reference, w.price),
-        RuleKind::GrossShares(limit, _) => is_above(
-            figures.live_shares,
-            figures.done_shares,
-            u128::from(new_open(w)),
-            figures.replaced_shares,
-            *limit,
-        ),
-        RuleKind::GrossValue(limit, _) => is_above(
-            figures.live_value,
-            figures.done_value,
-            value_of(new_open(w), w.price),
-            figures.replaced_value,
-            *limit,
-        ),
-        RuleKind::NetShares(limit, _) => is_net_above(
-            figures.net_done,
-            figures.side_live,
-            u128::from(new_open(w)),
-            figures.replaced_shares,
-            *limit,
-        ),
-        RuleKind::Rate(rate, _) => rate.limit <= figures.recent,
-        RuleKind::Repeat(repeat, _) => w.is_new && repeat.limit <= figures.equal_recent,
+        RuleKind::Collar(limit) => is_outside_collar(*limit, figures.of(place).reference, w.price),
+        RuleKind::GrossShares(limit, _) => has_shares_above(&figures.of(place), w, *limit),
+        RuleKind::GrossValue(limit, _) => has_value_above(&figures.of(place), w, *limit),
+        RuleKind::NetShares(limit, _) => {
+            let told = figures.of(place);
+            let new = u128::from(new_open(w));
+            is_net_above(
+                told.net_done,
+                told.side_live,
+                new,
+                told.replaced_shares,
+                *limit,
+            )
+        }
+        RuleKind::Rate(rate, _) => rate.limit <= figures.of(place).recent,
+        RuleKind::Repeat(repeat, _) => w.is_new && repeat.limit <= figures.of(place).equal_recent,
     }
 }
 

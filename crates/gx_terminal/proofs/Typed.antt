@@ -12,7 +12,8 @@ use Rattle.std.proofs.lemmas.Fmt.{digits_value-decimal, decimal_is_IsNumeral, de
 use Rattle.std.proofs.Math.Seq.{take-append_seam, drop-append-add}
 use Rattle.gx_soup.specs.Login.{with_digit, spelled}
 use Rattle.gx_script.specs.Words.{is_empty, number_of}
-use Rattle.gx_lines.specs.Showing.{in_digits, decimals_text, price_text}
+use Rattle.gx_lines.specs.Showing.{decimals_text, price_text}
+use Rattle.gx_text.specs.Moments.{with_zeros}
 use Rattle.gx_terminal.specs.Prices.{is_point, in_32_bits, decimals_of, pointed_price, price_at, price_of}
 use Rattle.gx_terminal.specs.PriceLaws.{PricesAreReadBack}
 
@@ -69,9 +70,8 @@ zeros_spell : (m : ℕ) (ds : List ℕ) → spelled (replicate m 48 ++ ds) ≡ s
 zeros_spell zero ds = refl
 zeros_spell (suc m) ds = zeros_spell m ds
 
-spells_in_digits : (n k : ℕ) → k < 2 ^ 64 → Spells (in_digits n k) k
-unfolding in_digits
-spells_in_digits n k h =
+spells_with_zeros : (n k : ℕ) → k < 2 ^ 64 → Spells (with_zeros n k) k
+spells_with_zeros n k h =
     let d = spells_decimal k h in
     record {
       digits = zeros_are_digits (n - length (decimal k)) (decimal k) d.digits;
@@ -79,9 +79,8 @@ spells_in_digits n k h =
       some = let s = d.some in omega (arith, length-append (replicate (n - length (decimal k)) 48) (decimal k));
     }
 
-length_in_digits : (n k : ℕ) → 0 < n → k < 10 ^ n → k < 2 ^ 64 → length (in_digits n k) ≡ n
-unfolding in_digits
-length_in_digits n k some below h =
+length_with_zeros : (n k : ℕ) → 0 < n → k < 10 ^ n → k < 2 ^ 64 → length (with_zeros n k) ≡ n
+length_with_zeros n k some below h =
     let short = length-decimal-le n k some below h in
     omega (arith, length-append (replicate (n - length (decimal k)) 48) (decimal k), length-replicate {A = ℕ} (n - length (decimal k)) 48)
 
@@ -95,13 +94,13 @@ decimals_by ds n k len few r =
     ∙ ap (option_map (λ number. number * 10 ^ (4 - n))) r)
 
 -- so many digits behind the point
-decimals_are : (n k : ℕ) → 0 < n → n ≤ 4 → k < 10 ^ n → k < 2 ^ 32 → decimals_of (in_digits n k) ≡ Some (k * 10 ^ (4 - n))
+decimals_are : (n k : ℕ) → 0 < n → n ≤ 4 → k < 10 ^ n → k < 2 ^ 32 → decimals_of (with_zeros n k) ≡ Some (k * 10 ^ (4 - n))
 decimals_are n k some few below h =
     let wide : k < 2 ^ 64 = omega (arith, h) in
-    decimals_by (in_digits n k) n k (length_in_digits n k some below wide) (few_enough n 4 few) (read (in_digits n k) k (spells_in_digits n k wide) h)
+    decimals_by (with_zeros n k) n k (length_with_zeros n k some below wide) (few_enough n 4 few) (read (with_zeros n k) k (spells_with_zeros n k wide) h)
 
 part_by : (f : ℕ) (two three : Bool) → f < 10000 → (f % 100 == 0) ≡ two → (f % 10 == 0) ≡ three
-    → decimals_of (cond two (in_digits 2 (f / 100)) (cond three (in_digits 3 (f / 10)) (in_digits 4 f))) ≡ Some f
+    → decimals_of (cond two (with_zeros 2 (f / 100)) (cond three (with_zeros 3 (f / 10)) (with_zeros 4 f))) ≡ Some f
 part_by f true three h a b =
     let e = eqb-true (f % 100) 0 a in
     decimals_are 2 (f / 100) (omega arith) (omega arith) (omega arith) (omega arith) ∙ ap Some (omega arith)

@@ -2,12 +2,13 @@
 
 use gx_desk::{Action, Answer, AnswerCode, Command, DropCopy, Tag, WrittenName};
 use gx_history::report::Message;
-use gx_lines::{Form, answer_line, copy_line, earlier_answer_line, order_line};
+use gx_lines::{answer_line, copy_line, earlier_answer_line, order_line};
 use gx_ouch::{
     Accepted, CancelReason, Canceled, EventCode, Executed, Inbound, Liquidity, OrderTerms,
     Outbound, RejectReason, Rejected, Replaced,
 };
 use gx_terminal::{HELP, Lifetime, NewOrder, NewTerms, Side, Status, Wanted, Wish, Wrong};
+use gx_text::Form;
 use gx_units::{AccountName, Firm, OutOfMemory, RuleId, Symbol, Token};
 
 const MOMENT: u64 = 37_783_698_373_000;
@@ -157,7 +158,7 @@ fn a_status_is_told(rt: HostRuntime) {
 fn answer(code: AnswerCode) -> Answer {
     Answer {
         tag: Tag {
-            bytes: *b"\"1\" \x00         ",
+            bytes: *b"\"1\" \x00\\        ",
         },
         command_type: b'K',
         code,
@@ -196,11 +197,11 @@ fn answers_are_shown(rt: HostRuntime) {
     let json = is_shown(
         json,
         b"{\"at\":\"10:29:43.698373000\",\"event\":\"answer\",\"command\":\"kill\",\
-            \"account\":\"ALFA\",\"code\":\"Q4\",\"tag\":\"\\\"1\\\"\\u0020\\u0000\",\"record\":386222}\n",
+            \"account\":\"ALFA\",\"code\":\"Q4\",\"tag\":\"\\\"1\\\" \\u0000\\\\\",\"record\":386222}\n",
     );
     let earlier = is_shown(
         earlier,
-        b"kill with tag \"1\"\\x20\\x00 answered Q4: record 386222 at 10:29:43.698373000\n",
+        b"kill with tag \"1\"\\x20\\x00\\x5c answered Q4: record 386222 at 10:29:43.698373000\n",
     );
     assert!(rt; done && unknown && json && earlier);
 }

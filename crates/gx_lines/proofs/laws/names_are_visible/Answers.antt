@@ -1,5 +1,8 @@
-use Rattle.gx_lines.proofs.Visible.{names_are_visible}
+use Rattle.gx_lines.proofs.Visible.{names_are_visible, json_names_are_printed}
 use Rattle.gx_lines.proofs.laws.names_are_visible.Goals as goal
 
 pub returns : goal.returns
-returns c = names_are_visible
+returns c = record {
+  text = names_are_visible c.shown_bytes_are_visible.ensures.text;
+  json = json_names_are_printed c.shown_bytes_are_visible.ensures.json;
+}

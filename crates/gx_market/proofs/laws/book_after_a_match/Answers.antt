@@ -1,4 +1,4 @@
-use Rattle.gx_market.proofs.Matches.{expiries_keep, fills_take, rests_are_put}
+use Rattle.gx_market.proofs.ByKind.{expiries_keep, fills_take, rests_are_put}
 use Rattle.gx_market.proofs.laws.book_after_a_match.Goals as goal
 
 pub returns : goal.returns

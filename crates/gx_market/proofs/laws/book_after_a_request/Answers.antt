@@ -1,4 +1,4 @@
-use Rattle.gx_market.proofs.Requested.{cancels_take, closes_take, denials_keep, kills_take, others_keep, replaces_take}
+use Rattle.gx_market.proofs.ByKind.{cancels_take, closes_take, denials_keep, kills_take, others_keep, replaces_take}
 use Rattle.gx_market.proofs.laws.book_after_a_request.Goals as goal
 
 pub returns : goal.returns

@@ -1,5 +1,5 @@
+use Rattle.gx_market.proofs.ByKind.{rests_are_of_first}
 use Rattle.gx_market.proofs.Latest.{first_is_latest}
-use Rattle.gx_market.proofs.Matches.{rests_are_of_first}
 use Rattle.gx_market.proofs.laws.first_can_rest.Goals as goal
 
 pub returns : goal.returns

@@ -1,0 +1,174 @@
+-- What becomes of the book by a turn of the live orders.
+use Rattle.std.proofs.Common.{◌≡◌, ℕ, Bool, true, false, not, List, [], ◌∷◌, ◌++◌, refl, ◌∙◌, ap, sym, map, cond}
+use Rattle.std.proofs.Math.Path.{subst}
+use Rattle.std.specs.Prelude.{Option, Some, None, option_map, ◌==◌, ◌&&◌, ◌||◌, nat_lt}
+use Rattle.std.specs.Option.{option_map_or}
+use Rattle.std.specs.List.{AllByRecursion, cons_option, filter, filter_map}
+use Rattle.std.proofs.lemmas.Bool.{eq-eqb, eqb-true, ne_eqb}
+use Rattle.std.proofs.lemmas.List.{map-append}
+use Rattle.gx_units.specs.Names.{same_account}
+use Rattle.gx_units.specs.declared.names.Symbol.{Symbol}
+use Rattle.gx_desk.specs.declared.Action.{Action}
+use Rattle.gx_desk.specs.declared.Action.TheVariants as actions
+use Rattle.gx_policy.specs.declared.policy.PolicyData.{PolicyData}
+use Rattle.gx_policy.specs.Lists.{placed, where_true}
+use Rattle.gx_history.specs.declared.live_order.LiveOrder.{LiveOrder}
+use Rattle.gx_history.specs.declared.record.RecordData.{RecordData}
+use Rattle.gx_history.specs.Turns.{EndsAll, Rests, ahead, becomes, is_there, live, live_numbered, side, side_turned, while_open}
+use Rattle.gx_history.specs.Verdicts.{IsLegal}
+use Rattle.gx_history_laws.proofs.Names.{same_account_flip}
+use Rattle.gx_history_laws.proofs.Numbers.{all_weaker}
+use Rattle.gx_effects.proofs.Live.{filter_kept}
+use Rattle.gx_book.specs.declared.resting.Resting.{Resting}
+use Rattle.gx_book.specs.Queue as queue
+use Rattle.gx_book.specs.Queue.{is_same, no_orders, with_order, without_account, without_order}
+use Rattle.gx_market.specs.BookInForce.{book_in_force, rested_in}
+use Rattle.gx_market.specs.Changes.{ended_by, left_with, put_to_rest, resting_of, taken_out}
+use Rattle.gx_market.proofs.Booked.{each_side, no_side, one_side}
+use Rattle.gx_effects.proofs.Resting.{RestsThere, all_resting, same_order}
+
+clash : {b : Bool} → b ≡ true → b ≡ false → ⊥
+clash h k = cc
+
+-- where each goes, or the book holds of it what it held, the others stay in their order
+those_left : (f : LiveOrder → Option LiveOrder) (p : Resting → Bool) (os : List LiveOrder) → AllByRecursion (λ (o : LiveOrder). option_map resting_of (f o) ≡ where_true (p (resting_of o)) (resting_of o)) os
+    → map resting_of (filter_map f os) ≡ filter p (map resting_of os)
+those_left f p [] h = refl
+those_left f p (o ∷ os) h = mapped (f o) ∙ ap (λ (found : Option Resting). cons_option found (map resting_of (filter_map f os))) h.0 ∙ ap (cons_option (where_true (p (resting_of o)) (resting_of o))) (those_left f p os h.1) ∙ at (p (resting_of o))
+  where
+    mapped : (found : Option LiveOrder) → map resting_of (cons_option found (filter_map f os)) ≡ cons_option (option_map resting_of found) (map resting_of (filter_map f os))
+    mapped None = refl
+    mapped (Some x) = refl
+
+    at : (b : Bool) → cons_option (where_true b (resting_of o)) (filter p (map resting_of os)) ≡ cond b (resting_of o ∷ filter p (map resting_of os)) (filter p (map resting_of os))
+    at true = refl
+    at false = refl
+
+all_left : (rs : List Resting) → filter (λ (r : Resting). true) rs ≡ rs
+all_left [] = refl
+all_left (r ∷ rs) = ap (λ (more : List Resting). r ∷ more) (all_left rs)
+
+none_left : (rs : List Resting) → filter (λ (r : Resting). false) rs ≡ []
+none_left [] = refl
+none_left (r ∷ rs) = none_left rs
+
+-- each side is turned so
+abbrev pub SidesTurn : PolicyData → List RecordData → List RecordData → (LiveOrder → Option LiveOrder) → Type 0
+SidesTurn policy before after f = (stock : Symbol) (buy : Bool) → side policy after stock buy ≡ filter_map f (side policy before stock buy)
+
+sides_left : (policy : PolicyData) (before after : List RecordData) (f : LiveOrder → Option LiveOrder) (p : Resting → Bool) (stock : Symbol) (buy : Bool) → IsLegal policy before → SidesTurn policy before after f
+    → ((o : LiveOrder) → RestsThere policy before stock buy o → option_map resting_of (f o) ≡ where_true (p (resting_of o)) (resting_of o)) → rested_in policy after stock buy ≡ filter p (rested_in policy before stock buy)
+sides_left policy before after f p stock buy legal turn each =
+    ap (map resting_of) (turn stock buy)
+    ∙ those_left f p (side policy before stock buy)
+    (all_weaker (RestsThere policy before stock buy) (λ (o : LiveOrder). option_map resting_of (f o) ≡ where_true (p (resting_of o)) (resting_of o)) each (side policy before stock buy) (all_resting policy before stock buy legal))
+
+-- where the book holds of each that rests what it held, nothing changes
+pub book_stays : (policy : PolicyData) (before after : List RecordData) (f : LiveOrder → Option LiveOrder) → IsLegal policy before → SidesTurn policy before after f
+    → ((o : LiveOrder) → live_numbered (live policy before) o.number ≡ Some o → o.waits ≡ false → option_map resting_of (f o) ≡ Some (resting_of o)) → book_in_force policy after ≡ book_in_force policy before
+book_stays policy before after f legal turn each =
+    no_side policy before after (λ stock buy. sides_left policy before after f (λ r. true) stock buy legal turn (λ o there. each o there.found there.rests) ∙ all_left (rested_in policy before stock buy))
+
+-- one order stays where it stands, or goes, and all others stay
+pub one_left : (policy : PolicyData) (before after : List RecordData) (f : LiveOrder → Option LiveOrder) (o : LiveOrder) (stays : Bool) → IsLegal policy before → SidesTurn policy before after f
+    → live_numbered (live policy before) o.number ≡ Some o → option_map resting_of (f o) ≡ where_true stays (resting_of o)
+    → ((x : LiveOrder) → live_numbered (live policy before) x.number ≡ Some x → x.waits ≡ false → (x.number == o.number) ≡ false → f x ≡ Some x)
+    → book_in_force policy after ≡ cond stays (book_in_force policy before) (taken_out o (book_in_force policy before))
+one_left policy before after f o stays legal turn found itself others = by stays refl
+  where
+    it : (x : LiveOrder) → live_numbered (live policy before) x.number ≡ Some x → (x.number == o.number) ≡ true → x ≡ o
+    it x also same = same_order policy before o x found also (eqb-true x.number o.number same)
+
+    becomes_so : (x : LiveOrder) → live_numbered (live policy before) x.number ≡ Some x → x.waits ≡ false → (b : Bool) → (x.number == o.number) ≡ b → option_map resting_of (f x) ≡ where_true (not b || stays) (resting_of x)
+    becomes_so x also rests true same = subst (λ (y : LiveOrder). option_map resting_of (f y) ≡ where_true stays (resting_of y)) (sym (it x also same)) itself
+    becomes_so x also rests false other = ap (option_map resting_of) (others x also rests other)
+
+    -- an order of one side is told from others by its number
+    told : (stock : Symbol) (buy : Bool) (x : LiveOrder) → RestsThere policy before stock buy x → (b : Bool) → (x.number == o.number) ≡ b → (is_there stock buy o && is_same (resting_of o) (resting_of x)) ≡ b
+    told stock buy x there true same =
+        subst (λ (y : LiveOrder). (is_there stock buy y && is_same (resting_of y) (resting_of x)) ≡ true) (it x there.found same)
+        (ap (λ (b : Bool). b && is_same (resting_of x) (resting_of x)) there.there
+        ∙ ap (λ (b : Bool). b && (x.terms.price == x.terms.price)) (eq-eqb x.number x.number refl)
+        ∙ eq-eqb x.terms.price x.terms.price refl)
+    told stock buy x there false other =
+        ap (λ (b : Bool). is_there stock buy o && (b && (o.terms.price == x.terms.price))) (ne_eqb o.number x.number (λ same. clash (eq-eqb x.number o.number (sym same)) other))
+        ∙ never (is_there stock buy o)
+      where
+        never : (b : Bool) → (b && false) ≡ false
+        never true = refl
+        never false = refl
+
+    by : (b : Bool) → stays ≡ b → book_in_force policy after ≡ cond b (book_in_force policy before) (taken_out o (book_in_force policy before))
+    by true e =
+        book_stays policy before after f legal turn
+        (λ x also rests. becomes_so x also rests (x.number == o.number) refl ∙ ap (λ (b : Bool). where_true (not (x.number == o.number) || b) (resting_of x)) e ∙ ap (λ (b : Bool). where_true b (resting_of x)) (always (not (x.number == o.number))))
+      where
+        always : (b : Bool) → (b || true) ≡ true
+        always true = refl
+        always false = refl
+    by false e =
+        one_side policy before after o.terms.stock o.terms.side (λ buy. without_order (resting_of o)) (λ stock buy.
+        sides_left policy before after f (λ r. not (is_there stock buy o && is_same (resting_of o) r)) stock buy legal turn (λ x there.
+        becomes_so x there.found there.rests (x.number == o.number) refl
+        ∙ ap (λ (b : Bool). where_true (not (x.number == o.number) || b) (resting_of x)) e
+        ∙ ap (λ (b : Bool). where_true b (resting_of x)) (or_not (not (x.number == o.number)) ∙ ap not (sym (told stock buy x there (x.number == o.number) refl))))
+        ∙ home (rested_in policy before stock buy) (is_there stock buy o))
+      where
+        or_not : (b : Bool) → (b || false) ≡ b
+        or_not true = refl
+        or_not false = refl
+
+        home : (rs : List Resting) (b : Bool) → filter (λ r. not (b && is_same (resting_of o) r)) rs ≡ cond b (without_order (resting_of o) rs) rs
+        home rs true = refl
+        home rs false = all_left rs
+
+-- so many shares of an order are left that is changed in size or fills alone
+pub order_left : (policy : PolicyData) (before after : List RecordData) (f : LiveOrder → Option LiveOrder) (o x : LiveOrder) (shares : ℕ) → IsLegal policy before → SidesTurn policy before after f
+    → live_numbered (live policy before) o.number ≡ Some o → f o ≡ while_open x → resting_of x ≡ resting_of o → nat_lt x.done x.total ≡ nat_lt 0 shares
+    → ((y : LiveOrder) → live_numbered (live policy before) y.number ≡ Some y → y.waits ≡ false → (y.number == o.number) ≡ false → f y ≡ Some y)
+    → book_in_force policy after ≡ left_with o shares (book_in_force policy before)
+order_left policy before after f o x shares legal turn found becomes_so same some others =
+    one_left policy before after f o (nat_lt 0 shares) legal turn found (ap (option_map resting_of) becomes_so ∙ at (nat_lt x.done x.total) ∙ ap (λ (r : Resting). where_true (nat_lt x.done x.total) r) same ∙ ap (λ (b : Bool). where_true b (resting_of o)) some) others
+  where
+    at : (b : Bool) → option_map resting_of (cond b (Some x) None) ≡ where_true b (resting_of x)
+    at true = refl
+    at false = refl
+
+-- a command
+pub book_ends : (policy : PolicyData) (before after : List RecordData) (action : Action) → IsLegal policy before → SidesTurn policy before after (becomes (EndsAll action)) → book_in_force policy after ≡ ended_by action (book_in_force policy before)
+book_ends policy before after (actions.Kill account) legal turn =
+    each_side policy before after (without_account account) (λ stock buy. sides_left policy before after (becomes (EndsAll (actions.Kill account))) (λ r. not (queue.is_of account r)) stock buy legal turn
+    (λ o there. ap (λ (b : Bool). option_map resting_of (cond b None (Some o))) (same_account_flip account o.account) ∙ at o (same_account o.account account)))
+  where
+    at : (o : LiveOrder) (b : Bool) → option_map resting_of (cond b None (Some o)) ≡ where_true (not b) (resting_of o)
+    at o true = refl
+    at o false = refl
+book_ends policy before after actions.CloseDay legal turn =
+    each_side policy before after no_orders (λ stock buy. sides_left policy before after (becomes (EndsAll actions.CloseDay)) (λ r. false) stock buy legal turn (λ o there. refl) ∙ none_left (rested_in policy before stock buy))
+book_ends policy before after (actions.Lift account) legal turn = book_stays policy before after (becomes (EndsAll (actions.Lift account))) legal turn (λ o found rests. refl)
+book_ends policy before after (actions.SetLimit rule limit) legal turn = book_stays policy before after (becomes (EndsAll (actions.SetLimit rule limit))) legal turn (λ o found rests. refl)
+book_ends policy before after (actions.Restrict rule stock) legal turn = book_stays policy before after (becomes (EndsAll (actions.Restrict rule stock))) legal turn (λ o found rests. refl)
+book_ends policy before after (actions.Unrestrict rule stock) legal turn = book_stays policy before after (becomes (EndsAll (actions.Unrestrict rule stock))) legal turn (λ o found rests. refl)
+book_ends policy before after (actions.Grant reader account) legal turn = book_stays policy before after (becomes (EndsAll (actions.Grant reader account))) legal turn (λ o found rests. refl)
+book_ends policy before after (actions.Revoke reader account) legal turn = book_stays policy before after (becomes (EndsAll (actions.Revoke reader account))) legal turn (λ o found rests. refl)
+
+-- an order that comes to rest is placed on its side
+pub book_rests : (policy : PolicyData) (before after : List RecordData) (number : ℕ) (o : LiveOrder) → live_numbered (live policy before) number ≡ Some o
+    → ((stock : Symbol) (buy : Bool) → side policy after stock buy ≡ side_turned (Rests number) (live policy before) stock buy (side policy before stock buy)) → book_in_force policy after ≡ put_to_rest o (book_in_force policy before)
+book_rests policy before after number o found turn =
+    one_side policy before after o.terms.stock o.terms.side (λ buy. with_order buy (resting_of o)) (λ stock buy.
+    ap (map resting_of)
+    (turn stock buy ∙ ap (λ (x : Option LiveOrder). option_map_or (λ (y : LiveOrder). cond (is_there stock buy y) (placed (ahead buy) (side policy before stock buy) (record y { waits = false })) (side policy before stock buy)) x (side policy before stock buy)) found)
+    ∙ at buy (side policy before stock buy) (is_there stock buy o))
+  where
+    at : (buy : Bool) (os : List LiveOrder) (b : Bool) → map resting_of (cond b (placed (ahead buy) os (record o { waits = false })) os) ≡ cond b (with_order buy (resting_of o) (map resting_of os)) (map resting_of os)
+    at buy os true = placed_mapped (ahead buy) (queue.is_better buy) (λ x. refl) os (record o { waits = false })
+      where
+        placed_mapped : (p : LiveOrder → LiveOrder → Bool) (q : Resting → Resting → Bool) → ((x : LiveOrder) → p x ≡ (λ (y : LiveOrder). q (resting_of x) (resting_of y))) → (os : List LiveOrder) (x : LiveOrder)
+            → map resting_of (placed p os x) ≡ placed q (map resting_of os) (resting_of x)
+        placed_mapped p q same os x =
+            ap (λ (test : LiveOrder → Bool). map resting_of (filter (λ y. not (test y)) os ++ x ∷ filter test os)) (same x)
+            ∙ map-append resting_of (filter (λ y. not (q (resting_of x) (resting_of y))) os) (x ∷ filter (λ y. q (resting_of x) (resting_of y)) os)
+            ∙ ap (λ rs. rs ++ resting_of x ∷ map resting_of (filter (λ y. q (resting_of x) (resting_of y)) os)) (sym (filter_kept (λ r. not (q (resting_of x) r)) resting_of os))
+            ∙ ap (λ rs. filter (λ r. not (q (resting_of x) r)) (map resting_of os) ++ resting_of x ∷ rs) (sym (filter_kept (q (resting_of x)) resting_of os))
+    at buy os false = refl
