@@ -4,7 +4,7 @@ ghost use Rattle.std.specs.Prelude.{◌-◌, ◌^◌, ◌<◌};
 
 use crate::ending::Ended;
 use gx_devices::Counted;
-use gx_files::{FileIdentity, ReadFault, read_within, shared_file};
+use gx_files::{FileIdentity, Measured, ReadFault, read_within, shared_file};
 use gx_server::{Noted, ProgramFault};
 use gx_units::OutOfMemory;
 use std::fs;
@@ -117,15 +117,24 @@ pub(crate) fn look_before<'a>(
     }
 }
 
-/// What the file has, where that is no more than it may have.
+/// How many bytes are expected of a file: as many as it has now, as far as that can be told.
+pub(crate) fn expected_of(file: &File) -> usize {
+    match file.length() {
+        Ok(length) => length as usize,
+        Err(_) => 0,
+    }
+}
+
+/// What the file has, where that is no more than it may have; so many bytes are expected.
 pub(crate) fn read_file<'a, R: Read + Drop>(
     rt: &HostRuntime,
     path: &'a str,
     content: Content,
     file: R,
+    expected: usize,
 ) -> Result<Vec<u8>, Ended<'a>> {
     let mut reader = Counted::new(Noted::new(file));
-    match read_within(rt.alloc(), &mut reader, content.most()) {
+    match read_within(rt.alloc(), &mut reader, content.most(), expected) {
         Ok(bytes) => Ok(bytes),
         Err(ReadFault::OutOfMemory) => Err(OutOfMemory.into()),
         Err(ReadFault::TooLong) => Err(refused(path, content.too_long())),
@@ -144,7 +153,10 @@ pub(crate) fn bytes_of<'a>(
 ) -> Result<Vec<u8>, Ended<'a>> {
     look_before(rt, path, content)?;
     match File::open(rt, path) {
-        Ok(file) => read_file(rt, path, content, file),
+        Ok(file) => {
+            let expected = expected_of(&file);
+            read_file(rt, path, content, file, expected)
+        }
         Err(error) => Err(Ended::unread(path, error)),
     }
 }

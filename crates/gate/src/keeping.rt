@@ -3,7 +3,7 @@
 ghost use Rattle.std.specs.Prelude.{◌-◌, ◌^◌, ◌<◌};
 
 use crate::ending::{Ended, Place};
-use crate::files::{Content, look_before, read_file};
+use crate::files::{Content, expected_of, look_before, read_file};
 use gx_answers::AccessGate;
 use gx_audit::{Resumed, resume};
 use gx_audit_bytes::write_header;
@@ -74,7 +74,7 @@ fn read_day<'a>(
     path: &'a str,
     file: &File,
 ) -> Result<(Resumed<Gate>, u64), Ended<'a>> {
-    let bytes = read_file(rt, path, Content::Records, file)?;
+    let bytes = read_file(rt, path, Content::Records, file, expected_of(file))?;
     match resume(rt.alloc(), policy, bytes.as_slice()) {
         Ok(resumed) => Ok((resumed, bytes.len() as u64)),
         Err(fault) => Err(ProgramFault::from(fault).into()),

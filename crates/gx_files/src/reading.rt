@@ -72,7 +72,8 @@ fn put(bytes: &mut Vec<u8>, piece: &[u8]) -> Result<usize, ReadFault>
 }
 
 /// All that the reader has left, where that is no more than so many bytes. Of a longer one no more than one byte further
-/// is read, and of none more than that is ever taken.
+/// is read, and of none more than that is ever taken. Room for as many as are expected is made first, for no more than may be
+/// taken; it may have more or fewer.
 ///
 /// # Errors
 ///
@@ -81,6 +82,7 @@ pub fn read_within<R: Read>(
     alloc: Global,
     reader: &mut Counted<R>,
     most: usize,
+    expected: usize,
 ) -> Result<Vec<u8>, ReadFault>
     requires { reader.old.failed < 2 ^ 64 - 1 }
     ensures whole { IfOk result (λ v. Consumes
@@ -95,6 +97,9 @@ pub fn read_within<R: Read>(
     ensures told { IfErr result (IsBlamed reader.old.failed reader.new.failed) }
 {
     let mut bytes = Vec::new(alloc);
+    if bytes.reserve(expected.min(most)).is_err() {
+        return Err(ReadFault::OutOfMemory);
+    }
     let mut room = [0u8; PIECE];
     while bytes.len() <= most {
         let left = (most - bytes.len()).saturating_add(1);

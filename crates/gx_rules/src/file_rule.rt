@@ -69,6 +69,7 @@ fn new_open(w: &ProposedOrder) -> u32
 }
 
 /// Whether the account's shares that are live, executed and new, without what is replaced, pass the limit.
+#[inline(always)]
 fn has_shares_above(told: &RuleFigures, w: &ProposedOrder, limit: u64) -> bool
     ensures { result ≡ nat_lt limit
         (told.now.live_shares + told.now.done_shares + new_open w.now - told.now.replaced_shares) }
@@ -84,6 +85,7 @@ fn has_shares_above(told: &RuleFigures, w: &ProposedOrder, limit: u64) -> bool
 }
 
 /// Whether the value of what is live, executed and new, without what is replaced, passes the limit.
+#[inline(always)]
 fn has_value_above(told: &RuleFigures, w: &ProposedOrder, limit: u64) -> bool
     ensures { result ≡ nat_lt limit
         (told.now.live_value + told.now.done_value + value (new_open w.now) w.now.price

@@ -194,7 +194,8 @@ fn take_piece<G: AccessGate, W: Write>(
         → IsSoFar before bytes (G.seen gate.old) held.old.rest.items held.old.progress.lines
         → TakesPiece before bytes piece.now (G.seen gate.new) held.new.rest.items held.new.progress.lines
         (W.contents writer.old.device) (W.contents writer.new.device)) }
-    ensures counted { OnOk result (held.new.progress.lines ≤ held.old.progress.lines + length piece.now) }
+    ensures counted { OnOk result
+        (held.new.progress.lines ≤ held.old.progress.lines + length piece.now) }
     ensures kept { OnOk result (writer.new.failed ≡ writer.old.failed) }
     ensures err { IfErr result (λ e. (before : GateData) (bytes : List ℕ)
         → IsSoFar before bytes (G.seen gate.old) held.old.rest.items held.old.progress.lines
