@@ -2,9 +2,8 @@
 
 ghost use Rattle.std.specs.Prelude.{◌≡◌, ◌+◌, ◌<◌, ◌^◌, max, [], length, IsFalse, IsOk, IsTrue, IfOk, IfErr, IfSome, OnErr, None, Some, is_some, option_map};
 ghost use Rattle.gx_exposure.specs.Exposure.{NetStaysWithin, SharesStayWithin, ValuesStayWithin};
-ghost use Rattle.gx_history.specs.Effects.{HasNoOrders};
 ghost use Rattle.gx_history.specs.InForce.{is_killed, line_of};
-ghost use Rattle.gx_history.specs.Matched.{AreUncrossed};
+ghost use Rattle.gx_history.specs.Matched.{AreUncrossed, HasNoOrders};
 ghost use Rattle.gx_history.specs.Showing.{is_askable};
 ghost use Rattle.gx_history.specs.Verdicts.{IsLegal};
 ghost use Rattle.gx_policy.specs.Lists.{slice};

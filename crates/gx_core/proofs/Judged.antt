@@ -2,7 +2,7 @@
 use Rattle.std.proofs.Common.{◌≡◌, ℕ, ◌+◌, ◌<◌, ◌^◌, max, pred, arith, length, drop, List, [], ◌∷◌, map, Bool, ◌∙◌, ap, refl, sym, true, if◌then◌else◌}
 use Rattle.std.proofs.lemmas.List.{length-take, length-drop}
 use Rattle.gx_policy.specs.Lists.{slice}
-use Rattle.std.specs.Prelude.{false, Option, Some, None, is_some, option_map, option_and_then, Result, Ok, Err, IfOk}
+use Rattle.std.specs.Prelude.{false, Option, Some, None, is_some, option_and_then, Result, Ok, Err, IfOk}
 use Rattle.std.specs.List.{find}
 use Rattle.std.specs.Cmp.Lexicographic.{nat_list_eq_equiv}
 use Rattle.gx_units.specs.Names.{same_stock}
@@ -31,12 +31,11 @@ use Rattle.gx_policy.specs.People.{account_of, account_of_role, is_officer, is_r
 use Rattle.gx_history.specs.Requests.{named_token}
 use Rattle.gx_history.specs.Streams.{copies, stream}
 use Rattle.gx_history.specs.Verdicts.{last_moment}
-use Rattle.gx_history.specs.LiveOrders.{kept}
+use Rattle.gx_history.specs.Live.{live, live_under}
 use Rattle.gx_day.specs.DayData.{DayData, kill_in, killed_in, line_in}
 use Rattle.gx_day.proofs.Answering.{ends_are_kept, kills_are_kept, lines_are_kept, moments_are_kept}
-use Rattle.gx_orders.specs.InForce.{orders_in_force}
-use Rattle.gx_orders.specs.LiveOrders.{OrdersData, is_used, order_under}
-use Rattle.gx_orders.proofs.Keeping.{named_is, used_is}
+use Rattle.gx_orders.specs.LiveOrders.{OrdersData, is_used}
+use Rattle.gx_orders.proofs.Keeping.{used_is}
 use Rattle.gx_people.specs.Entitled.{has, holds, holds_in_role, power_of}
 use Rattle.gx_people.proofs.Keeping.{accounts_stay, officers_stay, passwords_stay, powers_stay, scopes_stay, users_stay}
 use Rattle.gx_streams.specs.Streams.{reports_in}
@@ -104,11 +103,10 @@ pub tokens_are_known : (policy : PolicyData) (history : List RecordData) (k : Ke
 tokens_are_known policy history k user token kept = ap (λ (orders : OrdersData). is_used orders.used user token) kept.in_force.orders ∙ used_is policy history user token
 
 pub named_is_known : (policy : PolicyData) (history : List RecordData) (k : Keepers) (user : UserName) (q : Request) (token : Token) → IsKept policy history k → named_token q ≡ Some token
-    → order_under k.orders.live user token ≡ option_map (kept policy history) (live_named policy history user q)
+    → live_under k.orders.live user token ≡ live_named policy history user q
 named_is_known policy history k user q token is names =
-    ap (λ (orders : OrdersData). order_under orders.live user token) is.in_force.orders
-    ∙ sym (ap (λ (found : Option Token). option_and_then (order_under (orders_in_force policy history).live user) found) names)
-    ∙ sym (named_is policy history user q)
+    ap (λ (orders : OrdersData). live_under orders.live user token) is.in_force.orders
+    ∙ sym (ap (option_and_then (live_under (live policy history) user)) names)
 
 -- what users were told
 pub reports_are_known : (policy : PolicyData) (history : List RecordData) (k : Keepers) (user : UserName) → IsKept policy history k

@@ -8,16 +8,15 @@ use Rattle.gx_history.specs.declared.record.Step.{Step}
 use Rattle.gx_history.specs.declared.record.Step.TheVariants as steps
 use Rattle.gx_history.specs.declared.record.Verdict.{Verdict}
 use Rattle.gx_history.specs.declared.record.Verdict.TheVariants as verdicts
-use Rattle.gx_history.specs.Matched.{AreUncrossed}
 use Rattle.gx_history.specs.Matching.{matching}
 use Rattle.gx_history.specs.Requests.{is_judged}
 use Rattle.gx_history.specs.Showing.{is_showable, is_verdict_of}
 use Rattle.gx_history.specs.Verdicts.{IsLegal, moment_of, next, step_verdict}
 use Rattle.gx_history_laws.proofs.Numbers.{number_left}
 use Rattle.gx_history_laws.proofs.Runs.{step_left}
-use Rattle.gx_effects.proofs.NeverCrossed.{never_crossed}
+use Rattle.gx_effects.proofs.Matches.{not_judged}
 use Rattle.gx_effects.proofs.Orderly.{legal_is_orderly}
-use Rattle.gx_effects.proofs.Settling.{not_judged, settled_step}
+use Rattle.gx_effects.proofs.Settling.{settled_step}
 use Rattle.gx_book.specs.Books.{StockOrders}
 use Rattle.gx_market.proofs.Crossing.{matching_is_met}
 use Rattle.gx_market.specs.Meeting.{best_against, match_record, met, next_met}
@@ -93,7 +92,3 @@ settles_on policy history handed r legal left =
   where
     the_gate : PolicyData → List RecordData → GateData
     the_gate p records = record { policy = p; records = records }
-
--- no book is crossed
-pub never_crossed_now : (policy : PolicyData) (history : List RecordData) → IsLegal policy history → AreUncrossed policy history
-never_crossed_now policy history legal = λ stock. never_crossed policy history stock legal

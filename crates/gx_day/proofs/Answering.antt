@@ -1,7 +1,7 @@
 -- What is kept answers as the records of a legal day do.
 use Rattle.std.proofs.Common.{◌≡◌, Bool, true, false, List, [], ◌∷◌, ◌++◌, map, refl, ◌∙◌, sym, ap, cond, ℕ}
 use Rattle.std.proofs.lemmas.Bool.{not-false}
-use Rattle.std.specs.Prelude.{Option, Some, None, option_and_then, unwrap_or, is_some, find, drop}
+use Rattle.std.specs.Prelude.{Option, Some, None, option_and_then, unwrap_or, is_some, find}
 use Rattle.gx_units.specs.Names.{same_account, same_user}
 use Rattle.gx_units.specs.declared.names.AccountName.{AccountName}
 use Rattle.gx_units.specs.declared.names.UserName.{UserName}
@@ -16,7 +16,6 @@ use Rattle.gx_history.specs.declared.record.Login.{Login}
 use Rattle.gx_history.specs.declared.record.RecordData.{RecordData}
 use Rattle.gx_history.specs.declared.record.Request.{Request}
 use Rattle.gx_history.specs.declared.record.Request.TheVariants as requests
-use Rattle.gx_policy.specs.declared.rule_name.RuleName.{RuleName}
 use Rattle.gx_policy.specs.declared.rule_name.RuleName.TheVariants.{L1, Q1}
 use Rattle.gx_history.specs.declared.record.Step.{Step}
 use Rattle.gx_history.specs.declared.record.Step.TheVariants as steps
@@ -27,13 +26,12 @@ use Rattle.gx_history.specs.InForce.{is_closed, kill_after, kill_in_force, kill_
 use Rattle.gx_policy.specs.Lists.{where_true}
 use Rattle.gx_policy.specs.People.{account_named, user_in}
 use Rattle.gx_history.specs.Requests.{action_of, asked, granted, is_granted}
-use Rattle.gx_policy.specs.RuleNames.{rules_before, rules_behind}
 use Rattle.gx_history.specs.Rules.{forbids}
-use Rattle.gx_history.specs.Verdicts.{Follows, IsLegal, facts_now, last_moment, next, rules_now}
-use Rattle.gx_history_laws.proofs.Granting.{granted_passes, granted_passes_before, legal_keeps, none_behind}
+use Rattle.gx_history.specs.Verdicts.{Follows, IsLegal, facts_now, last_moment, next}
+use Rattle.gx_history_laws.proofs.Granting.{legal_keeps, is_no_bar}
 use Rattle.gx_history_laws.proofs.KillsNext.{kill_in_force_next, kill_in_force_none}
 use Rattle.gx_history_laws.proofs.NextInForce.{line_of_next, line_of_none}
-use Rattle.gx_history_laws.proofs.Order.{none_among, some_same}
+use Rattle.gx_history_laws.proofs.Order.{some_same}
 use Rattle.gx_day.specs.DayData.{AccountKill, DayData, UserLine, kill_in, line_in}
 use Rattle.gx_day.specs.InForce.{day_in_force, kill_now, line_now}
 use Rattle.gx_history_laws.proofs.Adding.{user_is}
@@ -57,19 +55,6 @@ names_are_known_is : (policy : PolicyData) (history : List RecordData) (a : Aske
 unfolding facts
 names_are_known_is policy history a = refl
 
-login_is_no_bar : (policy : PolicyData) (history : List RecordData) (a : Asked) (r : RecordData)
-    → next policy history (steps.Asked a) ≡ Some r → r.verdict ≡ verdicts.Granted → forbids L1 (facts_now policy history a) a.request ≡ false
-unfolding rules_before
-login_is_no_bar policy history a r e granted =
-    none_among (λ (name : RuleName). forbids name (facts_now policy history a) a.request) [] L1 (drop 1 rules_before) (granted_passes_before policy history a r e granted)
-
-names_are_no_bar : (policy : PolicyData) (history : List RecordData) (a : Asked) (r : RecordData)
-    → next policy history (steps.Asked a) ≡ Some r → r.verdict ≡ verdicts.Granted → forbids Q1 (facts_now policy history a) a.request ≡ false
-unfolding rules_behind
-names_are_no_bar policy history a r e granted =
-    none_among (λ (name : RuleName). forbids name (facts_now policy history a) a.request) [] Q1 (drop 1 rules_behind)
-    (none_behind (rules_now policy history a) (facts_now policy history a) a.request (granted_passes policy history a r e granted))
-
 -- who is granted a Login is known
 login_is_known : (policy : PolicyData) (history : List RecordData) (a : Asked) (r : RecordData) (m : Login)
     → next policy history (steps.Asked a) ≡ Some r → r.verdict ≡ verdicts.Granted → a.request ≡ requests.Login m → is_some (user_in policy.users a.user) ≡ true
@@ -77,7 +62,7 @@ login_is_known policy history a r m e granted asks =
     (both m.password_is_right (is_some (user_in policy.users a.user))
     (sym (ap (knows_user policy a.user) asks)
     ∙ sym (may_log_in_is policy history a)
-    ∙ not-false (facts_now policy history a).may_log_in (sym (ap (forbids L1 (facts_now policy history a)) asks) ∙ login_is_no_bar policy history a r e granted))).1
+    ∙ not-false (facts_now policy history a).may_log_in (sym (ap (forbids L1 (facts_now policy history a)) asks) ∙ is_no_bar policy history a r e granted L1))).1
 
 -- the names of a granted command are known
 pub command_is_known : (policy : PolicyData) (history : List RecordData) (a : Asked) (r : RecordData) (c : Command)
@@ -85,7 +70,7 @@ pub command_is_known : (policy : PolicyData) (history : List RecordData) (a : As
 command_is_known policy history a r c e granted asks =
     sym (ap (of_command (knows_names policy history)) asks)
     ∙ sym (names_are_known_is policy history a)
-    ∙ not-false (facts_now policy history a).names_are_known (sym (ap (forbids Q1 (facts_now policy history a)) asks) ∙ names_are_no_bar policy history a r e granted)
+    ∙ not-false (facts_now policy history a).names_are_known (sym (ap (forbids Q1 (facts_now policy history a)) asks) ∙ is_no_bar policy history a r e granted Q1)
 
 -- a user who is not known is on no line
 abbrev pub OnNoLine : PolicyData → List RecordData → Type 0

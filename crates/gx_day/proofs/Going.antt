@@ -28,7 +28,8 @@ use Rattle.gx_policy.specs.People.{account_of}
 use Rattle.gx_history.specs.declared.live_order.LiveOrder.{LiveOrder}
 use Rattle.gx_history.specs.declared.record.Verdict.{Verdict}
 use Rattle.gx_history.specs.LiveOrders.{replacement_order}
-use Rattle.gx_history.specs.Turns.{live_under, new_order}
+use Rattle.gx_history.specs.Live.{live_under}
+use Rattle.gx_history.specs.Turns.{new_order}
 use Rattle.gx_history.specs.World.{World, world, Adds, Nothing, Replaces, Sizes, commanded, move_asked, move_by, move_of, moved}
 use Rattle.gx_history_laws.proofs.Moves.{InForce, in_force_next}
 use Rattle.gx_history_laws.proofs.NextInForce.{is_closed_none, last_moment_next, line_of_none}

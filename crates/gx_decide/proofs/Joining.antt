@@ -1,10 +1,9 @@
 -- Each rule with its figures, as they are told of its place.
 use Rattle.std.proofs.Common.{◌≡◌, ℕ, suc, true, List, [], ◌∷◌, map, refl, sym, ap, ◌∙◌}
-use Rattle.std.specs.Prelude.{Option, Some, None, option_map, is_some}
+use Rattle.std.specs.Prelude.{Option, Some, None, is_some}
 use Rattle.std.specs.Option.{option_map_or}
 use Rattle.gx_units.specs.declared.names.AccountName.{AccountName}
 use Rattle.gx_history.specs.declared.facts.Facts.{Facts}
-use Rattle.gx_history.specs.declared.live_order.LiveOrder.{LiveOrder}
 use Rattle.gx_history.specs.declared.facts.RuleFigures.{RuleFigures}
 use Rattle.gx_policy.specs.declared.policy.FileRule.{FileRule}
 use Rattle.gx_policy.specs.declared.policy.PolicyData.{PolicyData}
@@ -46,16 +45,16 @@ module _ (policy : PolicyData) (held : Positions) (q : Request) (given : Facts) 
   pub none_asked : given.account ≡ None → figured (λ n. no_figures) rules ≡ with_figures (figures_asked policy held q given) rules
   none_asked none =
       none_told 0 rules
-      ∙ ap (λ (asker : Option AccountName). with_figures (λ rule. option_map_or (λ (account : AccountName). figures policy held account q (option_map (λ (o : LiveOrder). o.number) given.named) given.moment rule) asker no_figures) rules) (sym none)
+      ∙ ap (λ (asker : Option AccountName). with_figures (λ rule. option_map_or (λ (account : AccountName). figures policy held account q given.named given.moment rule) asker no_figures) rules) (sym none)
 
   -- the figures of the asker's account
   pub some_asked : (account : AccountName) (told : ℕ → RuleFigures) → given.account ≡ Some account
-      → figured told policy.rules ≡ with_figures (figures policy held account q (option_map (λ (o : LiveOrder). o.number) given.named) given.moment) policy.rules → AskForTheSame policy held rules
+      → figured told policy.rules ≡ with_figures (figures policy held account q given.named given.moment) policy.rules → AskForTheSame policy held rules
       → figured told rules ≡ with_figures (figures_asked policy held q given) rules
   some_asked account told is_his are same =
-      joined told (figures policy held account q (option_map (λ (o : LiveOrder). o.number) given.named) given.moment) 0 rules policy.rules are
-      (same account q (option_map (λ (o : LiveOrder). o.number) given.named) given.moment)
-      ∙ (λ i. with_figures (λ rule. option_map_or (λ (asker : AccountName). figures policy held asker q (option_map (λ (o : LiveOrder). o.number) given.named) given.moment rule) (sym is_his i) no_figures) rules)
+      joined told (figures policy held account q given.named given.moment) 0 rules policy.rules are
+      (same account q given.named given.moment)
+      ∙ (λ i. with_figures (λ rule. option_map_or (λ (asker : AccountName). figures policy held asker q given.named given.moment rule) (sym is_his i) no_figures) rules)
 
 -- the asker's account is known
 pub asker_known : (policy : PolicyData) (given : Facts) (account : AccountName) → given.account ≡ Some account → knows_asker policy given ≡ true → is_some (account_named policy account) ≡ true

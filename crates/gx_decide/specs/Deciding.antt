@@ -4,6 +4,7 @@ use Rattle.std.specs.Option.{option_map_or}
 use Rattle.gx_units.specs.declared.names.AccountName.{AccountName}
 use Rattle.gx_desk.specs.declared.Action.{Action}
 use Rattle.gx_history.specs.declared.facts.Facts.{Facts}
+use Rattle.gx_history.specs.declared.live_order.LiveOrder.{LiveOrder}
 use Rattle.gx_policy.specs.declared.policy.FileRule.{FileRule}
 use Rattle.gx_policy.specs.declared.policy.PolicyData.{PolicyData}
 use Rattle.gx_policy.specs.declared.policy.User.{User}
@@ -18,7 +19,7 @@ use Rattle.gx_history.specs.Verdicts.{figures_asked, verdict_by, with_figures}
 use Rattle.gx_people.specs.Entitled.{has, power_of}
 use Rattle.gx_positions.specs.Sound.{AreSound}
 use Rattle.gx_ledger.specs.Keeping.{Kept}
-use Rattle.gx_ledger.specs.StandsFor.{IsHeldIfAny, StandsFor}
+use Rattle.gx_ledger.specs.StandsFor.{StandsFor}
 
 -- the facts, with what these people say of the asker's power
 abbrev pub with_powers : List User → Asked → Facts → Facts
@@ -26,7 +27,7 @@ with_powers people a given = record given { has_power = of_command (λ (action :
 
 -- the rules ask for the figures of the policy's, as commands change limits and lists of stocks alone
 abbrev pub AskForTheSame : PolicyData → Positions → List FileRule → Type 0
-AskForTheSame policy held rules = (asker : AccountName) (q : Request) (replaced : Option ℕ) (moment : ℕ)
+AskForTheSame policy held rules = (asker : AccountName) (q : Request) (replaced : Option LiveOrder) (moment : ℕ)
     → map (figures policy held asker q replaced moment) rules ≡ map (figures policy held asker q replaced moment) policy.rules
 
 -- the asker's account, if he has one, is the policy's
@@ -37,6 +38,6 @@ knows_asker policy given = option_map_or (λ (account : AccountName). is_some (a
 -- ledger stands for, whichever these are.
 abbrev pub Decides : List User → List FileRule → Kept → Facts → Asked → Verdict → Type 0
 Decides people rules ledger given a result = (policy : PolicyData) (held : Positions)
-    → StandsFor policy ledger held → AreSound policy held → AskForTheSame policy held rules → IsTrue (knows_asker policy given) → IsHeldIfAny held given.named
+    → StandsFor policy ledger held → AreSound policy held → AskForTheSame policy held rules → IsTrue (knows_asker policy given)
     → let facts = with_powers people a given in
     result ≡ verdict_by (first_forbidding (with_figures (figures_asked policy held a.request facts) rules) facts a.request)

@@ -7,11 +7,11 @@ use Rattle.gx_policy.specs.declared.policy.User.{User}
 use Rattle.gx_history.specs.declared.record.Asked.{Asked}
 use Rattle.gx_history.specs.declared.record.RecordData.{RecordData}
 use Rattle.gx_history.specs.declared.record.Verdict.{Verdict}
+use Rattle.gx_history.specs.Figures.{positions}
 use Rattle.gx_history.specs.InForce.{rules_in_force}
 use Rattle.gx_policy.specs.Soundness.{is_sound}
 use Rattle.gx_history.specs.Verdicts.{facts_now, verdict, IsLegal}
 use Rattle.gx_people.specs.Entitled.{people_in_force}
-use Rattle.gx_positions.specs.Changing.{live_positions}
 use Rattle.gx_ledger.specs.Keeping.{Kept}
 use Rattle.gx_ledger.specs.StandsFor.{StandsFor}
 use Rattle.gx_decide.specs.Deciding.{Decides}
@@ -21,4 +21,4 @@ use Rattle.gx_decide.specs.Deciding.{Decides}
 abbrev pub DecidesTheVerdict : Type 0
 DecidesTheVerdict = (policy : PolicyData) (history : List RecordData) (people : List User) (rules : List FileRule) (ledger : Kept) (given : Facts) (a : Asked) (result : Verdict)
     → IsTrue (is_sound policy) → IsLegal policy history → people ≡ people_in_force policy history → rules ≡ rules_in_force policy history → given ≡ facts_now policy history a
-    → StandsFor policy ledger (live_positions policy history) → Decides people rules ledger given a result → result ≡ verdict policy history a
+    → StandsFor policy ledger (positions policy history) → Decides people rules ledger given a result → result ≡ verdict policy history a

@@ -1,53 +1,20 @@
 -- A command that was granted names what is known, and is its officer's to give.
-use Rattle.std.proofs.Common.{◌≡◌, Bool, true, false, List, [], ◌∷◌, ◌∙◌, ap, sym, drop}
+use Rattle.std.proofs.Common.{◌≡◌, Bool, true, false, List, ◌∙◌, ap, sym}
 use Rattle.std.specs.Prelude.{Some, ◌&&◌, not}
 use Rattle.std.proofs.lemmas.Bool.{not-false}
 use Rattle.gx_desk.specs.declared.Action.{Action}
 use Rattle.gx_policy.specs.declared.policy.PolicyData.{PolicyData}
+use Rattle.gx_policy.specs.declared.rule_name.RuleName.TheVariants.{Q1, Q2, Q3, Q4}
+use Rattle.gx_policy.specs.People.{role_in}
 use Rattle.gx_history.specs.declared.record.Asked.{Asked}
 use Rattle.gx_history.specs.declared.record.RecordData.{RecordData}
 use Rattle.gx_history.specs.declared.record.Request.{Request}
-use Rattle.gx_policy.specs.declared.rule_name.RuleName.{RuleName}
-use Rattle.gx_policy.specs.declared.rule_name.RuleName.TheVariants.{Q1, Q2, Q3, Q4}
 use Rattle.gx_history.specs.declared.record.Step.TheVariants as steps
-use Rattle.gx_history.specs.declared.record.Verdict.TheVariants as verdicts
 use Rattle.gx_history.specs.Asking.{facts, of_command, has_power, are_his, changes, knows_names}
-use Rattle.gx_policy.specs.People.{role_in}
 use Rattle.gx_history.specs.Requests.{is_command}
-use Rattle.gx_policy.specs.RuleNames.{rules_behind}
-use Rattle.gx_history.specs.Rules.{forbids}
-use Rattle.gx_history.specs.Verdicts.{next, facts_now, rules_now}
-use Rattle.gx_history_laws.proofs.Granting.{granted_passes, none_behind}
-use Rattle.gx_history_laws.proofs.Order.{none_among}
+use Rattle.gx_history.specs.Verdicts.{next}
+use Rattle.gx_history_laws.proofs.Granting.{is_no_bar}
 use Rattle.gx_effects.proofs.Commanding.{GrantsCommand}
-
-names_are_no_bar : (policy : PolicyData) (history : List RecordData) (a : Asked) (r : RecordData)
-    → next policy history (steps.Asked a) ≡ Some r → r.verdict ≡ verdicts.Granted → forbids Q1 (facts_now policy history a) a.request ≡ false
-unfolding rules_behind
-names_are_no_bar policy history a r left granted =
-    none_among (λ (name : RuleName). forbids name (facts_now policy history a) a.request) [] Q1 (drop 1 rules_behind)
-    (none_behind (rules_now policy history a) (facts_now policy history a) a.request (granted_passes policy history a r left granted))
-
-power_is_no_bar : (policy : PolicyData) (history : List RecordData) (a : Asked) (r : RecordData)
-    → next policy history (steps.Asked a) ≡ Some r → r.verdict ≡ verdicts.Granted → forbids Q2 (facts_now policy history a) a.request ≡ false
-unfolding rules_behind
-power_is_no_bar policy history a r left granted =
-    none_among (λ (name : RuleName). forbids name (facts_now policy history a) a.request) (Q1 ∷ []) Q2 (drop 2 rules_behind)
-    (none_behind (rules_now policy history a) (facts_now policy history a) a.request (granted_passes policy history a r left granted))
-
-scope_is_no_bar : (policy : PolicyData) (history : List RecordData) (a : Asked) (r : RecordData)
-    → next policy history (steps.Asked a) ≡ Some r → r.verdict ≡ verdicts.Granted → forbids Q3 (facts_now policy history a) a.request ≡ false
-unfolding rules_behind
-scope_is_no_bar policy history a r left granted =
-    none_among (λ (name : RuleName). forbids name (facts_now policy history a) a.request) (Q1 ∷ Q2 ∷ []) Q3 (drop 3 rules_behind)
-    (none_behind (rules_now policy history a) (facts_now policy history a) a.request (granted_passes policy history a r left granted))
-
-change_is_no_bar : (policy : PolicyData) (history : List RecordData) (a : Asked) (r : RecordData)
-    → next policy history (steps.Asked a) ≡ Some r → r.verdict ≡ verdicts.Granted → forbids Q4 (facts_now policy history a) a.request ≡ false
-unfolding rules_behind
-change_is_no_bar policy history a r left granted =
-    none_among (λ (name : RuleName). forbids name (facts_now policy history a) a.request) (Q1 ∷ Q2 ∷ Q3 ∷ []) Q4 (drop 4 rules_behind)
-    (none_behind (rules_now policy history a) (facts_now policy history a) a.request (granted_passes policy history a r left granted))
 
 -- the action passes the test of a rule that does not forbid its command
 passes : (test : Action → Bool) (r : RecordData) (a : Asked) (action : Action) → GrantsCommand r a action → (is_command a.request && not (of_command test a.request)) ≡ false → test action ≡ true
@@ -58,19 +25,19 @@ passes test r a action g no_bar =
 pub names_are_known : (policy : PolicyData) (history : List RecordData) (a : Asked) (r : RecordData) (action : Action) → GrantsCommand r a action
     → next policy history (steps.Asked a) ≡ Some r → knows_names policy history action ≡ true
 unfolding facts
-names_are_known policy history a r action g left = passes (knows_names policy history) r a action g (names_are_no_bar policy history a r left g.grants)
+names_are_known policy history a r action g left = passes (knows_names policy history) r a action g (is_no_bar policy history a r left g.grants Q1)
 
 pub has_the_power : (policy : PolicyData) (history : List RecordData) (a : Asked) (r : RecordData) (action : Action) → GrantsCommand r a action
     → next policy history (steps.Asked a) ≡ Some r → has_power (role_in policy.users a.user) action ≡ true
 unfolding facts
-has_the_power policy history a r action g left = passes (has_power (role_in policy.users a.user)) r a action g (power_is_no_bar policy history a r left g.grants)
+has_the_power policy history a r action g left = passes (has_power (role_in policy.users a.user)) r a action g (is_no_bar policy history a r left g.grants Q2)
 
 pub has_the_accounts : (policy : PolicyData) (history : List RecordData) (a : Asked) (r : RecordData) (action : Action) → GrantsCommand r a action
     → next policy history (steps.Asked a) ≡ Some r → are_his policy history (role_in policy.users a.user) action ≡ true
 unfolding facts
-has_the_accounts policy history a r action g left = passes (are_his policy history (role_in policy.users a.user)) r a action g (scope_is_no_bar policy history a r left g.grants)
+has_the_accounts policy history a r action g left = passes (are_his policy history (role_in policy.users a.user)) r a action g (is_no_bar policy history a r left g.grants Q3)
 
 pub changes_something : (policy : PolicyData) (history : List RecordData) (a : Asked) (r : RecordData) (action : Action) → GrantsCommand r a action
     → next policy history (steps.Asked a) ≡ Some r → changes policy history a.user action ≡ true
 unfolding facts
-changes_something policy history a r action g left = passes (changes policy history a.user) r a action g (change_is_no_bar policy history a r left g.grants)
+changes_something policy history a r action g left = passes (changes policy history a.user) r a action g (is_no_bar policy history a r left g.grants Q4)

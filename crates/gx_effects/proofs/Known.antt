@@ -1,149 +1,124 @@
--- What is known of standings, of those that wait and of those that rest.
-use Rattle.std.proofs.Common.{◌≡◌, ℕ, Bool, true, false, not, List, [], ◌∷◌, refl, ◌∙◌, ap, sym, map, cond}
-use Rattle.std.specs.Prelude.{Option, Some, None, ◌==◌, nat_lt}
-use Rattle.std.specs.List.{filter, filter_map, cons_option, list_any, AllByRecursion}
+-- What is known of each live order, of those that wait and of those that rest.
+use Rattle.std.proofs.Common.{◌≡◌, ℕ, Bool, true, false, not, List, [], ◌∷◌, refl, ◌∙◌, ap, sym, fold}
+use Rattle.std.proofs.Math.Path.{subst}
+use Rattle.std.specs.Prelude.{Option, Some, None, ◌==◌}
+use Rattle.std.specs.List.{filter, filter_map, cons_option, AllByRecursion}
 use Rattle.std.proofs.lemmas.Bool.{eqb-true}
 use Rattle.gx_units.specs.declared.names.Symbol.{Symbol}
 use Rattle.gx_policy.specs.declared.policy.PolicyData.{PolicyData}
+use Rattle.gx_policy.specs.Lists.{placed}
+use Rattle.gx_history.specs.declared.live_order.LiveOrder.{LiveOrder}
 use Rattle.gx_history.specs.declared.record.RecordData.{RecordData}
-use Rattle.gx_history.specs.Book.{incoming, resting, rested, has_rested, is_better}
-use Rattle.gx_history.specs.Executions.{Standing, standing, standings, standing_numbered, executions, open_shares, is_live, live_orders}
-use Rattle.gx_history.specs.Orders.{Order, orders, order_numbered, is_dead}
+use Rattle.gx_history.specs.Book.{rested}
+use Rattle.gx_history.specs.Executions.{Execution, done, executions}
+use Rattle.gx_history.specs.Live.{waiting, ahead, is_there, side, has_come, live_numbered, live, open_now}
+use Rattle.gx_history.specs.Orders.{Order, is_dead, order_numbered, orders, total}
 use Rattle.gx_history_laws.proofs.Adding.{all_pass}
-use Rattle.gx_history_laws.proofs.NextOrders.{rests}
 use Rattle.gx_history_laws.proofs.Numbers.{all_weaker}
 use Rattle.gx_history_laws.proofs.Order.{first_such, IsFirstSuch}
-use Rattle.gx_history_laws.proofs.Owners.{filtered}
-use Rattle.gx_effects.proofs.Apart.{AreApart, apart_filter, apart_found, apart_in_order, none_earlier, apart_are_found, all_members}
-use Rattle.gx_effects.proofs.Emptied.{all_placed}
-use Rattle.gx_effects.proofs.Entered.{all_mapped}
-use Rattle.gx_effects.proofs.Lessening.{IsResting, rests_parts}
+use Rattle.gx_history_laws.proofs.Owners.{all_both, filtered}
+use Rattle.gx_effects.specs.Laws.{LiveOrdersAreFound}
+use Rattle.gx_effects.proofs.Among.{all_and, of_all}
+use Rattle.gx_effects.proofs.Apart.{AreApart, apart_are_found, all_members}
+use Rattle.gx_effects.proofs.Entered.{all_found_of, open_parts}
+use Rattle.gx_effects.proofs.Naming.{IsOfKnown, live_of_known}
 use Rattle.gx_effects.proofs.NewOrders.{found_is}
-use Rattle.gx_effects.proofs.NotLive.{all_and}
-use Rattle.gx_effects.proofs.Orderly.{IsOrderly, HasGone, number_of}
+use Rattle.gx_effects.proofs.Orderly.{IsOrderly, legal_is_orderly, number_of}
 
--- one of the standings
-pub record IsKnown (policy : PolicyData) (history : List RecordData) (s : Standing) : Type 0 where
-  pub is_made : order_numbered (orders policy history) s.order.number ≡ Some s.order
-  pub has_open : s.open_shares ≡ open_shares (executions policy history) history s.order
-  pub replaces_gone : HasGone policy history s.order
-  pub is_found : standing_numbered (standings policy history) s.order.number ≡ Some s
-
-abbrev pub number_in : Standing → ℕ
-number_in s = s.order.number
-
-pub map_apart : {X Y : Type 0} (key : Y → ℕ) (f : X → Y) (xs : List X) → AreApart (λ x. key (f x)) xs → AreApart key (map f xs)
-map_apart key f [] h = tt
-map_apart key f (x ∷ xs) h = (all_mapped (λ y. key y ≡ key (f x) → ⊥) f xs h.0, map_apart key f xs h.1)
-
-pub standings_apart : (policy : PolicyData) (history : List RecordData) → IsOrderly policy history → AreApart number_in (standings policy history)
-unfolding standings
-standings_apart policy history orderly = map_apart number_in (standing (executions policy history) history) (orders policy history) orderly.apart
-
--- each order with its shares
-abbrev IsMade : PolicyData → List RecordData → Standing → Type 0
-IsMade policy history s = (order_numbered (orders policy history) s.order.number ≡ Some s.order) × (s.open_shares ≡ open_shares (executions policy history) history s.order) × HasGone policy history s.order
-
-all_made : (policy : PolicyData) (history : List RecordData) → IsOrderly policy history → AllByRecursion (IsMade policy history) (standings policy history)
-unfolding standings
-all_made policy history orderly =
-    all_mapped (IsMade policy history) (standing (executions policy history) history) (orders policy history)
-    (all_weaker (λ (o : Order). (order_numbered (orders policy history) o.number ≡ Some o) × HasGone policy history o) (λ (o : Order). IsMade policy history (standing (executions policy history) history o))
-    (λ o h. (h.0, refl, h.1)) (orders policy history)
-    (all_and (λ (o : Order). order_numbered (orders policy history) o.number ≡ Some o) (HasGone policy history) (orders policy history) (apart_are_found number_of (orders policy history) orderly.apart) orderly.gone))
-
-pub all_known : (policy : PolicyData) (history : List RecordData) → IsOrderly policy history → AllByRecursion (IsKnown policy history) (standings policy history)
-all_known policy history orderly =
-    all_weaker (λ (s : Standing). IsMade policy history s × (standing_numbered (standings policy history) s.order.number ≡ Some s)) (IsKnown policy history)
-    (λ s h. record { is_made = h.0.0; has_open = h.0.1; replaces_gone = h.0.2; is_found = h.1 }) (standings policy history)
-    (all_and (IsMade policy history) (λ (s : Standing). standing_numbered (standings policy history) s.order.number ≡ Some s) (standings policy history)
-    (all_made policy history orderly) (apart_are_found number_in (standings policy history) (standings_apart policy history orderly)))
-
--- a live order that waits to be matched
-pub record IsWaiting (policy : PolicyData) (history : List RecordData) (s : Standing) : Type 0 where
-  pub known : IsKnown policy history s
-  pub lives : is_live s ≡ true
-  pub has_not_rested : has_rested history s ≡ false
+-- whatever the order
+pub all_placed : {X : Type 0} (P : X → Type 0) (better : X → X → Bool) (earlier xs : List X) → AllByRecursion P earlier → AllByRecursion P xs → AllByRecursion P (fold (placed better) earlier xs)
+all_placed P better earlier [] h k = h
+all_placed P better earlier (x ∷ xs) h k =
+    all_placed P better (placed better earlier x) xs
+    (all_both P (filter (λ y. not (better x y)) earlier) (x ∷ filter (better x) earlier) (filtered P (λ y. not (better x y)) earlier h) (k.0, filtered P (better x) earlier h)) k.1
 
 was_false : (b : Bool) → not b ≡ true → b ≡ false
 was_false true h = cc
 was_false false h = refl
 
-pub live_known : (policy : PolicyData) (history : List RecordData) → IsOrderly policy history → AllByRecursion (λ (s : Standing). IsKnown policy history s × (is_live s ≡ true)) (live_orders policy history)
-unfolding live_orders
+-- one of the live orders, and the order that it is of
+pub record IsKnown (policy : PolicyData) (history : List RecordData) (o : LiveOrder) : Type 0 where
+  pub of : IsOfKnown policy history o
+  pub is_made : order_numbered (orders policy history) o.number ≡ Some of.order
+  pub is_found : live_numbered (live policy history) o.number ≡ Some o
+
+abbrev pub number_in : LiveOrder → ℕ
+number_in o = o.number
+
+-- what goes on has its number
+apart_kept : (f : Order → Option LiveOrder) → ((x : Order) (o : LiveOrder) → f x ≡ Some o → o.number ≡ x.number) → (xs : List Order) → AreApart number_of xs → AreApart number_in (filter_map f xs)
+apart_kept f same [] h = tt
+apart_kept f same (x ∷ xs) h = at (f x) refl (apart_kept f same xs h.1)
+  where
+    at : (found : Option LiveOrder) → f x ≡ found → AreApart number_in (filter_map f xs) → AreApart number_in (cons_option found (filter_map f xs))
+    at None e rest = rest
+    at (Some o) e rest = (all_found_of (λ (y : Order). y.number ≡ x.number → ⊥) (λ (p : LiveOrder). p.number ≡ o.number → ⊥) f (λ y p other k same_number. other (sym (same y p k) ∙ same_number ∙ same x o e)) xs h.0, rest)
+
+number_kept : (made : List Execution) (history : List RecordData) (x : Order) (o : LiveOrder) → open_now made history x ≡ Some o → o.number ≡ x.number
+number_kept made history x o h = ap (λ (y : LiveOrder). y.number) (sym (open_parts x (is_dead history x) (total history x) (done made x) (not (has_come (rested history) x.number)) o h).2)
+
+pub live_apart : (policy : PolicyData) (history : List RecordData) → IsOrderly policy history → AreApart number_in (live policy history)
+unfolding live
+live_apart policy history orderly = apart_kept (open_now (executions policy history) history) (number_kept (executions policy history) history) (orders policy history) orderly.apart
+
+pub live_known : (policy : PolicyData) (history : List RecordData) → IsOrderly policy history → AllByRecursion (IsKnown policy history) (live policy history)
 live_known policy history orderly =
-    all_and (IsKnown policy history) (λ (s : Standing). is_live s ≡ true) (live_orders policy history)
-    (filtered (IsKnown policy history) is_live (standings policy history) (all_known policy history orderly)) (all_pass is_live (standings policy history))
+    all_weaker (λ (o : LiveOrder). IsOfKnown policy history o × (live_numbered (live policy history) o.number ≡ Some o)) (IsKnown policy history)
+    (λ o h. record {
+      of = h.0;
+      is_made = ap (λ (p : LiveOrder). order_numbered (orders policy history) p.number) (sym h.0.is_it)
+          ∙ of_all (λ (x : Order). order_numbered (orders policy history) x.number ≡ Some x) h.0.order (orders policy history) (apart_are_found number_of (orders policy history) orderly.apart) h.0.is_known;
+      is_found = h.1;
+    }) (live policy history)
+    (all_and (IsOfKnown policy history) (λ (o : LiveOrder). live_numbered (live policy history) o.number ≡ Some o) (live policy history)
+    (live_of_known policy history) (apart_are_found number_in (live policy history) (live_apart policy history orderly)))
 
-pub all_waiting : (policy : PolicyData) (history : List RecordData) → IsOrderly policy history → AllByRecursion (IsWaiting policy history) (incoming policy history)
-unfolding incoming
+pub live_are_found : LiveOrdersAreFound
+live_are_found policy history legal =
+    apart_are_found number_in (live policy history) (live_apart policy history (legal_is_orderly policy history legal))
+
+-- a live order waits exactly where it has not come to rest
+pub waits_is : (policy : PolicyData) (history : List RecordData) (o : LiveOrder) → IsOfKnown policy history o → o.waits ≡ not (has_come (rested history) o.number)
+waits_is policy history o known = subst (λ (p : LiveOrder). p.waits ≡ not (has_come (rested history) p.number)) known.is_it refl
+
+-- a live order that waits to be matched
+pub record IsWaiting (policy : PolicyData) (history : List RecordData) (o : LiveOrder) : Type 0 where
+  pub known : IsKnown policy history o
+  pub has_not_rested : has_come (rested history) o.number ≡ false
+
+pub all_waiting : (policy : PolicyData) (history : List RecordData) → IsOrderly policy history → AllByRecursion (IsWaiting policy history) (waiting policy history)
+unfolding waiting
 all_waiting policy history orderly =
-    let waits : Standing → Bool = λ (s : Standing). not (has_rested history s) in
-    all_weaker (λ (s : Standing). (IsKnown policy history s × (is_live s ≡ true)) × (waits s ≡ true)) (IsWaiting policy history)
-    (λ s h. record { known = h.0.0; lives = h.0.1; has_not_rested = was_false (has_rested history s) h.1 }) (incoming policy history)
-    (all_and (λ (s : Standing). IsKnown policy history s × (is_live s ≡ true)) (λ (s : Standing). waits s ≡ true) (incoming policy history)
-    (filtered (λ (s : Standing). IsKnown policy history s × (is_live s ≡ true)) waits (live_orders policy history) (live_known policy history orderly)) (all_pass waits (live_orders policy history)))
+    all_weaker (λ (o : LiveOrder). IsKnown policy history o × (o.waits ≡ true)) (IsWaiting policy history)
+    (λ o h. record { known = h.0; has_not_rested = was_false (has_come (rested history) o.number) (sym (waits_is policy history o h.0.of) ∙ h.1) }) (waiting policy history)
+    (all_and (IsKnown policy history) (λ (o : LiveOrder). o.waits ≡ true) (waiting policy history)
+    (filtered (IsKnown policy history) (λ (o : LiveOrder). o.waits) (live policy history) (live_known policy history orderly)) (all_pass (λ (o : LiveOrder). o.waits) (live policy history)))
 
-pub waiting_apart : (policy : PolicyData) (history : List RecordData) → IsOrderly policy history → AreApart number_in (incoming policy history)
-unfolding incoming live_orders
-waiting_apart policy history orderly =
-    apart_filter number_in (λ (s : Standing). not (has_rested history s)) (filter is_live (standings policy history))
-    (apart_filter number_in is_live (standings policy history) (standings_apart policy history orderly))
+pub first_waiting : (policy : PolicyData) (history : List RecordData) (first : LiveOrder) (others : List LiveOrder) → IsOrderly policy history → waiting policy history ≡ first ∷ others → IsWaiting policy history first
+first_waiting policy history first others orderly e = (subst (AllByRecursion (IsWaiting policy history)) e (all_waiting policy history orderly)).0
 
 -- a live order that has come to rest, on this side of the stock
-pub record RestsThere (policy : PolicyData) (history : List RecordData) (stock : Symbol) (buy : Bool) (s : Standing) : Type 0 where
-  pub known : IsKnown policy history s
-  pub there : IsResting stock buy s
-  pub has_come_to_rest : has_rested history s ≡ true
+pub record RestsThere (policy : PolicyData) (history : List RecordData) (stock : Symbol) (buy : Bool) (o : LiveOrder) : Type 0 where
+  pub known : IsKnown policy history o
+  pub there : is_there stock buy o ≡ true
+  pub has_come_to_rest : has_come (rested history) o.number ≡ true
+  pub rests : o.waits ≡ false
 
--- what each finds
-pub all_found_of : {X Y : Type 0} (Q : X → Type 0) (P : Y → Type 0) (f : X → Option Y) → ((x : X) (y : Y) → Q x → f x ≡ Some y → P y) → (xs : List X) → AllByRecursion Q xs → AllByRecursion P (filter_map f xs)
-all_found_of Q P f h [] k = tt
-all_found_of {X} {Y} Q P f h (x ∷ xs) k = at (f x) refl (all_found_of Q P f h xs k.1)
-  where
-    at : (found : Option Y) → f x ≡ found → AllByRecursion P (filter_map f xs) → AllByRecursion P (cons_option found (filter_map f xs))
-    at None e rest = rest
-    at (Some y) e rest = (h x y k.0 e, rest)
+pub number_found : (os : List LiveOrder) (n : ℕ) (o : LiveOrder) → live_numbered os n ≡ Some o → (o.number == n) ≡ true
+number_found os n o e = let such : IsFirstSuch (λ (x : LiveOrder). x.number == n) os o = first_such (λ (x : LiveOrder). x.number == n) os o e in such.3
 
-pub numbered_is : (ss : List Standing) (number : ℕ) (s : Standing) → standing_numbered ss number ≡ Some s → s.order.number ≡ number
-numbered_is ss number s e =
-    let such : IsFirstSuch (λ (x : Standing). x.order.number == number) ss s = first_such (λ (x : Standing). x.order.number == number) ss s e in
-    eqb-true s.order.number number such.3
+numbered_is : (os : List LiveOrder) (number : ℕ) (o : LiveOrder) → live_numbered os number ≡ Some o → o.number ≡ number
+numbered_is os number o e = eqb-true o.number number (number_found os number o e)
 
-rested_known : (policy : PolicyData) (history : List RecordData) → IsOrderly policy history
-    → AllByRecursion (λ (s : Standing). IsKnown policy history s × (has_rested history s ≡ true)) (filter_map (standing_numbered (standings policy history)) (rested history))
-rested_known policy history orderly =
-    all_found_of (λ (n : ℕ). list_any (λ m. m == n) (rested history) ≡ true) (λ (s : Standing). IsKnown policy history s × (has_rested history s ≡ true)) (standing_numbered (standings policy history))
-    (λ (n : ℕ) (s : Standing) among e. (
-      found_is (IsKnown policy history) (λ (x : Standing). x.order.number == n) (standings policy history) s (all_known policy history orderly) e,
-      ap (λ (k : ℕ). list_any (λ m. m == k) (rested history)) (numbered_is (standings policy history) n s e) ∙ among,
-    )) (rested history) (all_members (rested history))
-
-pub all_resting : (policy : PolicyData) (history : List RecordData) (stock : Symbol) (buy : Bool) → IsOrderly policy history → AllByRecursion (RestsThere policy history stock buy) (resting policy history stock buy)
-unfolding resting
+pub all_resting : (policy : PolicyData) (history : List RecordData) (stock : Symbol) (buy : Bool) → IsOrderly policy history → AllByRecursion (RestsThere policy history stock buy) (side policy history stock buy)
+unfolding side
 all_resting policy history stock buy orderly =
-    let found : List Standing = filter_map (standing_numbered (standings policy history)) (rested history) in
-    all_placed (RestsThere policy history stock buy) is_better [] (filter (rests stock buy) found) tt
-    (all_weaker (λ (s : Standing). (IsKnown policy history s × (has_rested history s ≡ true)) × (rests stock buy s ≡ true)) (RestsThere policy history stock buy)
-    (λ s h. record { known = h.0.0; there = rests_parts stock buy s h.1; has_come_to_rest = h.0.1 }) (filter (rests stock buy) found)
-    (all_and (λ (s : Standing). IsKnown policy history s × (has_rested history s ≡ true)) (λ (s : Standing). rests stock buy s ≡ true) (filter (rests stock buy) found)
-    (filtered (λ (s : Standing). IsKnown policy history s × (has_rested history s ≡ true)) (rests stock buy) found (rested_known policy history orderly)) (all_pass (rests stock buy) found)))
-
-pub resting_apart : (policy : PolicyData) (history : List RecordData) (stock : Symbol) (buy : Bool) → IsOrderly policy history → AreApart number_in (resting policy history stock buy)
-unfolding resting
-resting_apart policy history stock buy orderly =
-    let found : List Standing = filter_map (standing_numbered (standings policy history)) (rested history) in
-    let those : List Standing = filter (rests stock buy) found in
-    apart_in_order number_in is_better [] those tt
-    (apart_filter number_in (rests stock buy) found
-    (apart_found number_in (standing_numbered (standings policy history)) (numbered_is (standings policy history)) (rested history) orderly.rested_apart))
-    (none_earlier number_in those)
-
--- a live order has not ended
-pub live_has_not_ended : (policy : PolicyData) (history : List RecordData) (s : Standing) → IsKnown policy history s → is_live s ≡ true → is_dead history s.order ≡ false
-unfolding open_shares
-live_has_not_ended policy history s known lives = at (is_dead history s.order) _ (sym (ap (nat_lt 0) known.has_open) ∙ lives)
-  where
-    at : (b : Bool) (n : ℕ) → nat_lt 0 (cond b 0 n) ≡ true → b ≡ false
-    at true n h = cc
-    at false n h = refl
+    let found : List LiveOrder = filter_map (live_numbered (live policy history)) (rested history) in
+    all_placed (RestsThere policy history stock buy) (ahead buy) [] (filter (is_there stock buy) found) tt
+    (all_weaker (λ (o : LiveOrder). (IsKnown policy history o × (has_come (rested history) o.number ≡ true)) × (is_there stock buy o ≡ true)) (RestsThere policy history stock buy)
+    (λ o h. record { known = h.0.0; there = h.1; has_come_to_rest = h.0.1; rests = waits_is policy history o h.0.0.of ∙ ap not h.0.1 }) (filter (is_there stock buy) found)
+    (all_and (λ (o : LiveOrder). IsKnown policy history o × (has_come (rested history) o.number ≡ true)) (λ (o : LiveOrder). is_there stock buy o ≡ true) (filter (is_there stock buy) found)
+    (filtered (λ (o : LiveOrder). IsKnown policy history o × (has_come (rested history) o.number ≡ true)) (is_there stock buy) found
+    (all_found_of (λ (n : ℕ). has_come (rested history) n ≡ true) (λ (o : LiveOrder). IsKnown policy history o × (has_come (rested history) o.number ≡ true)) (live_numbered (live policy history))
+    (λ n o among e. (found_is (IsKnown policy history) (λ (x : LiveOrder). x.number == n) (live policy history) o (live_known policy history orderly) e, ap (has_come (rested history)) (numbered_is (live policy history) n o e) ∙ among))
+    (rested history) (all_members (rested history)))) (all_pass (is_there stock buy) found)))

@@ -1,70 +1,55 @@
--- A granted Lift takes effect, and a kill ends by nothing else.
+-- A kill ends by the granted Lift of the last officer, and by nothing else.
 use Rattle.std.proofs.Common.{◌≡◌, ◌+◌, Bool, true, false, List, [], ◌∷◌, ◌++◌, refl, ◌∙◌, ap, sym, cond, length}
 use Rattle.std.proofs.Math.Path.{subst}
 use Rattle.std.specs.Prelude.{Option, Some, None, is_some, option_and_then, ◌&&◌, ◌||◌}
 use Rattle.std.specs.List.{AllByRecursion}
-use Rattle.gx_units.specs.Names.{same_account, same_user}
 use Rattle.gx_units.specs.declared.names.AccountName.{AccountName}
-use Rattle.gx_units.specs.declared.names.Symbol.{Symbol}
 use Rattle.gx_units.specs.declared.names.UserName.{UserName}
+use Rattle.gx_units.specs.Names.{same_account, same_user}
 use Rattle.gx_desk.specs.declared.Action.{Action}
 use Rattle.gx_desk.specs.declared.Action.TheVariants as actions
-use Rattle.gx_desk.specs.declared.Command.{Command}
-use Rattle.gx_policy.specs.declared.policy.FileRule.{FileRule}
 use Rattle.gx_policy.specs.declared.policy.Lifters.{Lifters}
 use Rattle.gx_policy.specs.declared.policy.Lifters.TheVariants as lifters
 use Rattle.gx_policy.specs.declared.policy.PolicyData.{PolicyData}
 use Rattle.gx_policy.specs.declared.policy.Role.{Role}
 use Rattle.gx_policy.specs.declared.policy.Role.TheVariants as roles
-use Rattle.gx_history.specs.declared.record.Asked.{Asked}
-use Rattle.gx_history.specs.declared.record.RecordData.{RecordData}
-use Rattle.gx_history.specs.declared.record.Request.TheVariants as requests
-use Rattle.gx_history.specs.declared.record.Step.TheVariants as steps
-use Rattle.gx_history.specs.declared.record.Verdict.TheVariants as verdicts
-use Rattle.gx_history.specs.Asking.{has_power, are_his}
-use Rattle.gx_history.specs.Effects.{LiftsAccount, IsGrantedLift}
-use Rattle.gx_history.specs.InForce.{fewer_than, has_lifted, is_killed, kill_after, kill_in_force, kill_or_lift_of, lifted_since_kill, lifters_asked, with_officer}
 use Rattle.gx_policy.specs.Lists.{is_shorter, where_true}
 use Rattle.gx_policy.specs.People.{covers, role_in}
-use Rattle.gx_history.specs.Requests.{granted, granted_mark, action_of}
+use Rattle.gx_history.specs.declared.record.Asked.{Asked}
+use Rattle.gx_history.specs.declared.record.RecordData.{RecordData}
+use Rattle.gx_history.specs.declared.record.Step.{Step}
+use Rattle.gx_history.specs.declared.record.Step.TheVariants as steps
+use Rattle.gx_history.specs.declared.record.Verdict.{Verdict}
+use Rattle.gx_history.specs.declared.record.Verdict.TheVariants as verdicts
+use Rattle.gx_history.specs.Asking.{has_power, are_his}
+use Rattle.gx_history.specs.InForce.{fewer_than, has_lifted, is_killed, kill_after, kill_in_force, kill_or_lift_of, lifted_since_kill, lifters_asked, with_officer}
+use Rattle.gx_history.specs.Requests.{asked, granted, granted_mark, is_granted, action_of}
 use Rattle.gx_history.specs.Verdicts.{next, Follows, IsLegal}
 use Rattle.gx_history_laws.proofs.Granting.{legal_keeps}
-use Rattle.gx_history_laws.proofs.Keeping.{AddsNothing, EndsNone, positions_kept, live_kept, incoming_kept, resting_kept}
 use Rattle.gx_history_laws.proofs.KillsNext.{is_killed_next, kill_in_force_next, kill_in_force_none}
+use Rattle.gx_history_laws.proofs.Names.{account_is}
 use Rattle.gx_history_laws.proofs.Order.{some_same}
-use Rattle.gx_history_laws.proofs.Names.{account_is, account_is_itself}
-use Rattle.gx_effects.specs.Lifts.{EndsKill, IsEntitled, may_lift}
+use Rattle.gx_effects.specs.Lifts.{EndsKill, IsEntitled, IsGrantedLift, may_lift}
 use Rattle.gx_effects.proofs.Allowed.{has_the_power, has_the_accounts}
-use Rattle.gx_effects.proofs.Commanding.{GrantsCommand, grants_command, grants_the_command, asks_action, command_adds_nothing, kill_by_command, IsKillOrLift, only_kill_changes, ends_no_order, answered_alone}
-use Rattle.gx_effects.proofs.NotLive.{granted_parts}
+use Rattle.gx_effects.proofs.Commanding.{GrantsCommand, grants_command, asks_action}
 
--- what a Lift leaves in force
-lift_marks_one : (account : AccountName) → IsKillOrLift account (actions.Lift account)
-lift_marks_one account = record {
-  closes_not = refl;
-  changes_not = λ (rules : List FileRule). refl;
-  entitles_not = λ (reader : UserName) (other : AccountName) (officer : UserName). refl;
-  marks_no_other = λ (other : AccountName) (officer : UserName) (differs : same_account account other ≡ false). ap (λ (b : Bool). where_true b (Some officer)) differs;
-}
+-- what a granted record has
+granted_parts : (r : RecordData) (a : Asked) → granted r ≡ Some a → (r.verdict ≡ verdicts.Granted) × (r.step ≡ steps.Asked a)
+granted_parts r a h = by_verdict r.verdict refl
+  where
+    by_step : (s : Step) → r.step ≡ s → r.verdict ≡ verdicts.Granted → asked s ≡ Some a → (r.verdict ≡ verdicts.Granted) × (r.step ≡ steps.Asked a)
+    by_step (steps.Asked b) e g k = (g, e ∙ ap (λ (x : Asked). steps.Asked x) (some_same k))
+    by_step (steps.Matching handed) e g k = cc
 
--- a granted Lift takes effect
-pub lift_takes_effect : (policy : PolicyData) (history : List RecordData) (a : Asked) (r : RecordData) (c : Command) (account : AccountName)
-    → IsLegal policy history → next policy history (steps.Asked a) ≡ Some r → a.request ≡ requests.Command c → c.action ≡ actions.Lift account → r.verdict ≡ verdicts.Granted
-    → LiftsAccount policy history (history ++ r ∷ []) r a.user c account
-lift_takes_effect policy history a r c account legal left asks lifts granted =
-    let g : GrantsCommand r a (actions.Lift account) = grants_the_command policy history a r c (actions.Lift account) left asks lifts granted in
-    let nothing : AddsNothing policy history r = command_adds_nothing policy history r a (actions.Lift account) g in
-    let stay : EndsNone r = ends_no_order r a (actions.Lift account) g (λ (other : AccountName). refl) in
-    record {
-      kill_now =
-          kill_by_command policy history r a (actions.Lift account) account (Some (Some a.user)) g (ap (λ (b : Bool). where_true b (Some a.user)) (account_is_itself account));
-      positions_kept = positions_kept policy history r nothing stay;
-      live_kept = live_kept policy history r nothing stay;
-      incoming_kept = incoming_kept policy history r nothing stay;
-      resting_kept = λ (stock : Symbol) (buy : Bool). resting_kept policy history r stock buy nothing stay;
-      in_force = only_kill_changes policy history r a (actions.Lift account) account g (lift_marks_one account);
-      told = λ (user : UserName). answered_alone policy history r a c (actions.Lift account) user g asks lifts (λ (other : AccountName). refl) refl;
-    }
+    asked_in : (v : Verdict) → r.verdict ≡ v → cond (is_granted v) (asked r.step) None ≡ Some a
+    asked_in v e = sym (ap (λ (w : Verdict). cond (is_granted w) (asked r.step) None) e) ∙ h
+
+    by_verdict : (v : Verdict) → r.verdict ≡ v → (r.verdict ≡ verdicts.Granted) × (r.step ≡ steps.Asked a)
+    by_verdict verdicts.Granted e = by_step r.step refl e (asked_in verdicts.Granted e)
+    by_verdict (verdicts.Denied rule) e = let no : None ≡ Some a = asked_in (verdicts.Denied rule) e in cc
+    by_verdict (verdicts.Filled f) e = let no : None ≡ Some a = asked_in (verdicts.Filled f) e in cc
+    by_verdict (verdicts.Rested n) e = let no : None ≡ Some a = asked_in (verdicts.Rested n) e in cc
+    by_verdict (verdicts.Expired n) e = let no : None ≡ Some a = asked_in (verdicts.Expired n) e in cc
 
 -- the record is a granted Lift of the account by this officer
 record LiftBy (policy : PolicyData) (account : AccountName) (r : RecordData) (officer : UserName) : Type 0 where

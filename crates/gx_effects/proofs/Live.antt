@@ -1,66 +1,61 @@
 -- What one more record makes of each live order, and so of them all.
-use Rattle.std.proofs.Common.{◌≡◌, ℕ, ◌+◌, ◌-◌, ◌<◌, ◌≤◌, Bool, true, false, not, List, [], ◌∷◌, ◌++◌, refl, ◌∙◌, ap, sym, cond, length, map, arith}
-use Rattle.std.specs.Prelude.{option_map, Option, Some, None, ◌||◌, ◌&&◌, ◌==◌, nat_lt, unwrap_or, option_and_then, option_to_list}
+use Rattle.std.proofs.Common.{◌≡◌, ℕ, ◌+◌, ◌<◌, ◌≤◌, Bool, true, false, not, List, [], ◌∷◌, ◌++◌, refl, ◌∙◌, ap, sym, cond, length, arith}
+use Rattle.std.proofs.Math.Path.{subst}
+use Rattle.std.specs.Prelude.{Option, Some, None, ◌||◌, ◌&&◌, ◌==◌, nat_lt, unwrap_or, option_and_then, option_to_list}
 use Rattle.std.specs.Option.{option_map_or}
-use Rattle.std.specs.List.{AllByRecursion, cons_option, filter, filter_map, last_or}
+use Rattle.std.specs.List.{AllByRecursion, cons_option, filter_map}
 use Rattle.std.proofs.lemmas.List.{append-nil}
 use Rattle.std.proofs.lemmas.List.Elements.{filter_map-append}
 use Rattle.std.proofs.lemmas.Bool.{lt-ltb, le-ltb, ltb-false, ltb-true}
-use Rattle.gx_policy.specs.declared.policy.PolicyData.{PolicyData}
-use Rattle.gx_policy.specs.Lists.{where_true}
-use Rattle.gx_history.specs.declared.live_order.LiveOrder.{LiveOrder}
-use Rattle.gx_history.specs.declared.record.RecordData.{RecordData}
-use Rattle.gx_history.specs.Book.{rested, rested_of}
-use Rattle.gx_history.specs.Executions.{Execution, done, executions, sides}
-use Rattle.gx_history.specs.Orders.{Order, ends, ends_account, is_dead, orders, orders_added, size_set, total}
-use Rattle.gx_desk.specs.declared.Action.{Action}
-use Rattle.gx_history.specs.declared.record.Asked.{Asked}
-use Rattle.gx_history.specs.Verdicts.{IsLegal, next}
-use Rattle.gx_history_laws.proofs.Keeping.{AddsNothing, EndsNone}
-use Rattle.gx_history_laws.proofs.Numbers.{all_weaker, number_left}
-use Rattle.gx_units.specs.Names.{same_token, same_user}
 use Rattle.gx_units.specs.declared.names.AccountName.{AccountName}
-use Rattle.gx_units.specs.declared.names.Token.{Token}
-use Rattle.gx_units.specs.declared.names.UserName.{UserName}
-use Rattle.gx_history.specs.declared.record.Request.{Request}
-use Rattle.gx_history.specs.declared.record.Step.{Step}
-use Rattle.gx_history.specs.declared.record.Step.TheVariants as steps
-use Rattle.gx_history.specs.LiveOrders.{is_under}
-use Rattle.gx_history.specs.Requests.{is_judged}
-use Rattle.gx_history_laws.proofs.Entering.{HasAccount, entered_has_account, entered_has_shares}
-use Rattle.gx_history_laws.proofs.Granting.{asked_is_judged}
-use Rattle.gx_history_laws.proofs.Runs.{step_left}
-use Rattle.gx_effects.proofs.Denials.{IsDenial, denial_adds_nothing, denial_ends_none}
-use Rattle.gx_effects.proofs.Settling.{not_judged}
 use Rattle.gx_ouch.specs.declared.inbound.CancelOrder.{CancelOrder}
 use Rattle.gx_ouch.specs.declared.inbound.EnterOrder.{EnterOrder}
 use Rattle.gx_ouch.specs.declared.inbound.ReplaceOrder.{ReplaceOrder}
+use Rattle.gx_desk.specs.declared.Action.{Action}
+use Rattle.gx_policy.specs.declared.policy.PolicyData.{PolicyData}
+use Rattle.gx_policy.specs.Lists.{where_true}
 use Rattle.gx_policy.specs.People.{account_of}
+use Rattle.gx_history.specs.declared.live_order.LiveOrder.{LiveOrder}
+use Rattle.gx_history.specs.declared.record.Asked.{Asked}
 use Rattle.gx_history.specs.declared.record.Fill.{Fill}
+use Rattle.gx_history.specs.declared.record.RecordData.{RecordData}
+use Rattle.gx_history.specs.declared.record.Request.{Request}
 use Rattle.gx_history.specs.declared.record.Request.TheVariants as requests
+use Rattle.gx_history.specs.declared.record.Step.{Step}
+use Rattle.gx_history.specs.declared.record.Step.TheVariants as steps
 use Rattle.gx_history.specs.declared.record.Verdict.{Verdict}
 use Rattle.gx_history.specs.declared.record.Verdict.TheVariants as verdicts
-use Rattle.gx_history.specs.Executions.{Standing, is_live, live_orders, open_shares, standing, standing_under, standings}
-use Rattle.gx_history.specs.LiveOrders.{kept, replacement_order}
-use Rattle.gx_history.specs.Orders.{entered, replacing}
-use Rattle.gx_history.specs.Requests.{granted}
+use Rattle.gx_history.specs.Book.{rested, rested_of}
+use Rattle.gx_history.specs.Executions.{Execution, done, executions, sides}
+use Rattle.gx_history.specs.Live.{has_come, live, open_now, open_order, open_with}
+use Rattle.gx_history.specs.LiveOrders.{replacement_order}
+use Rattle.gx_history.specs.Orders.{Order, ends, ends_account, is_dead, orders, orders_added, size_set, total, entered, replacing}
+use Rattle.gx_history.specs.Requests.{is_judged, granted}
+use Rattle.gx_history.specs.Turns.{Turn, Keeps, Adds, Sizes, Replaces, EndsAll, Fills, Rests, Ends, becomes, new_in, new_order, turned, while_open}
+use Rattle.gx_history.specs.Verdicts.{IsLegal, next}
+use Rattle.gx_history.specs.World as moves
+use Rattle.gx_history.specs.World.{LiveGoesOn, move_asked, turn_by, turn_in, world}
+use Rattle.gx_history_laws.proofs.Ends.{sooner}
+use Rattle.gx_history_laws.proofs.Entering.{HasAccount, entered_has_account, entered_has_shares}
+use Rattle.gx_history_laws.proofs.Granting.{asked_is_judged}
+use Rattle.gx_history_laws.proofs.Keeping.{AddsNothing, EndsNone}
+use Rattle.gx_history_laws.proofs.NextOrders.{done_none, open_next, orders_next}
+use Rattle.gx_history_laws.proofs.Numbers.{all_weaker, number_left}
 use Rattle.gx_history_laws.proofs.Pushing.{list_any_next}
-use Rattle.gx_history.specs.Turns.{new_order}
-use Rattle.gx_effects.proofs.Cutting.{size_of}
-use Rattle.gx_effects.proofs.Entered.{all_before_it, not_among, rested_are_within}
+use Rattle.gx_history_laws.proofs.Runs.{step_left}
+use Rattle.gx_effects.proofs.Among.{all_and}
+use Rattle.gx_effects.proofs.Commanding.{GrantsCommand, grants_the_command, command_adds_nothing, ends_by_command}
+use Rattle.gx_effects.proofs.Denials.{IsDenial, denial_adds_nothing, denial_ends_none}
+use Rattle.gx_effects.proofs.Entered.{all_before_it, not_among}
 use Rattle.gx_effects.proofs.Fills.{IsFill, is_fill, done_by_fill, sides_are}
-use Rattle.gx_effects.proofs.NamedOrders.{IsOpen, Names, live_is_open, names_live}
+use Rattle.gx_effects.proofs.Matches.{may_match}
+use Rattle.gx_effects.proofs.NamedOrders.{IsEarlier, Names, all_earlier, names_live}
 use Rattle.gx_effects.proofs.Naming.{FindsOne, IsToldApart, finds_one, is_under_swapped}
 use Rattle.gx_effects.proofs.NewOrders.{new_has_full_size, new_has_no_fills, new_is_not_dead}
-use Rattle.gx_effects.proofs.NotLive.{all_and}
+use Rattle.gx_effects.proofs.OrderRequests.{Grants, IsQuiet, it_grants, quiet_adds_nothing, quiet_ends_none, adds_by, ends_by, fills_none, size_by, login_is_quiet, logout_is_quiet}
 use Rattle.gx_effects.proofs.Orderly.{HasGone, IsOrderly, legal_is_orderly}
-use Rattle.gx_effects.proofs.OrderRequests.{Grants, IsQuiet, it_grants, quiet_adds_nothing, quiet_ends_none, adds_by, ends_by, fills_none, size_by}
-use Rattle.gx_effects.proofs.Replacing.{more_than_done, done_before, ends_not_itself, made, sizes_not_itself}
+use Rattle.gx_effects.proofs.Replacing.{done_before, ends_not_itself, made, more_than_done, size_of, sizes_not_itself}
 use Rattle.gx_effects.proofs.Ungranted.{match_grants_nothing, and_never, ends_by_verdict, no_size, none_added}
-use Rattle.gx_effects.proofs.Commanding.{GrantsCommand, grants_the_command, command_adds_nothing, ends_by_command}
-use Rattle.gx_effects.proofs.NamedOrders.{IsEarlier, all_earlier}
-use Rattle.gx_history_laws.proofs.NextOrders.{done_next, done_none, is_dead_next, orders_next, rested_next, total_next}
-use Rattle.gx_history.specs.Turns.{live_under, turn_asked, turn_by, Turn, Keeps, Adds, Sizes, Replaces, EndsAll, Fills, Rests, Ends, LiveGoesOn, becomes, has_come, live, new_in, open_now, open_order, open_with, turned, while_open}
 
 -- where each becomes so, all do
 pub each_turned : {X Y : Type 0} (before after : X → Option Y) (f : Y → Option Y) (xs : List X) → AllByRecursion (λ (x : X). after x ≡ option_and_then f (before x)) xs
@@ -72,18 +67,6 @@ each_turned {X} {Y} before after f (x ∷ xs) h =
     at : (found : Option Y) → cons_option (option_and_then f found) (filter_map f (filter_map before xs)) ≡ filter_map f (cons_option found (filter_map before xs))
     at None = refl
     at (Some y) = refl
-
--- an order after one more record, by what the record says of it
-open_next : (policy : PolicyData) (history : List RecordData) (r : RecordData) (o : Order) (e : Bool) (z : Option ℕ) (k : ℕ) → ends o r ≡ e → size_set o r ≡ z → done (sides policy history r.verdict) o ≡ k
-    → open_now (executions policy (history ++ r ∷ [])) (history ++ r ∷ []) o
-    ≡ open_with o (is_dead history o || e) (unwrap_or z (total history o)) (done (executions policy history) o + k) (not (has_come (rested history ++ option_to_list (rested_of r.verdict)) o.number))
-open_next policy history r o e z k ends_so sizes_so fills_so =
-    let now : List RecordData = history ++ r ∷ [] in
-    let gone : done (executions policy now) o ≡ done (executions policy history) o + k = done_next policy history r o ∙ ap (λ (n : ℕ). done (executions policy history) o + n) fills_so in
-    ap (λ (b : Bool). open_with o b (total now o) (done (executions policy now) o) (not (has_come (rested now) o.number))) (is_dead_next history r o ∙ ap (λ (b : Bool). is_dead history o || b) ends_so)
-    ∙ ap (λ (n : ℕ). open_with o (is_dead history o || e) n (done (executions policy now) o) (not (has_come (rested now) o.number))) (total_next history r o ∙ ap (λ (m : Option ℕ). unwrap_or m (total history o)) sizes_so)
-    ∙ ap (λ (n : ℕ). open_with o (is_dead history o || e) (unwrap_or z (total history o)) n (not (has_come (rested now) o.number))) gone
-    ∙ ap (λ (ns : List ℕ). open_with o (is_dead history o || e) (unwrap_or z (total history o)) (done (executions policy history) o + k) (not (has_come ns o.number))) (rested_next history r)
 
 -- what is done with an order that is found
 then_so : (b : Bool) (x : LiveOrder) (f : LiveOrder → Option LiveOrder) → cond b (f x) None ≡ option_and_then f (cond b (Some x) None)
@@ -230,33 +213,28 @@ quiet : (policy : PolicyData) (history : List RecordData) (a : Asked) (r : Recor
 quiet policy history a r q g none = live_stays policy history r (quiet_adds_nothing policy history r a q g none) (quiet_ends_none r a q g none)
 
 -- what becomes of an order that is known under a token, and told apart from all others
-sized_by : (policy : PolicyData) (history : List RecordData) (r : RecordData) (a : Asked) (m : CancelOrder) (s : Standing) → IsLegal policy history → r.number ≡ length history + 1 → Grants r a (requests.Cancel m)
-    → FindsOne policy history a.user m.token s → IsOpen policy history s → live policy (history ++ r ∷ []) ≡ turned (Sizes s.order.number m.shares) (live policy history)
-sized_by policy history r a m s legal place g one opens =
-    live_by policy history r (Sizes s.order.number m.shares)
-    (all_weaker (λ (o : Order). IsEarlier r o × IsToldApart a.user m.token s.order o) _ (λ (o : Order) h. each o h.0 h.1) (orders policy history)
-    (all_and (IsEarlier r) (IsToldApart a.user m.token s.order) (orders policy history) (all_earlier policy history r legal place) one.alone))
+sized_by : (policy : PolicyData) (history : List RecordData) (r : RecordData) (a : Asked) (m : CancelOrder) (s : LiveOrder) → IsLegal policy history → r.number ≡ length history + 1 → Grants r a (requests.Cancel m)
+    → (one : FindsOne policy history a.user m.token s) → live policy (history ++ r ∷ []) ≡ turned (Sizes one.known.order.number m.shares) (live policy history)
+sized_by policy history r a m s legal place g one =
+    live_by policy history r (Sizes one.known.order.number m.shares)
+    (all_weaker (λ (o : Order). IsEarlier r o × IsToldApart a.user m.token one.known.order o) _ (λ (o : Order) h. each o h.0 h.1) (orders policy history)
+    (all_and (IsEarlier r) (IsToldApart a.user m.token one.known.order) (orders policy history) (all_earlier policy history r legal place) one.alone))
     (ap (filter_map (open_now (executions policy (history ++ r ∷ [])) (history ++ r ∷ []))) (adds_by policy (orders policy history) r a (requests.Cancel m) g))
   where
-    some_left : (all gone left : ℕ) → left ≡ all - gone → 0 < left → gone < all
-    some_left all gone left e h = omega arith
+    itself : (not (is_dead history one.known.order) && nat_lt (done (executions policy history) one.known.order) (total history one.known.order)) ≡ true
+    itself = ap (λ (b : Bool). not b && nat_lt (done (executions policy history) one.known.order) (total history one.known.order)) one.known.is_not_dead ∙ one.known.has_some
 
-    itself : (not (is_dead history s.order) && nat_lt (done (executions policy history) s.order) (total history s.order)) ≡ true
-    itself =
-        ap (λ (b : Bool). not b && nat_lt (done (executions policy history) s.order) (total history s.order)) opens.is_not_dead
-        ∙ lt-ltb (done (executions policy history) s.order) (total history s.order) (some_left (total history s.order) (done (executions policy history) s.order) s.open_shares opens.is_rest opens.is_some)
-
-    each : (o : Order) → IsEarlier r o → IsToldApart a.user m.token s.order o
-        → open_now (executions policy (history ++ r ∷ [])) (history ++ r ∷ []) o ≡ option_and_then (becomes (Sizes s.order.number m.shares)) (open_now (executions policy history) history o)
+    each : (o : Order) → IsEarlier r o → IsToldApart a.user m.token one.known.order o
+        → open_now (executions policy (history ++ r ∷ [])) (history ++ r ∷ []) o ≡ option_and_then (becomes (Sizes one.known.order.number m.shares)) (open_now (executions policy history) history o)
     each o early apart =
         let before : nat_lt o.number r.number ≡ true = lt-ltb o.number r.number early in
-        open_next policy history r o false (where_true (o.number == s.order.number) m.shares) 0 (ends_by r a (requests.Cancel m) o g before) (size_of r a m s.order o g before apart)
+        open_next policy history r o false (where_true (o.number == one.known.order.number) m.shares) 0 (ends_by r a (requests.Cancel m) o g before) (size_of r a m one.known.order o g before apart)
         (ap (λ (es : List Execution). done es o) (fills_none policy history r a (requests.Cancel m) g) ∙ done_none o)
-        ∙ ap (λ (b : Bool). open_with o (is_dead history o || false) (unwrap_or (where_true (o.number == s.order.number) m.shares) (total history o)) (done (executions policy history) o + 0) (not b)) (no_rest (rested history) r.verdict o.number (ap rested_of g.grants))
-        ∙ sizes_so o (is_dead history o) (total history o) (done (executions policy history) o) (not (has_come (rested history) o.number)) (o.number == s.order.number) m.shares
+        ∙ ap (λ (b : Bool). open_with o (is_dead history o || false) (unwrap_or (where_true (o.number == one.known.order.number) m.shares) (total history o)) (done (executions policy history) o + 0) (not b)) (no_rest (rested history) r.verdict o.number (ap rested_of g.grants))
+        ∙ sizes_so o (is_dead history o) (total history o) (done (executions policy history) o) (not (has_come (rested history) o.number)) (o.number == one.known.order.number) m.shares
         (λ same. ap (λ (x : Order). not (is_dead history x) && nat_lt (done (executions policy history) x) (total history x)) (apart.is_it same) ∙ itself)
         ∙ on_it o (is_dead history o) (total history o) (done (executions policy history) o) (not (has_come (rested history) o.number))
-        (λ (x : LiveOrder). cond (o.number == s.order.number) (while_open (record x { total = m.shares })) (Some x)) (becomes (Sizes s.order.number m.shares)) refl
+        (λ (x : LiveOrder). cond (o.number == one.known.order.number) (while_open (record x { total = m.shares })) (Some x)) (becomes (Sizes one.known.order.number m.shares)) refl
 
 -- an order of its number alone, which has as much open as it asks for
 new_comes : (policy : PolicyData) (history : List RecordData) (r : RecordData) (o : Order) (gone : ℕ) → IsLegal policy history → r.number ≡ length history + 1 → o.number ≡ r.number → sides policy history r.verdict ≡ []
@@ -271,31 +249,34 @@ new_comes policy history r o gone legal place same fills rests so_far some =
     ∙ ap (λ (n : ℕ). open_with o false n (done (executions policy history) o + 0) (not (has_come (rested history ++ option_to_list (rested_of r.verdict)) o.number))) (new_has_full_size history o before)
     ∙ ap (λ (n : ℕ). open_with o false o.terms.shares (n + 0) (not (has_come (rested history ++ option_to_list (rested_of r.verdict)) o.number))) so_far
     ∙ ap (λ (n : ℕ). open_with o false o.terms.shares n (not (has_come (rested history ++ option_to_list (rested_of r.verdict)) o.number))) none
-    ∙ ap (λ (b : Bool). open_with o false o.terms.shares gone (not b)) (no_rest (rested history) r.verdict o.number rests ∙ not_among (length history) o.number (rested history) late (rested_are_within policy history legal))
+    ∙ ap (λ (b : Bool). open_with o false o.terms.shares gone (not b)) (no_rest (rested history) r.verdict o.number rests ∙ not_among (length history) o.number (rested history) late (legal_is_orderly policy history legal).rested_within)
     ∙ ap (λ (b : Bool). cond b (Some (open_order o o.terms.shares gone true)) None) (lt-ltb gone o.terms.shares some)
 
 -- a Replace
-replaced_by : (policy : PolicyData) (history : List RecordData) (r : RecordData) (a : Asked) (m : ReplaceOrder) (s : Standing) → IsLegal policy history → r.number ≡ length history + 1 → Grants r a (requests.Replace m)
-    → FindsOne policy history a.user m.existing_token s → done (executions policy history) s.order < m.shares
-    → live policy (history ++ r ∷ []) ≡ turned (Replaces s.order.number (replacement_order r m (kept policy history s))) (live policy history)
+abbrev as_open : PolicyData → List RecordData → Order → LiveOrder
+as_open policy history o = open_order o (total history o) (done (executions policy history) o) (not (has_come (rested history) o.number))
+
+replaced_by : (policy : PolicyData) (history : List RecordData) (r : RecordData) (a : Asked) (m : ReplaceOrder) (s : LiveOrder) → IsLegal policy history → r.number ≡ length history + 1 → Grants r a (requests.Replace m)
+    → (one : FindsOne policy history a.user m.existing_token s) → done (executions policy history) one.known.order < m.shares
+    → live policy (history ++ r ∷ []) ≡ turned (Replaces one.known.order.number (replacement_order r m (as_open policy history one.known.order))) (live policy history)
 replaced_by policy history r a m s legal place g one some =
-    live_by policy history r (Replaces s.order.number (replacement_order r m (kept policy history s)))
-    (all_weaker (λ (o : Order). IsEarlier r o × IsToldApart a.user m.existing_token s.order o) _ (λ (o : Order) h. each o h.0 h.1) (orders policy history)
-    (all_and (IsEarlier r) (IsToldApart a.user m.existing_token s.order) (orders policy history) (all_earlier policy history r legal place) one.alone))
+    live_by policy history r (Replaces one.known.order.number (replacement_order r m (as_open policy history one.known.order)))
+    (all_weaker (λ (o : Order). IsEarlier r o × IsToldApart a.user m.existing_token one.known.order o) _ (λ (o : Order) h. each o h.0 h.1) (orders policy history)
+    (all_and (IsEarlier r) (IsToldApart a.user m.existing_token one.known.order) (orders policy history) (all_earlier policy history r legal place) one.alone))
     (ap (filter_map after) (adds_by policy (orders policy history) r a (requests.Replace m) g ∙ made policy history r a m s one)
-    ∙ ap (λ (found : Option LiveOrder). cons_option found []) (new_comes policy history r (replacing r m s.order) (done (executions policy history) s.order) legal place refl (fills_none policy history r a (requests.Replace m) g) (ap rested_of g.grants) (done_before policy history r m s.order legal place) some))
+    ∙ ap (λ (found : Option LiveOrder). cons_option found []) (new_comes policy history r (replacing r m one.known.order) (done (executions policy history) one.known.order) legal place refl (fills_none policy history r a (requests.Replace m) g) (ap rested_of g.grants) (done_before policy history r m one.known.order legal place) some))
   where
     after : Order → Option LiveOrder
     after = open_now (executions policy (history ++ r ∷ [])) (history ++ r ∷ [])
 
-    each : (o : Order) → IsEarlier r o → IsToldApart a.user m.existing_token s.order o
-        → open_now (executions policy (history ++ r ∷ [])) (history ++ r ∷ []) o ≡ option_and_then (becomes (Replaces s.order.number (replacement_order r m (kept policy history s)))) (open_now (executions policy history) history o)
+    each : (o : Order) → IsEarlier r o → IsToldApart a.user m.existing_token one.known.order o
+        → open_now (executions policy (history ++ r ∷ [])) (history ++ r ∷ []) o ≡ option_and_then (becomes (Replaces one.known.order.number (replacement_order r m (as_open policy history one.known.order)))) (open_now (executions policy history) history o)
     each o early apart =
         let before : nat_lt o.number r.number ≡ true = lt-ltb o.number r.number early in
-        ends_those policy history r o (o.number == s.order.number) (size_by r a (requests.Replace m) o g before) (fills_none policy history r a (requests.Replace m) g) (ap rested_of g.grants)
+        ends_those policy history r o (o.number == one.known.order.number) (size_by r a (requests.Replace m) o g before) (fills_none policy history r a (requests.Replace m) g) (ap rested_of g.grants)
         (ends_by r a (requests.Replace m) o g before ∙ is_under_swapped a.user m.existing_token o ∙ apart.by_number)
         ∙ on_it o (is_dead history o) (total history o) (done (executions policy history) o) (not (has_come (rested history) o.number))
-        (λ (x : LiveOrder). cond (o.number == s.order.number) None (Some x)) (becomes (Replaces s.order.number (replacement_order r m (kept policy history s)))) refl
+        (λ (x : LiveOrder). cond (o.number == one.known.order.number) None (Some x)) (becomes (Replaces one.known.order.number (replacement_order r m (as_open policy history one.known.order)))) refl
 
 -- an Enter
 entered_by : (policy : PolicyData) (history : List RecordData) (r : RecordData) (a : Asked) (m : EnterOrder) (account : AccountName) → IsLegal policy history → r.number ≡ length history + 1 → Grants r a (requests.Enter m)
@@ -349,10 +330,10 @@ rested_by policy history r number none rests =
         (λ (x : LiveOrder). Some (cond (number == o.number) (record x { waits = false }) x)) (becomes (Rests number)) refl
 
 -- an order ends
-ended_by : (policy : PolicyData) (history : List RecordData) (r : RecordData) (number : ℕ) → IsLegal policy history → r.number ≡ length history + 1 → granted r ≡ None → r.verdict ≡ verdicts.Expired number
+ended_by : (policy : PolicyData) (history : List RecordData) (r : RecordData) (number : ℕ) → AllByRecursion (IsEarlier r) (orders policy history) → granted r ≡ None → r.verdict ≡ verdicts.Expired number
     → live policy (history ++ r ∷ []) ≡ turned (Ends number) (live policy history)
-ended_by policy history r number legal place none stops =
-    live_by policy history r (Ends number) (all_weaker (IsEarlier r) _ (λ (o : Order) early. each o early) (orders policy history) (all_earlier policy history r legal place))
+ended_by policy history r number earlier none stops =
+    live_by policy history r (Ends number) (all_weaker (IsEarlier r) _ (λ (o : Order) early. each o early) (orders policy history) earlier)
     (ap (filter_map (open_now (executions policy (history ++ r ∷ [])) (history ++ r ∷ []))) (none_added policy history r none))
   where
     each : (o : Order) → IsEarlier r o → open_now (executions policy (history ++ r ∷ [])) (history ++ r ∷ []) o ≡ option_and_then (becomes (Ends number)) (open_now (executions policy history) history o)
@@ -362,87 +343,36 @@ ended_by policy history r number legal place none stops =
         ∙ on_it o (is_dead history o) (total history o) (done (executions policy history) o) (not (has_come (rested history) o.number))
         (λ (x : LiveOrder). cond (number == o.number) None (Some x)) (becomes (Ends number)) refl
 
--- the live orders are what is kept of those with open shares (for as long as there are two words)
-has_some : (dead : Bool) (size gone : ℕ) → nat_lt 0 (cond dead 0 (size - gone)) ≡ (not dead && nat_lt gone size)
-has_some true size gone = refl
-has_some false size gone = by (nat_lt gone size) refl
-  where
-    by : (b : Bool) → nat_lt gone size ≡ b → nat_lt 0 (size - gone) ≡ nat_lt gone size
-    by true h = let some : gone < size = ltb-true gone size h in lt-ltb 0 (size - gone) (omega arith) ∙ sym h
-    by false h = let none : size ≤ gone = ltb-false gone size h in le-ltb 0 (size - gone) (omega arith) ∙ sym h
-
-kept_of : (policy : PolicyData) (history : List RecordData) (os : List Order)
-    → filter_map (open_now (executions policy history) history) os ≡ map (kept policy history) (filter is_live (map (standing (executions policy history) history) os))
-unfolding open_shares
-kept_of policy history [] = refl
-kept_of policy history (o ∷ os) =
-    ap (cons_option (open_now (executions policy history) history o)) (kept_of policy history os)
-    ∙ ap (λ (b : Bool). cons_option (cond b (Some x) None) (map (kept policy history) rest)) (sym (has_some (is_dead history o) (total history o) (done (executions policy history) o)))
-    ∙ at (is_live (standing (executions policy history) history o))
-  where
-    x : LiveOrder
-    x = open_order o (total history o) (done (executions policy history) o) (not (has_come (rested history) o.number))
-
-    rest : List Standing
-    rest = filter is_live (map (standing (executions policy history) history) os)
-
-    at : (b : Bool) → cons_option (cond b (Some x) None) (map (kept policy history) rest) ≡ map (kept policy history) (cond b (standing (executions policy history) history o ∷ rest) rest)
-    at true = refl
-    at false = refl
-
-pub live_is_kept : (policy : PolicyData) (history : List RecordData) → live policy history ≡ map (kept policy history) (live_orders policy history)
-unfolding live live_orders standings
-live_is_kept policy history = kept_of policy history (orders policy history)
-
-pub filter_kept : {X Y : Type 0} (p : Y → Bool) (f : X → Y) (xs : List X) → filter p (map f xs) ≡ map f (filter (λ x. p (f x)) xs)
-filter_kept p f [] = refl
-filter_kept p f (x ∷ xs) =
-    ap (λ ys. cond (p (f x)) (f x ∷ ys) ys) (filter_kept p f xs)
-    ∙ elim (p (f x)) as (λ b. cond b (f x ∷ map f (filter (λ y. p (f y)) xs)) (map f (filter (λ y. p (f y)) xs)) ≡ map f (cond b (x ∷ filter (λ y. p (f y)) xs) (filter (λ y. p (f y)) xs)))
-    [ true ↦ refl | false ↦ refl ]
-
-pub last_kept : {X Y : Type 0} (f : X → Y) (xs : List X) (o : Option X) → last_or (option_map f o) (map f xs) ≡ option_map f (last_or o xs)
-last_kept f [] o = refl
-last_kept f (x ∷ xs) o = last_kept f xs (Some x)
-
--- so the live order under a token is found in both
-pub under_is : (policy : PolicyData) (history : List RecordData) (user : UserName) (token : Token) (s : Standing) → standing_under (live_orders policy history) user token ≡ Some s
-    → live_under (live policy history) user token ≡ Some (kept policy history s)
-under_is policy history user token s found =
-    ap (λ (os : List LiveOrder). live_under os user token) (live_is_kept policy history)
-    ∙ ap (last_or None) (filter_kept (is_under user token) (kept policy history) (live_orders policy history))
-    ∙ last_kept (kept policy history) (filter (λ (x : Standing). same_user x.order.user user && same_token x.order.token token) (live_orders policy history)) None
-    ∙ ap (option_map (kept policy history)) found
-
 -- a granted request
 by_grant : (policy : PolicyData) (history : List RecordData) (a : Asked) (r : RecordData) → IsLegal policy history → next policy history (steps.Asked a) ≡ Some r → r.verdict ≡ verdicts.Granted
-    → (q : Request) → a.request ≡ q → live policy (history ++ r ∷ []) ≡ turned (turn_asked policy (live policy history) r a.user q) (live policy history)
-by_grant policy history a r legal left granted (requests.Login m) asks = quiet policy history a r (requests.Login m) (it_grants policy history a r (requests.Login m) left asks granted)
-    (record { makes_none = λ policy known r user. refl; sizes_none = λ o user. refl; ends_none = λ o user. refl })
-by_grant policy history a r legal left granted requests.Logout asks = quiet policy history a r requests.Logout (it_grants policy history a r requests.Logout left asks granted)
-    (record { makes_none = λ policy known r user. refl; sizes_none = λ o user. refl; ends_none = λ o user. refl })
+    → (q : Request) → a.request ≡ q → live policy (history ++ r ∷ []) ≡ turned (turn_in (move_asked policy (world policy history) r a q)) (live policy history)
+by_grant policy history a r legal left granted (requests.Login m) asks = quiet policy history a r (requests.Login m) (it_grants policy history a r (requests.Login m) left asks granted) (login_is_quiet m)
+by_grant policy history a r legal left granted requests.Logout asks = quiet policy history a r requests.Logout (it_grants policy history a r requests.Logout left asks granted) logout_is_quiet
 by_grant policy history a r legal left granted (requests.Unreadable m) asks = quiet policy history a r (requests.Unreadable m) (it_grants policy history a r (requests.Unreadable m) left asks granted)
     (record { makes_none = λ policy known r user. refl; sizes_none = λ o user. refl; ends_none = λ o user. refl })
 by_grant policy history a r legal left granted (requests.Enter m) asks =
     let his : HasAccount _ = entered_has_account policy history a r m left granted asks in
     entered_by policy history r a m his.0 legal (number_left policy history (steps.Asked a) r left) (it_grants policy history a r (requests.Enter m) left asks granted) his.1
     (ltb-true 0 m.shares (entered_has_shares policy history a r m left granted asks))
-    ∙ ap (λ (found : Option AccountName). turned (option_map_or (λ (account : AccountName). Adds (new_order policy r a.user account m)) found Keeps) (live policy history)) (sym his.1)
+    ∙ ap (λ (found : Option AccountName). turned (turn_in (option_map_or (λ (account : AccountName). moves.Adds (new_order policy r a.user account m)) found moves.Nothing)) (live policy history)) (sym his.1)
 by_grant policy history a r legal left granted (requests.Replace m) asks =
     let named : Names policy history a.user m.existing_token = names_live policy history a r (requests.Replace m) m.existing_token left granted asks refl refl in
-    replaced_by policy history r a m named.0 legal (number_left policy history (steps.Asked a) r left) (it_grants policy history a r (requests.Replace m) left asks granted)
-    (finds_one policy history a.user m.existing_token named.0 legal named.1) (more_than_done policy history a r m named.0 left granted asks named.1)
-    ∙ ap (λ (found : Option LiveOrder). turned (option_map_or (λ (old : LiveOrder). Replaces old.number (replacement_order r m old)) found Keeps) (live policy history)) (sym (under_is policy history a.user m.existing_token named.0 named.1))
+    let one : FindsOne policy history a.user m.existing_token named.0 = finds_one policy history a.user m.existing_token named.0 legal named.1 in
+    replaced_by policy history r a m named.0 legal (number_left policy history (steps.Asked a) r left) (it_grants policy history a r (requests.Replace m) left asks granted) one
+    (subst (λ (o : LiveOrder). o.done < m.shares) (sym one.known.is_it) (more_than_done policy history a r m named.0 left granted asks named.1))
+    ∙ ap (λ (o : LiveOrder). turned (Replaces o.number (replacement_order r m o)) (live policy history)) one.known.is_it
+    ∙ ap (λ (found : Option LiveOrder). turned (turn_in (option_map_or (λ (old : LiveOrder). moves.Replaces old (replacement_order r m old)) found moves.Nothing)) (live policy history)) (sym named.1)
 by_grant policy history a r legal left granted (requests.Cancel m) asks =
     let named : Names policy history a.user m.token = names_live policy history a r (requests.Cancel m) m.token left granted asks refl refl in
     let one : FindsOne policy history a.user m.token named.0 = finds_one policy history a.user m.token named.0 legal named.1 in
-    sized_by policy history r a m named.0 legal (number_left policy history (steps.Asked a) r left) (it_grants policy history a r (requests.Cancel m) left asks granted) one (live_is_open policy history named.0 one.stands one.lives)
-    ∙ ap (λ (found : Option LiveOrder). turned (option_map_or (λ (cut : LiveOrder). Sizes cut.number m.shares) found Keeps) (live policy history)) (sym (under_is policy history a.user m.token named.0 named.1))
+    sized_by policy history r a m named.0 legal (number_left policy history (steps.Asked a) r left) (it_grants policy history a r (requests.Cancel m) left asks granted) one
+    ∙ ap (λ (o : LiveOrder). turned (Sizes o.number m.shares) (live policy history)) one.known.is_it
+    ∙ ap (λ (found : Option LiveOrder). turned (turn_in (option_map_or (λ (cut : LiveOrder). moves.Sizes cut m.shares) found moves.Nothing)) (live policy history)) (sym named.1)
 by_grant policy history a r legal left granted (requests.Command c) asks =
     live_commanded policy history r a c.action legal (number_left policy history (steps.Asked a) r left) (grants_the_command policy history a r c c.action left asks refl granted)
 
 by_asked : (policy : PolicyData) (history : List RecordData) (a : Asked) (r : RecordData) → IsLegal policy history → next policy history (steps.Asked a) ≡ Some r
-    → (v : Verdict) → r.verdict ≡ v → live policy (history ++ r ∷ []) ≡ turned (turn_by policy (live policy history) r v (steps.Asked a)) (live policy history)
+    → (v : Verdict) → r.verdict ≡ v → live policy (history ++ r ∷ []) ≡ turned (turn_by policy (world policy history) r v (steps.Asked a)) (live policy history)
 by_asked policy history a r legal left verdicts.Granted e = by_grant policy history a r legal left e a.request refl
 by_asked policy history a r legal left (verdicts.Denied rule) e =
     let d : IsDenial r = record { rule = rule; verdict = e } in live_stays policy history r (denial_adds_nothing policy history r d) (denial_ends_none r d)
@@ -450,39 +380,20 @@ by_asked policy history a r legal left (verdicts.Filled f) e = let judged : fals
 by_asked policy history a r legal left (verdicts.Rested number) e = let judged : false ≡ true = ap is_judged (sym e) ∙ asked_is_judged policy history a r left in cc
 by_asked policy history a r legal left (verdicts.Expired number) e = let judged : false ≡ true = ap is_judged (sym e) ∙ asked_is_judged policy history a r left in cc
 
-by_match : (policy : PolicyData) (history : List RecordData) (handed : ℕ) (r : RecordData) → IsLegal policy history → next policy history (steps.Matching handed) ≡ Some r
-    → (v : Verdict) → r.verdict ≡ v → live policy (history ++ r ∷ []) ≡ turned (turn_by policy (live policy history) r v (steps.Matching handed)) (live policy history)
-by_match policy history handed r legal left verdicts.Granted e = let judged : true ≡ false = ap is_judged (sym e) ∙ not_judged policy history handed r left in cc
-by_match policy history handed r legal left (verdicts.Denied rule) e = let judged : true ≡ false = ap is_judged (sym e) ∙ not_judged policy history handed r left in cc
-by_match policy history handed r legal left (verdicts.Filled f) e =
-    let orderly : IsOrderly policy history = legal_is_orderly policy history legal in
+pub by_match : (policy : PolicyData) (history : List RecordData) (handed : ℕ) (r : RecordData) → IsOrderly policy history → next policy history (steps.Matching handed) ≡ Some r
+    → (v : Verdict) → r.verdict ≡ v → live policy (history ++ r ∷ []) ≡ turned (turn_by policy (world policy history) r v (steps.Matching handed)) (live policy history)
+by_match policy history handed r orderly left verdicts.Granted e = absurd (may_match policy history handed r verdicts.Granted left e)
+by_match policy history handed r orderly left (verdicts.Denied rule) e = absurd (may_match policy history handed r (verdicts.Denied rule) left e)
+by_match policy history handed r orderly left (verdicts.Filled f) e =
     filled_by policy history r f orderly (is_fill policy history handed r f orderly left e)
-by_match policy history handed r legal left (verdicts.Rested number) e = rested_by policy history r number (match_grants_nothing r handed (step_left policy history (steps.Matching handed) r left)) e
-by_match policy history handed r legal left (verdicts.Expired number) e =
-    ended_by policy history r number legal (number_left policy history (steps.Matching handed) r left) (match_grants_nothing r handed (step_left policy history (steps.Matching handed) r left)) e
+by_match policy history handed r orderly left (verdicts.Rested number) e = rested_by policy history r number (match_grants_nothing r handed (step_left policy history (steps.Matching handed) r left)) e
+by_match policy history handed r orderly left (verdicts.Expired number) e =
+    ended_by policy history r number (sooner (length history) r.number (number_left policy history (steps.Matching handed) r left) (orders policy history) orderly.within) (match_grants_nothing r handed (step_left policy history (steps.Matching handed) r left)) e
 
 pub live_next : LiveGoesOn
 live_next policy history (steps.Asked a) r legal left =
     by_asked policy history a r legal left r.verdict refl
-    ∙ ap (λ (s : Step). turned (turn_by policy (live policy history) r r.verdict s) (live policy history)) (sym (step_left policy history (steps.Asked a) r left))
+    ∙ ap (λ (s : Step). turned (turn_by policy (world policy history) r r.verdict s) (live policy history)) (sym (step_left policy history (steps.Asked a) r left))
 live_next policy history (steps.Matching handed) r legal left =
-    by_match policy history handed r legal left r.verdict refl
-    ∙ ap (λ (s : Step). turned (turn_by policy (live policy history) r r.verdict s) (live policy history)) (sym (step_left policy history (steps.Matching handed) r left))
-
--- each live order has shares open
-only_open : (made : List Execution) (history : List RecordData) (os : List Order) → AllByRecursion (λ (o : LiveOrder). nat_lt o.done o.total ≡ true) (filter_map (open_now made history) os)
-only_open made history [] = tt
-only_open made history (o ∷ os) = at (not (is_dead history o)) (nat_lt (done made o) (total history o)) refl (only_open made history os)
-  where
-    x : LiveOrder
-    x = open_order o (total history o) (done made o) (not (has_come (rested history) o.number))
-
-    at : (b c : Bool) → nat_lt (done made o) (total history o) ≡ c → AllByRecursion (λ (o : LiveOrder). nat_lt o.done o.total ≡ true) (filter_map (open_now made history) os)
-        → AllByRecursion (λ (o : LiveOrder). nat_lt o.done o.total ≡ true) (cons_option (cond (b && c) (Some x) None) (filter_map (open_now made history) os))
-    at true true e rest = (e, rest)
-    at true false e rest = rest
-    at false c e rest = rest
-
-pub live_are_open : (policy : PolicyData) (history : List RecordData) → AllByRecursion (λ (o : LiveOrder). nat_lt o.done o.total ≡ true) (live policy history)
-unfolding live
-live_are_open policy history = only_open (executions policy history) history (orders policy history)
+    by_match policy history handed r (legal_is_orderly policy history legal) left r.verdict refl
+    ∙ ap (λ (s : Step). turned (turn_by policy (world policy history) r r.verdict s) (live policy history)) (sym (step_left policy history (steps.Matching handed) r left))

@@ -2,13 +2,17 @@
 use Rattle.std.proofs.Common.{◌≡◌, Bool, true, false, not, List, [], ◌∷◌, ◌++◌, refl, cond, arith, fold}
 use Rattle.std.specs.List.{filter, AllByRecursion}
 use Rattle.std.proofs.lemmas.Bool.{le-ltb}
+use Rattle.gx_units.specs.declared.names.Symbol.{Symbol}
+use Rattle.gx_policy.specs.declared.policy.PolicyData.{PolicyData}
 use Rattle.gx_policy.specs.Lists.{placed, IsInOrder}
-use Rattle.gx_history.specs.Book.{is_ahead}
-use Rattle.gx_history.specs.Executions.{Standing}
+use Rattle.gx_history.specs.declared.live_order.LiveOrder.{LiveOrder}
+use Rattle.gx_history.specs.declared.record.RecordData.{RecordData}
+use Rattle.gx_history.specs.Live.{ahead, side, by_time}
 use Rattle.gx_history_laws.proofs.Adding.{all_pass}
 use Rattle.gx_history_laws.proofs.Numbers.{all_weaker}
 use Rattle.gx_history_laws.proofs.Owners.{all_both, filtered}
 use Rattle.gx_effects.proofs.Priority.{IsRanking}
+use Rattle.gx_effects.proofs.Sides.{prices_rank}
 
 -- y is no better than x
 abbrev pub IsNoBetter : {X : Type 0} → (X → X → Bool) → X → X → Type 0
@@ -62,9 +66,9 @@ ordered_by better ranks alone earlier [] h = h
 ordered_by better ranks alone earlier (x ∷ xs) h = ordered_by better ranks alone (placed better earlier x) xs (ordered_placed better ranks alone earlier x h)
 
 -- no price is better than itself
-pub not_ahead_of_itself : (buy : Bool) (s : Standing) → is_ahead buy s s ≡ false
-not_ahead_of_itself true s = le-ltb s.order.terms.price s.order.terms.price (omega arith)
-not_ahead_of_itself false s = le-ltb s.order.terms.price s.order.terms.price (omega arith)
+pub not_ahead_of_itself : (buy : Bool) (s : LiveOrder) → ahead buy s s ≡ false
+not_ahead_of_itself true s = le-ltb s.terms.price s.terms.price (omega arith)
+not_ahead_of_itself false s = le-ltb s.terms.price s.terms.price (omega arith)
 
 -- what holds of all that were placed holds of each
 unparted : {X : Type 0} (P : X → Type 0) (p : X → Bool) (xs : List X) → AllByRecursion P (filter (λ y. not (p y)) xs) → AllByRecursion P (filter p xs) → AllByRecursion P xs
@@ -101,3 +105,8 @@ all_unfiltered {X} P p (x ∷ xs) h = at (p x) refl h (all_unfiltered P p xs)
         → (p x ≡ true → P x) × AllByRecursion (λ (y : X). p y ≡ true → P y) xs
     at true e a deeper = (λ k. a.0, deeper a.1)
     at false e a deeper = (λ k. absurd (clash k e), deeper a)
+
+-- no order rests behind one with a worse price
+pub resting_ordered : (policy : PolicyData) (history : List RecordData) (stock : Symbol) (buy : Bool) → IsInOrder (ahead buy) (side policy history stock buy)
+unfolding side
+resting_ordered policy history stock buy = ordered_by (ahead buy) (prices_rank buy) (not_ahead_of_itself buy) [] (by_time policy history stock buy) tt

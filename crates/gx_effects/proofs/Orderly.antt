@@ -1,42 +1,46 @@
 -- What every run keeps of its orders: numbers that differ, replaced orders that have ended, and one rest an order.
-use Rattle.std.proofs.Common.{◌≡◌, ℕ, ◌+◌, ◌<◌, ◌≤◌, Bool, true, false, not, List, [], ◌∷◌, ◌++◌, refl, ◌∙◌, ap, sym, map, cond, length, arith, length-append, inl, inr, ◌⊎◌}
+use Rattle.std.proofs.Common.{◌≡◌, ℕ, ◌+◌, ◌<◌, ◌≤◌, Bool, true, false, not, List, [], ◌∷◌, ◌++◌, refl, ◌∙◌, ap, sym, cond, length, arith, length-append, inl, inr, ◌⊎◌}
 use Rattle.std.proofs.Math.Path.{subst}
 use Rattle.std.specs.Prelude.{Option, Some, None, find, option_to_list, ◌&&◌, ◌||◌, ◌==◌}
 use Rattle.std.specs.Option.{option_map_or}
-use Rattle.std.specs.List.{filter, list_any, AllByRecursion}
+use Rattle.std.specs.List.{list_any, AllByRecursion}
 use Rattle.std.proofs.lemmas.Bool.{lt-ltb, eq-eqb}
 use Rattle.std.proofs.lemmas.List.{append-nil}
-use Rattle.gx_units.specs.Names.{same_user, same_token}
 use Rattle.gx_units.specs.declared.names.AccountName.{AccountName}
-use Rattle.gx_units.specs.declared.names.UserName.{UserName}
 use Rattle.gx_units.specs.declared.names.Token.{Token}
+use Rattle.gx_units.specs.declared.names.UserName.{UserName}
+use Rattle.gx_units.specs.Names.{same_user, same_token}
 use Rattle.gx_ouch.specs.declared.inbound.EnterOrder.{EnterOrder}
 use Rattle.gx_ouch.specs.declared.inbound.ReplaceOrder.{ReplaceOrder}
 use Rattle.gx_policy.specs.declared.policy.PolicyData.{PolicyData}
+use Rattle.gx_policy.specs.People.{account_of}
+use Rattle.gx_history.specs.declared.live_order.LiveOrder.{LiveOrder}
 use Rattle.gx_history.specs.declared.record.Asked.{Asked}
+use Rattle.gx_history.specs.declared.record.RecordData.{RecordData}
 use Rattle.gx_history.specs.declared.record.Request.{Request}
 use Rattle.gx_history.specs.declared.record.Request.TheVariants as requests
-use Rattle.gx_history.specs.declared.record.RecordData.{RecordData}
 use Rattle.gx_history.specs.declared.record.Step.{Step}
 use Rattle.gx_history.specs.declared.record.Step.TheVariants as steps
 use Rattle.gx_history.specs.declared.record.Verdict.{Verdict}
 use Rattle.gx_history.specs.declared.record.Verdict.TheVariants as verdicts
-use Rattle.gx_history.specs.Book.{incoming, rested, rested_of, has_rested}
-use Rattle.gx_history.specs.Executions.{Standing, standing, standings, executions, is_live, live_orders}
-use Rattle.gx_history.specs.Orders.{Order, orders, orders_added, orders_made, order_under, order_numbered, entered, replacing, is_dead, ends, ends_by_request, expires}
-use Rattle.gx_policy.specs.People.{account_of}
+use Rattle.gx_history.specs.Book.{rested, rested_of}
+use Rattle.gx_history.specs.Executions.{done, executions}
+use Rattle.gx_history.specs.Live.{waiting, has_come, live, open_now}
+use Rattle.gx_history.specs.MayMove.{MayRest}
+use Rattle.gx_history.specs.Orders.{total, Order, orders, orders_added, orders_made, order_under, order_numbered, entered, replacing, is_dead, ends, ends_by_request, expires}
 use Rattle.gx_history.specs.Requests.{granted, is_judged}
 use Rattle.gx_history.specs.Verdicts.{next, IsLegal}
+use Rattle.gx_history.specs.World.{world}
 use Rattle.gx_history_laws.proofs.Adding.{user_is, token_is, user_is_itself, token_is_itself, found_passes, all_pass}
 use Rattle.gx_history_laws.proofs.Granting.{legal_keeps, asked_is_judged}
 use Rattle.gx_history_laws.proofs.Judging.{both}
 use Rattle.gx_history_laws.proofs.NextOrders.{orders_none, orders_next, is_dead_next, rested_next}
 use Rattle.gx_history_laws.proofs.Numbers.{all_weaker, number_left}
 use Rattle.gx_history_laws.proofs.Owners.{all_both, filtered, last_such_is}
+use Rattle.gx_effects.proofs.Among.{all_and}
 use Rattle.gx_effects.proofs.Apart.{AreApart, IsApartFrom, apart_next, apart_are_found}
-use Rattle.gx_effects.proofs.Entered.{all_mapped}
-use Rattle.gx_effects.proofs.Matches.{FirstThatWaits, first_that_waits, rest_is_of_first, verdict_of_match}
-use Rattle.gx_effects.proofs.NotLive.{all_and}
+use Rattle.gx_effects.proofs.Entered.{all_found_of, open_parts}
+use Rattle.gx_effects.proofs.Matches.{may_match}
 
 abbrev pub number_of : Order → ℕ
 number_of o = o.number
@@ -230,28 +234,24 @@ orders_after policy history r orderly place = by (what_it_adds policy history r 
         (all_both (HasGone policy now) (orders policy history) (one.order ∷ []) old_gone (one.has_gone, tt))
 
 -- those that wait have not come to rest, and have an order's number
-abbrev pub WaitsWithin : List RecordData → Standing → Type 0
-WaitsWithin history s = (has_rested history s ≡ false) × (s.order.number ≤ length history)
+abbrev pub WaitsWithin : List RecordData → LiveOrder → Type 0
+WaitsWithin history o = (has_come (rested history) o.number ≡ false) × (o.number ≤ length history)
 
 pub waiting_within : (policy : PolicyData) (history : List RecordData) → AllByRecursion (λ (o : Order). o.number ≤ length history) (orders policy history)
-    → AllByRecursion (WaitsWithin history) (incoming policy history)
-unfolding incoming live_orders standings
+    → AllByRecursion (WaitsWithin history) (waiting policy history)
+unfolding waiting live
 waiting_within policy history within =
-    let made : List Standing = map (standing (executions policy history) history) (orders policy history) in
-    let waits : Standing → Bool = λ (s : Standing). not (has_rested history s) in
-    all_weaker (λ (s : Standing). (waits s ≡ true) × (s.order.number ≤ length history)) (WaitsWithin history) (λ s h. (was_false (has_rested history s) h.0, h.1)) (incoming policy history)
-    (all_and (λ (s : Standing). waits s ≡ true) (λ (s : Standing). s.order.number ≤ length history) (incoming policy history)
-    (all_pass waits (live_orders policy history))
-    (twice made (all_mapped (λ (s : Standing). s.order.number ≤ length history) (standing (executions policy history) history) (orders policy history) within)))
+    all_weaker (λ (o : LiveOrder). (o.waits ≡ true) × ((o.number ≤ length history) × (o.waits ≡ not (has_come (rested history) o.number)))) (WaitsWithin history) (λ o h. (was_false (has_come (rested history) o.number) (sym h.1.1 ∙ h.0), h.1.0)) (waiting policy history)
+    (all_and (λ (o : LiveOrder). o.waits ≡ true) (λ (o : LiveOrder). (o.number ≤ length history) × (o.waits ≡ not (has_come (rested history) o.number))) (waiting policy history)
+    (all_pass (λ (o : LiveOrder). o.waits) (live policy history))
+    (filtered (λ (o : LiveOrder). (o.number ≤ length history) × (o.waits ≡ not (has_come (rested history) o.number))) (λ (o : LiveOrder). o.waits) (live policy history)
+    (all_found_of (λ (x : Order). x.number ≤ length history) (λ (o : LiveOrder). (o.number ≤ length history) × (o.waits ≡ not (has_come (rested history) o.number))) (open_now (executions policy history) history)
+    (λ x o small h. subst (λ (y : LiveOrder). (y.number ≤ length history) × (y.waits ≡ not (has_come (rested history) y.number)))
+    (open_parts x (is_dead history x) (total history x) (done (executions policy history) x) (not (has_come (rested history) x.number)) o h).2 (small, refl)) (orders policy history) within)))
   where
     was_false : (b : Bool) → not b ≡ true → b ≡ false
     was_false true h = cc
     was_false false h = refl
-
-    twice : (made : List Standing) → AllByRecursion (λ (s : Standing). s.order.number ≤ length history) made → AllByRecursion (λ (s : Standing). s.order.number ≤ length history) (filter (λ (s : Standing). not (has_rested history s)) (filter is_live made))
-    twice made h =
-        filtered (λ (s : Standing). s.order.number ≤ length history) (λ (s : Standing). not (has_rested history s)) (filter is_live made)
-        (filtered (λ (s : Standing). s.order.number ≤ length history) is_live made h)
 
 -- the order that comes to rest, if one does
 pub record NewRest (history : List RecordData) (number : ℕ) : Type 0 where
@@ -267,14 +267,11 @@ new_rest policy history r number orderly left rests = by_step r.step refl
         let not_judged : is_judged r.verdict ≡ false = ap is_judged rests in
         cc
     by_step (steps.Matching handed) asks =
-        let first : FirstThatWaits policy history (verdicts.Rested number) =
-        first_that_waits policy history (verdicts.Rested number)
-        (verdict_of_match policy history handed r (ap (next policy history) (sym asks) ∙ left) ∙ ap (λ (v : Verdict). Some v) rests) in
-        let his : WaitsWithin history first.first = (subst (AllByRecursion (WaitsWithin history)) first.comes_first (waiting_within policy history orderly.within)).0 in
-        let same : number ≡ first.first.order.number = rest_is_of_first first.first _ number first.becomes in
+        let may : MayRest (world policy history) r number = may_match policy history handed r (verdicts.Rested number) (ap (next policy history) (sym asks) ∙ left) rests in
+        let his : WaitsWithin history may.first = (subst (AllByRecursion (WaitsWithin history)) may.comes_first (waiting_within policy history orderly.within)).0 in
         record {
-          has_not = ap (λ (k : ℕ). list_any (λ n. n == k) (rested history)) same ∙ his.0;
-          within = subst (λ (k : ℕ). k ≤ length history) (sym same) his.1;
+          has_not = ap (λ (k : ℕ). list_any (λ n. n == k) (rested history)) may.has_number ∙ his.0;
+          within = subst (λ (k : ℕ). k ≤ length history) (sym may.has_number) his.1;
         }
 
 -- the rests after the record: of earlier orders, and apart

@@ -1,14 +1,11 @@
 -- What a filter leaves of a list in the order of prices is the order of what the filter leaves.
 use Rattle.std.proofs.Common.{◌≡◌, ℕ, ◌<◌, ◌≤◌, Bool, true, false, not, List, [], ◌∷◌, ◌++◌, refl, ◌∙◌, ap, sym, cond, arith, append_assoc, fold}
 use Rattle.std.specs.Prelude.{nat_lt}
-use Rattle.std.specs.List.{filter, AllByRecursion}
+use Rattle.std.specs.List.{filter}
 use Rattle.std.proofs.lemmas.Bool.{lt-ltb, le-ltb, ltb-true, ltb-false}
 use Rattle.std.proofs.lemmas.List.{append-nil}
 use Rattle.std.proofs.lemmas.List.Elements.{filter-append}
 use Rattle.gx_policy.specs.Lists.{placed, in_order}
-use Rattle.gx_history.specs.Book.{is_ahead, is_buy_order, is_better, by_price, is_on_side}
-use Rattle.gx_history.specs.Executions.{Standing}
-use Rattle.gx_history_laws.proofs.Owners.{filtered}
 use Rattle.gx_effects.proofs.Placing.{filter_swap, placed_filter}
 
 -- being better goes on, and so does being no better
@@ -111,34 +108,3 @@ no_lower a b c h k =
     let first : b ≤ a = ltb-false a b h in
     let second : c ≤ b = ltb-false b c k in
     le-ltb a c (omega arith)
-
-pub prices_rank : (buy : Bool) → IsRanking (is_ahead buy)
-prices_rank true = record {
-  goes_on = λ (a b c : Standing) h k. lower c.order.terms.price b.order.terms.price a.order.terms.price k h;
-  stays_behind = λ (a b c : Standing) h k. no_lower c.order.terms.price b.order.terms.price a.order.terms.price k h;
-}
-prices_rank false = record {
-  goes_on = λ (a b c : Standing) h k. lower a.order.terms.price b.order.terms.price c.order.terms.price h k;
-  stays_behind = λ (a b c : Standing) h k. no_lower a.order.terms.price b.order.terms.price c.order.terms.price h k;
-}
-
--- all are orders of one side
-abbrev pub AreOnSide : Bool → List Standing → Type 0
-AreOnSide buy xs = AllByRecursion (λ (s : Standing). is_on_side buy s.order ≡ true) xs
-
-pub side_is : (buy : Bool) (s : Standing) → is_on_side buy s.order ≡ true → is_buy_order s.order ≡ buy
-side_is true s h = h
-side_is false s h = not_true (is_buy_order s.order) h
-
-pub placed_on_side : (buy : Bool) (earlier xs : List Standing) → AreOnSide buy xs → fold (placed is_better) earlier xs ≡ fold (placed (is_ahead buy)) earlier xs
-placed_on_side buy earlier [] h = refl
-placed_on_side buy earlier (x ∷ xs) h =
-    placed_on_side buy (placed is_better earlier x) xs h.1
-    ∙ ap (λ (side : Bool). fold (placed (is_ahead buy)) (placed (is_ahead side) earlier x) xs) (side_is buy x h.0)
-
--- on one side of the book a filter leaves the others in their places
-pub by_price_filter : (buy : Bool) (q : Standing → Bool) (xs : List Standing) → AreOnSide buy xs → by_price (filter q xs) ≡ filter q (by_price xs)
-by_price_filter buy q xs h =
-    placed_on_side buy [] (filter q xs) (filtered (λ (s : Standing). is_on_side buy s.order ≡ true) q xs h)
-    ∙ in_order_filter (is_ahead buy) (prices_rank buy) q xs
-    ∙ ap (filter q) (sym (placed_on_side buy [] xs h))

@@ -1,33 +1,27 @@
--- What is known of each live order, and of each that rests.
-use Rattle.std.proofs.Common.{◌≡◌, ℕ, Bool, true, false, not, List, [], ◌∷◌, refl, ◌∙◌, ap, sym, cond}
+-- What is known of each live order, by its number alone.
+use Rattle.std.proofs.Common.{◌≡◌, ℕ, Bool, true, false, not, List, ◌∷◌, refl, ◌∙◌, ap, sym, cond}
 use Rattle.std.proofs.Math.Path.{subst}
-use Rattle.std.specs.Prelude.{Option, Some, None, ◌&&◌, ◌==◌, is_some, nat_lt}
-use Rattle.std.specs.List.{AllByRecursion, filter, filter_map}
-use Rattle.std.proofs.lemmas.Bool.{eqb-true}
-use Rattle.gx_units.specs.declared.names.Symbol.{Symbol}
+use Rattle.std.specs.Prelude.{Some, None, ◌&&◌, is_some, nat_lt}
+use Rattle.std.specs.List.{AllByRecursion, filter}
 use Rattle.gx_policy.specs.declared.policy.PolicyData.{PolicyData}
 use Rattle.gx_policy.specs.People.{stock_named}
 use Rattle.gx_history.specs.declared.live_order.LiveOrder.{LiveOrder}
 use Rattle.gx_history.specs.declared.record.RecordData.{RecordData}
 use Rattle.gx_history.specs.Book.{rested}
 use Rattle.gx_history.specs.Executions.{done, executions}
+use Rattle.gx_history.specs.Live.{has_come, live, live_numbered, open_now, open_order, waiting}
 use Rattle.gx_history.specs.Orders.{Order, is_dead, orders, total}
-use Rattle.gx_history.specs.Turns.{ahead, has_come, is_there, live, live_numbered, open_now, open_order, side, waiting}
 use Rattle.gx_history.specs.Verdicts.{IsLegal}
 use Rattle.gx_history_laws.proofs.Adding.{all_pass}
 use Rattle.gx_history_laws.proofs.Listed.{IsListed, orders_are_listed}
 use Rattle.gx_history_laws.proofs.Numbers.{all_weaker}
 use Rattle.gx_history_laws.proofs.Order.{some_same}
 use Rattle.gx_history_laws.proofs.Owners.{filtered}
-use Rattle.gx_effects.proofs.Apart.{all_members, apart_are_found}
-use Rattle.gx_effects.proofs.Emptied.{all_placed}
-use Rattle.gx_effects.proofs.Known.{all_found_of}
-use Rattle.gx_effects.proofs.NeverCrossed.{all_unfound, any_of}
-use Rattle.gx_effects.proofs.NewOrders.{found_is}
-use Rattle.gx_effects.proofs.NotLive.{all_and}
-use Rattle.gx_effects.proofs.Ordered.{all_in_order, all_unfiltered}
+use Rattle.gx_effects.proofs.Among.{all_and}
+use Rattle.gx_effects.proofs.Apart.{apart_are_found}
+use Rattle.gx_effects.proofs.Entered.{all_found_of}
+use Rattle.gx_effects.proofs.Known.{live_apart}
 use Rattle.gx_effects.proofs.Orderly.{legal_is_orderly}
-use Rattle.gx_effects.proofs.Sides.{live_apart, number_found}
 
 clash : {b : Bool} → b ≡ true → b ≡ false → ⊥
 clash h k = cc
@@ -72,46 +66,6 @@ all_living policy history legal =
 pub same_order : (policy : PolicyData) (history : List RecordData) (o x : LiveOrder) → live_numbered (live policy history) o.number ≡ Some o → live_numbered (live policy history) x.number ≡ Some x
     → x.number ≡ o.number → x ≡ o
 same_order policy history o x found also same = some_same (sym also ∙ ap (live_numbered (live policy history)) same ∙ found)
-
--- an order that rests on this side of the stock
-pub record RestsThere (policy : PolicyData) (history : List RecordData) (stock : Symbol) (buy : Bool) (o : LiveOrder) : Type 0 where
-  pub found : live_numbered (live policy history) o.number ≡ Some o
-  pub there : is_there stock buy o ≡ true
-  pub has_come : has_come (rested history) o.number ≡ true
-  pub rests : o.waits ≡ false
-
-pub all_resting : (policy : PolicyData) (history : List RecordData) (stock : Symbol) (buy : Bool) → IsLegal policy history → AllByRecursion (RestsThere policy history stock buy) (side policy history stock buy)
-unfolding side
-all_resting policy history stock buy legal =
-    all_placed (RestsThere policy history stock buy) (ahead buy) [] (filter (is_there stock buy) came) tt
-    (all_weaker (λ (o : LiveOrder). HasCome o × (is_there stock buy o ≡ true)) (RestsThere policy history stock buy)
-    (λ o h. record { found = h.0.0.found; there = h.1; has_come = h.0.1; rests = h.0.0.waits ∙ ap not h.0.1 }) (filter (is_there stock buy) came)
-    (all_and HasCome (λ (o : LiveOrder). is_there stock buy o ≡ true) (filter (is_there stock buy) came)
-    (filtered HasCome (is_there stock buy) came
-    (all_found_of (λ (n : ℕ). has_come (rested history) n ≡ true) HasCome (live_numbered (live policy history)) by (rested history) (all_members (rested history)))) (all_pass (is_there stock buy) came)))
-  where
-    came : List LiveOrder
-    came = filter_map (live_numbered (live policy history)) (rested history)
-
-    HasCome : LiveOrder → Type 0
-    HasCome o = IsLiving policy history o × (has_come (rested history) o.number ≡ true)
-
-    by : (n : ℕ) (o : LiveOrder) → has_come (rested history) n ≡ true → live_numbered (live policy history) n ≡ Some o → HasCome o
-    by n o among e = (
-      found_is (IsLiving policy history) (λ (x : LiveOrder). x.number == n) (live policy history) o (all_living policy history legal) e,
-      ap (has_come (rested history)) (eqb-true o.number n (number_found (live policy history) n o e)) ∙ among,
-    )
-
--- what holds of all that rest on a side holds of each that came to rest there
-pub side_has : (policy : PolicyData) (history : List RecordData) (stock : Symbol) (buy : Bool) (P : LiveOrder → Type 0) (o : LiveOrder) → live_numbered (live policy history) o.number ≡ Some o
-    → has_come (rested history) o.number ≡ true → is_there stock buy o ≡ true → AllByRecursion P (side policy history stock buy) → P o
-unfolding side
-side_has policy history stock buy P o found has there all =
-    let numbered : ℕ → Option LiveOrder = live_numbered (live policy history) in
-    let came : List LiveOrder = filter_map numbered (rested history) in
-    any_of (λ (n : ℕ). (x : LiveOrder) → numbered n ≡ Some x → is_there stock buy x ≡ true → P x) (rested history) o.number
-    (all_unfound (λ (x : LiveOrder). is_there stock buy x ≡ true → P x) numbered (rested history)
-    (all_unfiltered P (is_there stock buy) came (all_in_order P (ahead buy) [] (filter (is_there stock buy) came) all).1)) has o found there
 
 -- the first that waits lives
 pub first_lives : (policy : PolicyData) (history : List RecordData) (first : LiveOrder) (others : List LiveOrder) → IsLegal policy history → waiting policy history ≡ first ∷ others

@@ -1,172 +1,167 @@
 -- Matching steps end: each leaves fewer orders that wait or fewer that live.
-use Rattle.std.proofs.Common.{◌≡◌, ℕ, zero, suc, ◌+◌, ◌-◌, ◌<◌, ◌≤◌, Bool, true, false, not, List, [], ◌∷◌, ◌++◌, refl, ◌∙◌, ap, sym, map, cond, length, arith, append_assoc}
-use Rattle.std.specs.Prelude.{Option, Some, None, find, min, ◌==◌, ◌||◌, nat_lt}
-use Rattle.std.specs.List.{filter, list_any}
-use Rattle.std.proofs.lemmas.Bool.{le-ltb, ltb-true, ltb-false}
+use Rattle.std.proofs.Common.{◌≡◌, ℕ, zero, suc, ◌+◌, ◌<◌, ◌≤◌, Bool, true, false, not, List, [], ◌∷◌, ◌++◌, refl, ◌∙◌, ap, sym, cond, length, arith, append_assoc}
+use Rattle.std.proofs.Math.Path.{subst}
+use Rattle.std.specs.Prelude.{Option, Some, None, min, ◌==◌, ◌||◌, nat_lt}
+use Rattle.std.specs.List.{AllByRecursion, cons_option, filter, filter_map}
+use Rattle.std.proofs.lemmas.Bool.{eq-eqb, le-ltb, ltb-false, ltb-true}
 use Rattle.std.proofs.lemmas.List.{append-nil}
 use Rattle.gx_policy.specs.declared.policy.PolicyData.{PolicyData}
+use Rattle.gx_history.specs.declared.live_order.LiveOrder.{LiveOrder}
 use Rattle.gx_history.specs.declared.record.Fill.{Fill}
 use Rattle.gx_history.specs.declared.record.RecordData.{RecordData}
 use Rattle.gx_history.specs.declared.record.Step.TheVariants as steps
 use Rattle.gx_history.specs.declared.record.Verdict.{Verdict}
 use Rattle.gx_history.specs.declared.record.Verdict.TheVariants as verdicts
-use Rattle.gx_history.specs.Book.{incoming}
-use Rattle.gx_history.specs.Executions.{Standing, standings, is_live, live_orders}
-use Rattle.gx_history.specs.Effects.{with_open, still_open, with_left, shares_left}
-use Rattle.gx_history.specs.Matched.{left_by_fill, less}
-use Rattle.gx_history.specs.Matching.{matching, outcome, unmatched, filled, crosses}
-use Rattle.gx_history.specs.Orders.{Order}
-use Rattle.gx_history.specs.OuchValues.{immediate_or_cancel}
-use Rattle.gx_history.specs.Requests.{is_judged}
+use Rattle.gx_history.specs.Live.{waiting, live_numbered, live}
+use Rattle.gx_history.specs.LiveOrders.{shares_open}
+use Rattle.gx_history.specs.Matching.{matching}
+use Rattle.gx_history.specs.MayMove.{MayExpire, MayRest}
 use Rattle.gx_history.specs.Settling.{most_matches, settle_on, settled_within, settled, AddsMatches}
+use Rattle.gx_history.specs.Turns.{Turn, becomes, new_in, turned, while_open}
+use Rattle.gx_history.specs.Turns as turns
 use Rattle.gx_history.specs.Verdicts.{next}
+use Rattle.gx_history.specs.World.{turn_by, world}
 use Rattle.gx_history_laws.proofs.Owners.{all_both}
 use Rattle.gx_history_laws.proofs.Runs.{step_left, idle_where_none_waits}
-use Rattle.gx_effects.proofs.Expiries.{IsEnd, is_end, live_after_end, incoming_after_end}
-use Rattle.gx_effects.proofs.Fills.{IsFill, is_fill, live_after_fill, incoming_after_fill, maker_on_side}
-use Rattle.gx_effects.proofs.Matches.{FirstThatWaits, first_that_waits, verdict_of_match, opposite, idle_where_empty}
+use Rattle.gx_effects.proofs.Fills.{IsFill, is_fill}
+use Rattle.gx_effects.proofs.Live.{by_match}
+use Rattle.gx_effects.proofs.Matches.{idle_where_empty, may_match}
 use Rattle.gx_effects.proofs.Orderly.{IsOrderly, orderly_next}
-use Rattle.gx_effects.proofs.Rests.{IsRest, is_rest, same_standings, same_live, incoming_after_rest}
+use Rattle.gx_effects.proofs.Sides.{puts_to_rest, waits_rested, waits_turned}
 
--- a filter leaves no more
-filter_shortens : {X : Type 0} (p : X → Bool) (g : X → X) (xs : List X) → length (filter p (map g xs)) ≤ length xs
-filter_shortens p g [] = omega arith
-filter_shortens {X} p g (x ∷ xs) = at (p (g x)) (filter_shortens p g xs)
+-- what goes on is no more
+no_more : {X : Type 0} (f : X → Option X) (xs : List X) → length (filter_map f xs) ≤ length xs
+no_more f [] = omega arith
+no_more {X} f (x ∷ xs) = at (f x) (no_more f xs)
   where
-    at : (b : Bool) → length (filter p (map g xs)) ≤ length xs → length (cond b (g x ∷ filter p (map g xs)) (filter p (map g xs))) ≤ suc (length xs)
-    at true h = omega arith
-    at false h = omega arith
+    at : (found : Option X) → length (filter_map f xs) ≤ length xs → length (cons_option found (filter_map f xs)) ≤ suc (length xs)
+    at None h = omega arith
+    at (Some y) h = omega arith
 
--- and fewer where one does not pass
-filter_drops_one : {X : Type 0} (p : X → Bool) (g : X → X) (xs : List X) → list_any (λ x. not (p (g x))) xs ≡ true → length (filter p (map g xs)) < length xs
-filter_drops_one p g [] h = cc
-filter_drops_one {X} p g (x ∷ xs) h = at (p (g x)) h (filter_drops_one p g xs) (filter_shortens p g xs)
+-- and fewer where one that is found does not go on
+one_fewer : (f : LiveOrder → Option LiveOrder) (os : List LiveOrder) (n : ℕ) (o : LiveOrder) → live_numbered os n ≡ Some o → f o ≡ None → length (filter_map f os) < length os
+one_fewer f [] n o found gone = cc
+one_fewer f (x ∷ xs) n o found gone = at (x.number == n) found (one_fewer f xs n o) (no_more f xs) (f x) refl
   where
-    at : (b : Bool) → (not b || list_any (λ y. not (p (g y))) xs) ≡ true → (list_any (λ y. not (p (g y))) xs ≡ true → length (filter p (map g xs)) < length xs) → length (filter p (map g xs)) ≤ length xs
-        → length (cond b (g x ∷ filter p (map g xs)) (filter p (map g xs))) < suc (length xs)
-    at true k deeper short = let fewer : length (filter p (map g xs)) < length xs = deeper k in omega arith
-    at false k deeper short = omega arith
+    same : Some x ≡ Some o → x ≡ o
+    same e = cc
 
--- one that is found and passes is among those that pass
-any_of_found : {X : Type 0} (p q t : X → Bool) (xs : List X) (x : X) → find p xs ≡ Some x → q x ≡ true → t x ≡ true → list_any t (filter q xs) ≡ true
-any_of_found p q t [] x e k l = cc
-any_of_found {X} p q t (y ∷ xs) x e k l = at (p y) e (any_of_found p q t xs x)
-  where
-    here : y ≡ x → list_any t (cond (q y) (y ∷ filter q xs) (filter q xs)) ≡ true
-    here same =
-        ap (λ (b : Bool). list_any t (cond b (y ∷ filter q xs) (filter q xs))) (ap q same ∙ k)
-        ∙ ap (λ (b : Bool). b || list_any t (filter q xs)) (ap t same ∙ l)
+    at : (b : Bool) → cond b (Some x) (live_numbered xs n) ≡ Some o → (live_numbered xs n ≡ Some o → f o ≡ None → length (filter_map f xs) < length xs) → length (filter_map f xs) ≤ length xs
+        → (found : Option LiveOrder) → f x ≡ found → length (cons_option found (filter_map f xs)) < suc (length xs)
+    at b k deeper short None e = omega arith
+    at true k deeper short (Some y) e = let no : Some y ≡ None = sym e ∙ ap f (same k) ∙ gone in cc
+    at false k deeper short (Some y) e = let less : length (filter_map f xs) < length xs = deeper k gone in omega arith
 
-    more : (b : Bool) → list_any t (filter q xs) ≡ true → list_any t (cond b (y ∷ filter q xs) (filter q xs)) ≡ true
-    more true h = or_more (t y) h
-      where
-        or_more : (c : Bool) {d : Bool} → d ≡ true → (c || d) ≡ true
-        or_more true g = refl
-        or_more false g = g
-    more false h = h
+-- the sides of a fill, where all that is open of one is filled
+all_filled : (f : Fill) (o : LiveOrder) → (o.number == f.taker || o.number == f.maker) ≡ true → shares_open o ≤ f.shares → becomes (turns.Fills f) o ≡ None
+all_filled f o side all =
+    ap (λ (b : Bool). cond b (while_open (record o { done = o.done + f.shares })) (Some o)) side
+    ∙ ap (λ (b : Bool). cond b (Some (record o { done = o.done + f.shares })) None) (le-ltb (o.done + f.shares) o.total (omega arith))
 
-    same_of : Some y ≡ Some x → y ≡ x
-    same_of g = cc
+first_of : (a b : Bool) → a ≡ true → (a || b) ≡ true
+first_of true b h = refl
+first_of false b h = cc
 
-    at : (b : Bool) → cond b (Some y) (find p xs) ≡ Some x → (find p xs ≡ Some x → q x ≡ true → t x ≡ true → list_any t (filter q xs) ≡ true) → list_any t (cond (q y) (y ∷ filter q xs) (filter q xs)) ≡ true
-    at true g deeper = here (same_of g)
-    at false g deeper = more (q y) (deeper g k l)
+second_of : (a b : Bool) → b ≡ true → (a || b) ≡ true
+second_of true b h = refl
+second_of false b h = h
 
--- a matching step judges no request
-unmatched_is_no_judgement : (o : Order) → is_judged (unmatched o) ≡ false
-unmatched_is_no_judgement o = elim (o.terms.time_in_force == immediate_or_cancel) as (λ b. is_judged (elim b [ true ↦ verdicts.Expired o.number | false ↦ verdicts.Rested o.number ]) ≡ false) [ true ↦ refl | false ↦ refl ]
+-- the lists after a matching step
+live_then : (policy : PolicyData) (history : List RecordData) (handed : ℕ) (r : RecordData) (v : Verdict) → IsOrderly policy history → next policy history (steps.Matching handed) ≡ Some r → r.verdict ≡ v
+    → live policy (history ++ r ∷ []) ≡ turned (turn_by policy (world policy history) r v (steps.Matching handed)) (live policy history)
+live_then policy history handed r v orderly left e = by_match policy history handed r orderly left v e
 
-pub match_is_no_judgement : (first : Standing) (others : List Standing) → is_judged (outcome first others) ≡ false
-match_is_no_judgement first [] = unmatched_is_no_judgement first.order
-match_is_no_judgement first (best ∷ others) = at (crosses first.order best.order)
-  where
-    at : (b : Bool) → is_judged (elim b [ true ↦ filled first best | false ↦ unmatched first.order ]) ≡ false
-    at true = refl
-    at false = unmatched_is_no_judgement first.order
+waits_then : (policy : PolicyData) (history : List RecordData) (handed : ℕ) (r : RecordData) (v : Verdict) (turn : Turn) → IsOrderly policy history → next policy history (steps.Matching handed) ≡ Some r → r.verdict ≡ v
+    → turn_by policy (world policy history) r v (steps.Matching handed) ≡ turn → puts_to_rest turn ≡ false → new_in turn ≡ [] → waiting policy (history ++ r ∷ []) ≡ filter_map (becomes turn) (waiting policy history)
+unfolding waiting
+waits_then policy history handed r v turn orderly left e is goes none =
+    ap (filter (λ (o : LiveOrder). o.waits)) (live_then policy history handed r v orderly left e ∙ ap (λ (x : Turn). turned x (live policy history)) is)
+    ∙ waits_turned r turn (live policy history) goes (subst (AllByRecursion (λ (o : LiveOrder). (o.number ≡ r.number) × (o.waits ≡ true))) (sym none) tt)
+    ∙ ap (λ (os : List LiveOrder). filter_map (becomes turn) (filter (λ (o : LiveOrder). o.waits) (live policy history)) ++ os) none
+    ∙ append-nil (filter_map (becomes turn) (filter (λ (o : LiveOrder). o.waits) (live policy history)))
 
-pub not_judged : (policy : PolicyData) (history : List RecordData) (handed : ℕ) (r : RecordData) → next policy history (steps.Matching handed) ≡ Some r → is_judged r.verdict ≡ false
-not_judged policy history handed r left =
-    let first : FirstThatWaits policy history r.verdict = first_that_waits policy history r.verdict (verdict_of_match policy history handed r left) in
-    sym (ap is_judged first.becomes) ∙ match_is_no_judgement first.first (opposite policy history first.first.order)
+fewer_of : (a b c d : ℕ) → a ≤ c → b < d → a + b < c + d
+fewer_of a b c d h k = omega arith
 
-less_is_short : (shares : ℕ) (s : Standing) (ss : List Standing) → length (less shares s ++ ss) ≤ length ss + 1
-less_is_short shares s ss = at (nat_lt 0 (s.open_shares - shares))
-  where
-    stands : Standing
-    stands = record { order = s.order; open_shares = s.open_shares - shares }
-
-    at : (b : Bool) → length (cond b (stands ∷ []) [] ++ ss) ≤ length ss + 1
-    at true = omega arith
-    at false = omega arith
-
-nothing_less : (shares : ℕ) (s : Standing) (ss : List Standing) → s.open_shares ≤ shares → length (less shares s ++ ss) ≡ length ss
-nothing_less shares s ss h = ap (λ (b : Bool). length (cond b (stands ∷ []) [] ++ ss)) (le-ltb 0 (s.open_shares - shares) (none s.open_shares shares h))
-  where
-    stands : Standing
-    stands = record { order = s.order; open_shares = s.open_shares - shares }
-
-    none : (n m : ℕ) → n ≤ m → n - m ≤ 0
-    none n m k = omega arith
-
-shares_are : (f : Fill) (taker maker : Standing) → verdicts.Filled f ≡ filled taker maker → f.shares ≡ min taker.open_shares maker.open_shares
-shares_are f taker maker e = cc
-
--- the maker has nothing left, where no more of it was open
-maker_is_gone : (policy : PolicyData) (history : List RecordData) (r : RecordData) (f : Fill) (is : IsFill policy history r f) → is.maker.open_shares ≤ f.shares
-    → list_any (λ (s : Standing). not (is_live (with_open (left_by_fill f) s))) (live_orders policy history) ≡ true
-unfolding live_orders
-maker_is_gone policy history r f is h =
-    any_of_found (λ (s : Standing). s.order.number == is.maker.order.number) is_live (λ (s : Standing). not (is_live (with_open (left_by_fill f) s))) (standings policy history) is.maker
-    is.maker_rests.known.is_found is.maker_rests.there.lives
-    (ap (λ (b : Bool). not (nat_lt 0 (is.maker.open_shares - cond b f.shares 0))) (maker_on_side f is.maker is.of_maker)
-    ∙ ap not (le-ltb 0 (is.maker.open_shares - f.shares) (none is.maker.open_shares f.shares h)))
-  where
-    none : (n m : ℕ) → n ≤ m → n - m ≤ 0
-    none n m k = omega arith
+fewer_first : (a b c d : ℕ) → a < c → b ≤ d → a + b < c + d
+fewer_first a b c d h k = omega arith
 
 -- a fill leaves fewer: the taker no longer waits, or the maker no longer lives
-fill_leaves_fewer : (policy : PolicyData) (history : List RecordData) (r : RecordData) (f : Fill) → IsOrderly policy history → (is : IsFill policy history r f)
+fill_leaves_fewer : (policy : PolicyData) (history : List RecordData) (handed : ℕ) (r : RecordData) (f : Fill) → IsOrderly policy history → next policy history (steps.Matching handed) ≡ Some r → r.verdict ≡ verdicts.Filled f → (is : IsFill policy history r f)
     → most_matches policy (history ++ r ∷ []) < most_matches policy history
-fill_leaves_fewer policy history r f orderly is =
-    let waited : length (incoming policy history) ≡ suc (length is.waiting) = ap length is.comes_first in
-    let waits : length (incoming policy (history ++ r ∷ [])) ≡ length (less f.shares is.taker ++ is.waiting) = ap length (incoming_after_fill policy history r f orderly is) in
-    let short : length (less f.shares is.taker ++ is.waiting) ≤ length is.waiting + 1 = less_is_short f.shares is.taker is.waiting in
-    let lives : length (live_orders policy (history ++ r ∷ [])) ≡ length (still_open (left_by_fill f) (live_orders policy history)) = ap length (live_after_fill policy history r f orderly is) in
-    let no_more : length (still_open (left_by_fill f) (live_orders policy history)) ≤ length (live_orders policy history) = filter_shortens is_live (with_open (left_by_fill f)) (live_orders policy history) in
-    let shares : f.shares ≡ min is.taker.open_shares is.maker.open_shares = shares_are f is.taker is.maker (sym is.is_fill ∙ is.is_theirs) in
-    at (nat_lt is.maker.open_shares is.taker.open_shares) refl waited waits short lives no_more shares
+fill_leaves_fewer policy history handed r f orderly left e is = at (nat_lt (shares_open is.may.maker) (shares_open is.may.taker)) refl (ap (λ (x : Fill). x.shares) is.may.is_theirs)
   where
-    at : (b : Bool) → nat_lt is.maker.open_shares is.taker.open_shares ≡ b → length (incoming policy history) ≡ suc (length is.waiting)
-        → length (incoming policy (history ++ r ∷ [])) ≡ length (less f.shares is.taker ++ is.waiting) → length (less f.shares is.taker ++ is.waiting) ≤ length is.waiting + 1
-        → length (live_orders policy (history ++ r ∷ [])) ≡ length (still_open (left_by_fill f) (live_orders policy history))
-        → length (still_open (left_by_fill f) (live_orders policy history)) ≤ length (live_orders policy history)
-        → f.shares ≡ min is.taker.open_shares is.maker.open_shares → most_matches policy (history ++ r ∷ []) < most_matches policy history
-    at true e waited waits short lives no_more shares =
-        let smaller : is.maker.open_shares < is.taker.open_shares = ltb-true is.maker.open_shares is.taker.open_shares e in
-        let all : is.maker.open_shares ≤ f.shares = omega arith in
-        let fewer : length (still_open (left_by_fill f) (live_orders policy history)) < length (live_orders policy history) =
-        filter_drops_one is_live (with_open (left_by_fill f)) (live_orders policy history) (maker_is_gone policy history r f is all) in
-        omega arith
-    at false e waited waits short lives no_more shares =
-        let smaller : is.taker.open_shares ≤ is.maker.open_shares = ltb-false is.maker.open_shares is.taker.open_shares e in
-        let all : is.taker.open_shares ≤ f.shares = omega arith in
-        let gone : length (less f.shares is.taker ++ is.waiting) ≡ length is.waiting = nothing_less f.shares is.taker is.waiting all in
+    lives : live policy (history ++ r ∷ []) ≡ filter_map (becomes (turns.Fills f)) (live policy history)
+    lives = live_then policy history handed r (verdicts.Filled f) orderly left e ∙ append-nil (filter_map (becomes (turns.Fills f)) (live policy history))
+
+    waits : waiting policy (history ++ r ∷ []) ≡ filter_map (becomes (turns.Fills f)) (waiting policy history)
+    waits = waits_then policy history handed r (verdicts.Filled f) (turns.Fills f) orderly left e refl refl refl
+
+    few_live : length (live policy (history ++ r ∷ [])) ≤ length (live policy history)
+    few_live = subst (λ (os : List LiveOrder). length os ≤ length (live policy history)) (sym lives) (no_more (becomes (turns.Fills f)) (live policy history))
+
+    few_wait : length (waiting policy (history ++ r ∷ [])) ≤ length (waiting policy history)
+    few_wait = subst (λ (os : List LiveOrder). length os ≤ length (waiting policy history)) (sym waits) (no_more (becomes (turns.Fills f)) (waiting policy history))
+
+    without_first : becomes (turns.Fills f) is.may.taker ≡ None → length (waiting policy (history ++ r ∷ [])) < length (waiting policy history)
+    without_first gone =
+        let now : length (waiting policy (history ++ r ∷ [])) ≡ length (filter_map (becomes (turns.Fills f)) is.may.waiting) =
+        ap length (waits ∙ ap (filter_map (becomes (turns.Fills f))) is.may.comes_first ∙ ap (λ (x : Option LiveOrder). cons_option x (filter_map (becomes (turns.Fills f)) is.may.waiting)) gone) in
+        let was : length (waiting policy history) ≡ suc (length is.may.waiting) = ap length is.may.comes_first in
+        let short : length (filter_map (becomes (turns.Fills f)) is.may.waiting) ≤ length is.may.waiting = no_more (becomes (turns.Fills f)) is.may.waiting in
         omega arith
 
-rest_leaves_fewer : (policy : PolicyData) (history : List RecordData) (r : RecordData) (number : ℕ) → (is : IsRest policy history r number) → most_matches policy (history ++ r ∷ []) < most_matches policy history
-rest_leaves_fewer policy history r number is =
-    let same : standings policy (history ++ r ∷ []) ≡ standings policy history = same_standings policy history r number is in
-    let waited : length (incoming policy history) ≡ suc (length is.waiting) = ap length is.comes_first in
-    let waits : length (incoming policy (history ++ r ∷ [])) ≡ length is.waiting = ap length (incoming_after_rest policy history r number is same) in
-    let lives : length (live_orders policy (history ++ r ∷ [])) ≡ length (live_orders policy history) = ap length (same_live policy history (history ++ r ∷ []) same) in
+    at : (b : Bool) → nat_lt (shares_open is.may.maker) (shares_open is.may.taker) ≡ b → f.shares ≡ min (shares_open is.may.taker) (shares_open is.may.maker) → most_matches policy (history ++ r ∷ []) < most_matches policy history
+    at true k shares =
+        let smaller : shares_open is.may.maker < shares_open is.may.taker = ltb-true (shares_open is.may.maker) (shares_open is.may.taker) k in
+        let all : shares_open is.may.maker ≤ f.shares = omega arith in
+        fewer_of _ _ _ _ few_wait (subst (λ (os : List LiveOrder). length os < length (live policy history)) (sym lives)
+        (one_fewer (becomes (turns.Fills f)) (live policy history) is.may.maker.number is.may.maker is.maker_rests.known.is_found
+        (all_filled f is.may.maker (second_of (is.may.maker.number == f.taker) (is.may.maker.number == f.maker) (eq-eqb is.may.maker.number f.maker (sym is.of_maker))) all)))
+    at false k shares =
+        let smaller : shares_open is.may.taker ≤ shares_open is.may.maker = ltb-false (shares_open is.may.maker) (shares_open is.may.taker) k in
+        let all : shares_open is.may.taker ≤ f.shares = omega arith in
+        fewer_first _ _ _ _ (without_first (all_filled f is.may.taker (first_of (is.may.taker.number == f.taker) (is.may.taker.number == f.maker) (eq-eqb is.may.taker.number f.taker (sym is.of_taker))) all)) few_live
+
+-- the first no longer waits
+first_leaves : (number : ℕ) (first : LiveOrder) (others : List LiveOrder) → number ≡ first.number → length (filter (λ (o : LiveOrder). not (number == o.number)) (first ∷ others)) ≤ length others
+first_leaves number first others e =
+    subst (λ (b : Bool). length (cond (not b) (first ∷ filter (λ (o : LiveOrder). not (number == o.number)) others) (filter (λ (o : LiveOrder). not (number == o.number)) others)) ≤ length others) (sym (eq-eqb number first.number e)) (shorter others)
+  where
+    shorter : (os : List LiveOrder) → length (filter (λ (o : LiveOrder). not (number == o.number)) os) ≤ length os
+    shorter [] = omega arith
+    shorter (o ∷ os) = at (number == o.number) (shorter os)
+      where
+        at : (b : Bool) → length (filter (λ (o : LiveOrder). not (number == o.number)) os) ≤ length os → length (cond (not b) (o ∷ filter (λ (o : LiveOrder). not (number == o.number)) os) (filter (λ (o : LiveOrder). not (number == o.number)) os)) ≤ suc (length os)
+        at true h = omega arith
+        at false h = omega arith
+
+waits_at_rest : (policy : PolicyData) (history : List RecordData) (handed : ℕ) (r : RecordData) (number : ℕ) → IsOrderly policy history → next policy history (steps.Matching handed) ≡ Some r → r.verdict ≡ verdicts.Rested number
+    → waiting policy (history ++ r ∷ []) ≡ filter (λ (o : LiveOrder). not (number == o.number)) (waiting policy history)
+unfolding waiting
+waits_at_rest policy history handed r number orderly left e = ap (filter (λ (o : LiveOrder). o.waits)) (live_then policy history handed r (verdicts.Rested number) orderly left e) ∙ waits_rested number (live policy history)
+
+rest_leaves_fewer : (policy : PolicyData) (history : List RecordData) (handed : ℕ) (r : RecordData) (number : ℕ) → IsOrderly policy history → next policy history (steps.Matching handed) ≡ Some r → r.verdict ≡ verdicts.Rested number
+    → most_matches policy (history ++ r ∷ []) < most_matches policy history
+rest_leaves_fewer policy history handed r number orderly left e =
+    let may : MayRest (world policy history) r number = may_match policy history handed r (verdicts.Rested number) left e in
+    let lives : length (live policy (history ++ r ∷ [])) ≡ length (filter_map (becomes (turns.Rests number)) (live policy history)) = ap length (live_then policy history handed r (verdicts.Rested number) orderly left e ∙ append-nil (filter_map (becomes (turns.Rests number)) (live policy history))) in
+    let few : length (filter_map (becomes (turns.Rests number)) (live policy history)) ≤ length (live policy history) = no_more (becomes (turns.Rests number)) (live policy history) in
+    let waits : length (waiting policy (history ++ r ∷ [])) ≡ length (filter (λ (o : LiveOrder). not (number == o.number)) (may.first ∷ may.waiting)) = ap length (waits_at_rest policy history handed r number orderly left e ∙ ap (filter (λ (o : LiveOrder). not (number == o.number))) may.comes_first) in
+    let less : length (filter (λ (o : LiveOrder). not (number == o.number)) (may.first ∷ may.waiting)) ≤ length may.waiting = first_leaves number may.first may.waiting may.has_number in
+    let was : length (waiting policy history) ≡ suc (length may.waiting) = ap length may.comes_first in
     omega arith
 
-end_leaves_fewer : (policy : PolicyData) (history : List RecordData) (r : RecordData) (number : ℕ) → IsOrderly policy history → (is : IsEnd policy history r number) → most_matches policy (history ++ r ∷ []) < most_matches policy history
-end_leaves_fewer policy history r number orderly is =
-    let waited : length (incoming policy history) ≡ suc (length is.waiting) = ap length is.comes_first in
-    let waits : length (incoming policy (history ++ r ∷ [])) ≡ length is.waiting = ap length (incoming_after_end policy history r number orderly is) in
-    let lives : length (live_orders policy (history ++ r ∷ [])) ≡ length (with_left number 0 (live_orders policy history)) = ap length (live_after_end policy history r number orderly is) in
-    let no_more : length (with_left number 0 (live_orders policy history)) ≤ length (live_orders policy history) = filter_shortens is_live (with_open (shares_left number 0)) (live_orders policy history) in
+end_leaves_fewer : (policy : PolicyData) (history : List RecordData) (handed : ℕ) (r : RecordData) (number : ℕ) → IsOrderly policy history → next policy history (steps.Matching handed) ≡ Some r → r.verdict ≡ verdicts.Expired number → most_matches policy (history ++ r ∷ []) < most_matches policy history
+end_leaves_fewer policy history handed r number orderly left e =
+    let may : MayExpire (world policy history) r number = may_match policy history handed r (verdicts.Expired number) left e in
+    let lives : length (live policy (history ++ r ∷ [])) ≡ length (filter_map (becomes (turns.Ends number)) (live policy history)) = ap length (live_then policy history handed r (verdicts.Expired number) orderly left e ∙ append-nil (filter_map (becomes (turns.Ends number)) (live policy history))) in
+    let few : length (filter_map (becomes (turns.Ends number)) (live policy history)) ≤ length (live policy history) = no_more (becomes (turns.Ends number)) (live policy history) in
+    let gone : becomes (turns.Ends number) may.first ≡ None = ap (λ (b : Bool). cond {A = Option LiveOrder} b None (Some may.first)) (eq-eqb number may.first.number may.has_number) in
+    let waits : length (waiting policy (history ++ r ∷ [])) ≡ length (filter_map (becomes (turns.Ends number)) may.waiting) =
+    ap length (waits_then policy history handed r (verdicts.Expired number) (turns.Ends number) orderly left e refl refl refl ∙ ap (filter_map (becomes (turns.Ends number))) may.comes_first ∙ ap (λ (x : Option LiveOrder). cons_option x (filter_map (becomes (turns.Ends number)) may.waiting)) gone) in
+    let less : length (filter_map (becomes (turns.Ends number)) may.waiting) ≤ length may.waiting = no_more (becomes (turns.Ends number)) may.waiting in
+    let was : length (waiting policy history) ≡ suc (length may.waiting) = ap length may.comes_first in
     omega arith
 
 -- each matching step leaves fewer
@@ -174,18 +169,12 @@ pub match_leaves_fewer : (policy : PolicyData) (history : List RecordData) (hand
     → most_matches policy (history ++ r ∷ []) < most_matches policy history
 match_leaves_fewer policy history handed r orderly left = by_verdict r.verdict refl
   where
-    never : (v : Verdict) → r.verdict ≡ v → is_judged v ≡ true → most_matches policy (history ++ r ∷ []) < most_matches policy history
-    never v e h = absurd (clash (ap is_judged e ∙ h) (not_judged policy history handed r left))
-      where
-        clash : {b : Bool} → b ≡ true → b ≡ false → ⊥
-        clash x y = cc
-
     by_verdict : (v : Verdict) → r.verdict ≡ v → most_matches policy (history ++ r ∷ []) < most_matches policy history
-    by_verdict verdicts.Granted e = never verdicts.Granted e refl
-    by_verdict (verdicts.Denied rule) e = never (verdicts.Denied rule) e refl
-    by_verdict (verdicts.Filled f) e = fill_leaves_fewer policy history r f orderly (is_fill policy history handed r f orderly left e)
-    by_verdict (verdicts.Rested n) e = rest_leaves_fewer policy history r n (is_rest policy history handed r n orderly left e)
-    by_verdict (verdicts.Expired n) e = end_leaves_fewer policy history r n orderly (is_end policy history handed r n orderly left e)
+    by_verdict verdicts.Granted e = absurd (may_match policy history handed r verdicts.Granted left e)
+    by_verdict (verdicts.Denied rule) e = absurd (may_match policy history handed r (verdicts.Denied rule) left e)
+    by_verdict (verdicts.Filled f) e = fill_leaves_fewer policy history handed r f orderly left e (is_fill policy history handed r f orderly left e)
+    by_verdict (verdicts.Rested n) e = rest_leaves_fewer policy history handed r n orderly left e
+    by_verdict (verdicts.Expired n) e = end_leaves_fewer policy history handed r n orderly left e
 
 -- the records after it are orderly as well
 pub match_is_orderly : (policy : PolicyData) (history : List RecordData) (handed : ℕ) (r : RecordData) → IsOrderly policy history → next policy history (steps.Matching handed) ≡ Some r → IsOrderly policy (history ++ r ∷ [])
@@ -194,12 +183,12 @@ match_is_orderly policy history handed r orderly left =
 
 -- where nothing waits and nothing lives there is no matching step
 none_to_match : (policy : PolicyData) (history : List RecordData) (moment : ℕ) → most_matches policy history ≤ 0 → next policy history (steps.Matching moment) ≡ None
-none_to_match policy history moment h = (idle_where_none_waits policy history moment).1 (nothing (incoming policy history) (none (length (incoming policy history)) (length (live_orders policy history)) h))
+none_to_match policy history moment h = (idle_where_none_waits policy history moment).1 (nothing (waiting policy history) (none (length (waiting policy history)) (length (live policy history)) h))
   where
     none : (n m : ℕ) → n + m ≤ 0 → n ≤ 0
     none n m k = omega arith
 
-    nothing : (ss : List Standing) → length ss ≤ 0 → ss ≡ []
+    nothing : (ss : List LiveOrder) → length ss ≤ 0 → ss ≡ []
     nothing [] k = refl
     nothing (s ∷ ss) k = absurd (omega arith)
 

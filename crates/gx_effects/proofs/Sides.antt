@@ -8,47 +8,48 @@ use Rattle.std.proofs.lemmas.Bool.{eq-eqb, eqb-true, ne_eqb}
 use Rattle.std.proofs.lemmas.List.{append-nil}
 use Rattle.std.proofs.lemmas.List.Elements.{filter-append, filter_map-append}
 use Rattle.std.proofs.lemmas.List.Sums.{fold-append}
-use Rattle.gx_units.specs.Names.{same_stock}
+use Rattle.gx_units.specs.declared.names.AccountName.{AccountName}
 use Rattle.gx_units.specs.declared.names.Symbol.{Symbol}
+use Rattle.gx_units.specs.Names.{same_stock}
 use Rattle.gx_ouch.specs.declared.outbound.OrderTerms.{OrderTerms}
 use Rattle.gx_policy.specs.declared.policy.PolicyData.{PolicyData}
 use Rattle.gx_policy.specs.Lists.{in_order, placed}
-use Rattle.gx_history.specs.declared.live_order.LiveOrder.{LiveOrder}
-use Rattle.gx_history.specs.declared.record.RecordData.{RecordData}
-use Rattle.gx_history.specs.declared.record.Step.{Step}
-use Rattle.gx_history.specs.Book.{rested, rested_of}
-use Rattle.gx_history.specs.Figures.{is_on}
-use Rattle.gx_units.specs.declared.names.AccountName.{AccountName}
-use Rattle.gx_units.specs.declared.names.UserName.{UserName}
 use Rattle.gx_policy.specs.People.{account_of}
+use Rattle.gx_history.specs.declared.live_order.LiveOrder.{LiveOrder}
+use Rattle.gx_history.specs.declared.record.Asked.{Asked}
+use Rattle.gx_history.specs.declared.record.RecordData.{RecordData}
 use Rattle.gx_history.specs.declared.record.Request.{Request}
 use Rattle.gx_history.specs.declared.record.Request.TheVariants as requests
+use Rattle.gx_history.specs.declared.record.Step.{Step}
 use Rattle.gx_history.specs.declared.record.Step.TheVariants as steps
 use Rattle.gx_history.specs.declared.record.Verdict.{Verdict}
 use Rattle.gx_history.specs.declared.record.Verdict.TheVariants as verdicts
-use Rattle.gx_history.specs.LiveOrders.{kept, replacement_order}
-use Rattle.gx_history.specs.Executions.{is_live, live_orders, standings}
+use Rattle.gx_history.specs.Book.{is_on, rested, rested_of}
+use Rattle.gx_history.specs.Live.{waiting, ahead, is_there, side, has_come, live_numbered, live, live_under}
+use Rattle.gx_history.specs.LiveOrders.{replacement_order}
+use Rattle.gx_history.specs.MayMove.{MayRest}
 use Rattle.gx_history.specs.Orders.{ends_account}
-use Rattle.gx_history.specs.Verdicts.{IsLegal, next}
-use Rattle.gx_history.specs.Turns.{has_come, Turn, Keeps, Adds, Sizes, Replaces, EndsAll, Fills, Rests, Ends, SidesGoOn, WaitingGoesOn, ahead, becomes, is_there, live, live_numbered, live_under, new_in, new_order, side, side_turned, turn_asked, turn_by, turn_of, turned, waiting, waiting_turned, while_open}
 use Rattle.gx_history.specs.Requests.{is_judged}
+use Rattle.gx_history.specs.Turns.{Turn, Keeps, Adds, Sizes, Replaces, EndsAll, Fills, Rests, Ends, becomes, new_in, new_order, side_turned, turned, waiting_turned, while_open}
+use Rattle.gx_history.specs.Verdicts.{IsLegal, next}
+use Rattle.gx_history.specs.World as moves
+use Rattle.gx_history.specs.World.{Move, SidesGoOn, WaitingGoesOn, World, move_asked, turn_by, turn_in, turn_of, world}
 use Rattle.gx_history_laws.proofs.Granting.{asked_is_judged}
 use Rattle.gx_history_laws.proofs.NextOrders.{rested_next}
-use Rattle.gx_effects.proofs.Entered.{rested_are_within}
-use Rattle.gx_effects.proofs.Rests.{IsRest, is_rest}
 use Rattle.gx_history_laws.proofs.Numbers.{all_weaker, number_left}
-use Rattle.gx_effects.proofs.Apart.{AreApart, apart_filter}
-use Rattle.gx_effects.proofs.Known.{map_apart, number_in, standings_apart}
-use Rattle.gx_effects.proofs.Live.{each_turned, live_is_kept, live_next}
+use Rattle.gx_effects.proofs.Apart.{AreApart}
+use Rattle.gx_effects.proofs.Known.{first_waiting, live_apart, number_found}
+use Rattle.gx_effects.proofs.Live.{each_turned, live_next}
+use Rattle.gx_effects.proofs.Matches.{may_match}
 use Rattle.gx_effects.proofs.Orderly.{IsOrderly, legal_is_orderly}
 use Rattle.gx_effects.proofs.Priority.{IsParted, IsRanking, lower, no_lower, placed_parted}
 
 -- an order that goes on has its number and its terms, and waits as before unless it is put to rest
 abbrev pub IsSame : Bool → LiveOrder → LiveOrder → Type 0
-IsSame rests o x = (x.number ≡ o.number) × (x.terms ≡ o.terms) × (rests ≡ false → x.waits ≡ o.waits)
+IsSame rests o x = (x.number ≡ o.number) × (x.terms ≡ o.terms) × (rests ≡ false → x.waits ≡ o.waits) × (x.account ≡ o.account)
 
 it_is : (rests : Bool) (o x : LiveOrder) → o ≡ x → IsSame rests o x
-it_is rests o x e = (ap (λ (y : LiveOrder). y.number) (sym e), ap (λ (y : LiveOrder). y.terms) (sym e), λ h. ap (λ (y : LiveOrder). y.waits) (sym e))
+it_is rests o x e = (ap (λ (y : LiveOrder). y.number) (sym e), ap (λ (y : LiveOrder). y.terms) (sym e), λ h. ap (λ (y : LiveOrder). y.waits) (sym e), ap (λ (y : LiveOrder). y.account) (sym e))
 
 some_is : {X : Type 0} (x y : X) → Some x ≡ Some y → x ≡ y
 some_is x y e = cc
@@ -77,17 +78,17 @@ puts_to_rest other = false
 pub becomes_same : (turn : Turn) (o x : LiveOrder) → becomes turn o ≡ Some x → IsSame (puts_to_rest turn) o x
 becomes_same Keeps o x h = it_is false o x (some_is o x h)
 becomes_same (Adds new) o x h = it_is false o x (some_is o x h)
-becomes_same (Sizes number size) o x h = open_or_not (o.number == number) o (record o { total = size }) x (refl, refl, λ k. refl) h
+becomes_same (Sizes number size) o x h = open_or_not (o.number == number) o (record o { total = size }) x (refl, refl, λ k. refl, refl) h
 becomes_same (Replaces number new) o x h = gone_or_not (o.number == number) o x h
 becomes_same (EndsAll action) o x h = gone_or_not (ends_account o.account action) o x h
-becomes_same (Fills f) o x h = open_or_not (o.number == f.taker || o.number == f.maker) o (record o { done = o.done + f.shares }) x (refl, refl, λ k. refl) h
+becomes_same (Fills f) o x h = open_or_not (o.number == f.taker || o.number == f.maker) o (record o { done = o.done + f.shares }) x (refl, refl, λ k. refl, refl) h
 becomes_same (Rests number) o x h = at (number == o.number) h
   where
     never : {X : Type 0} → true ≡ false → X
     never e = cc
 
     at : (b : Bool) → Some (cond b (record o { waits = false }) o) ≡ Some x → IsSame true o x
-    at true k = let e : record o { waits = false } ≡ x = some_is (record o { waits = false }) x k in (ap (λ (y : LiveOrder). y.number) (sym e), ap (λ (y : LiveOrder). y.terms) (sym e), λ l. never l)
+    at true k = let e : record o { waits = false } ≡ x = some_is (record o { waits = false }) x k in (ap (λ (y : LiveOrder). y.number) (sym e), ap (λ (y : LiveOrder). y.terms) (sym e), λ l. never l, ap (λ (y : LiveOrder). y.account) (sym e))
     at false k = it_is true o x (some_is o x k)
 becomes_same (Ends number) o x h = gone_or_not (number == o.number) o x h
 
@@ -169,31 +170,34 @@ all_wait (o ∷ os) number h = ap (λ (b : Bool). cond b (o ∷ filter (λ (o : 
 abbrev pub AreNew : RecordData → Turn → Type 0
 AreNew r turn = AllByRecursion (λ (o : LiveOrder). (o.number ≡ r.number) × (o.waits ≡ true)) (new_in turn)
 
-new_asked : (policy : PolicyData) (found : List LiveOrder) (r : RecordData) (user : UserName) (q : Request) → AreNew r (turn_asked policy found r user q)
-new_asked policy found r user (requests.Enter m) =
-    elim (account_of policy user) as (λ (x : Option AccountName). AreNew r (option_map_or (λ (account : AccountName). Adds (new_order policy r user account m)) x Keeps)) [ None ↦ tt | Some account ↦ ((refl, refl), tt) ]
-new_asked policy found r user (requests.Replace m) =
-    elim (live_under found user m.existing_token) as (λ (x : Option LiveOrder). AreNew r (option_map_or (λ (old : LiveOrder). Replaces old.number (replacement_order r m old)) x Keeps)) [ None ↦ tt | Some old ↦ ((refl, refl), tt) ]
-new_asked policy found r user (requests.Cancel m) =
-    elim (live_under found user m.token) as (λ (x : Option LiveOrder). AreNew r (option_map_or (λ (cut : LiveOrder). Sizes cut.number m.shares) x Keeps)) [ None ↦ tt | Some cut ↦ tt ]
-new_asked policy found r user other = tt
+-- what holds of what no order or account does, and of what each does, holds of what the one that is found does
+found_turns : {U : Type 0} (P : Turn → Type 0) (make : U → Move) → P Keeps → ((u : U) → P (turn_in (make u))) → (found : Option U) → P (turn_in (option_map_or make found moves.Nothing))
+found_turns P make none each None = none
+found_turns P make none each (Some u) = each u
 
-pub new_by : (policy : PolicyData) (found : List LiveOrder) (r : RecordData) (v : Verdict) (s : Step) → AreNew r (turn_by policy found r v s)
-new_by policy found r verdicts.Granted (steps.Asked a) = new_asked policy found r a.user a.request
-new_by policy found r verdicts.Granted (steps.Matching handed) = tt
-new_by policy found r (verdicts.Denied rule) s = tt
-new_by policy found r (verdicts.Filled f) s = tt
-new_by policy found r (verdicts.Rested number) s = tt
-new_by policy found r (verdicts.Expired number) s = tt
+new_asked : (policy : PolicyData) (w : World) (r : RecordData) (a : Asked) (q : Request) → AreNew r (turn_in (move_asked policy w r a q))
+new_asked policy w r a (requests.Enter m) = found_turns (AreNew r) (λ (account : AccountName). moves.Adds (new_order policy r a.user account m)) tt (λ account. ((refl, refl), tt)) (account_of policy a.user)
+new_asked policy w r a (requests.Replace m) = found_turns (AreNew r) (λ (old : LiveOrder). moves.Replaces old (replacement_order r m old)) tt (λ old. ((refl, refl), tt)) (live_under w.live a.user m.existing_token)
+new_asked policy w r a (requests.Cancel m) = found_turns (AreNew r) (λ (cut : LiveOrder). moves.Sizes cut m.shares) tt (λ cut. tt) (live_under w.live a.user m.token)
+new_asked policy w r a other = tt
+
+pub new_by : (policy : PolicyData) (w : World) (r : RecordData) (v : Verdict) (s : Step) → AreNew r (turn_by policy w r v s)
+new_by policy w r verdicts.Granted (steps.Asked a) = new_asked policy w r a a.request
+new_by policy w r verdicts.Granted (steps.Matching handed) = tt
+new_by policy w r (verdicts.Denied rule) (steps.Asked a) = tt
+new_by policy w r (verdicts.Denied rule) (steps.Matching handed) = tt
+new_by policy w r (verdicts.Filled f) s = tt
+new_by policy w r (verdicts.Rested number) s = tt
+new_by policy w r (verdicts.Expired number) s = tt
 
 -- those that wait
-waits_turned : (r : RecordData) (turn : Turn) (os : List LiveOrder) → puts_to_rest turn ≡ false → AreNew r turn → filter (λ (o : LiveOrder). o.waits) (turned turn os) ≡ turned turn (filter (λ (o : LiveOrder). o.waits) os)
+pub waits_turned : (r : RecordData) (turn : Turn) (os : List LiveOrder) → puts_to_rest turn ≡ false → AreNew r turn → filter (λ (o : LiveOrder). o.waits) (turned turn os) ≡ turned turn (filter (λ (o : LiveOrder). o.waits) os)
 waits_turned r turn os goes new =
     filter-append (λ (o : LiveOrder). o.waits) (filter_map (becomes turn) os) (new_in turn)
     ∙ ap (λ (more : List LiveOrder). filter (λ (o : LiveOrder). o.waits) (filter_map (becomes turn) os) ++ more) (all_wait (new_in turn) r.number new)
     ∙ ap (λ (found : List LiveOrder). found ++ new_in turn) (filter_turned (λ (o : LiveOrder). o.waits) (λ (o : LiveOrder). o.waits) (becomes turn) (λ o x k. (becomes_same turn o x k).2 goes) os)
 
-waits_rested : (number : ℕ) (os : List LiveOrder) → filter (λ (o : LiveOrder). o.waits) (turned (Rests number) os) ≡ filter (λ (o : LiveOrder). not (number == o.number)) (filter (λ (o : LiveOrder). o.waits) os)
+pub waits_rested : (number : ℕ) (os : List LiveOrder) → filter (λ (o : LiveOrder). o.waits) (turned (Rests number) os) ≡ filter (λ (o : LiveOrder). not (number == o.number)) (filter (λ (o : LiveOrder). o.waits) os)
 waits_rested number os = ap (filter (λ (o : LiveOrder). o.waits)) (append-nil (filter_map (becomes (Rests number)) os)) ∙ each os
   where
     each : (os : List LiveOrder) → filter (λ (o : LiveOrder). o.waits) (filter_map (becomes (Rests number)) os) ≡ filter (λ (o : LiveOrder). not (number == o.number)) (filter (λ (o : LiveOrder). o.waits) os)
@@ -216,7 +220,7 @@ waits_rested number os = ap (filter (λ (o : LiveOrder). o.waits)) (append-nil (
 pub waiting_next : WaitingGoesOn
 unfolding waiting
 waiting_next policy history step r legal left =
-    ap (filter (λ (o : LiveOrder). o.waits)) (live_next policy history step r legal left) ∙ by (turn_of policy (live policy history) r) (new_by policy (live policy history) r r.verdict r.step)
+    ap (filter (λ (o : LiveOrder). o.waits)) (live_next policy history step r legal left) ∙ by (turn_of policy (world policy history) r) (new_by policy (world policy history) r r.verdict r.step)
   where
     by : (turn : Turn) → AreNew r turn → filter (λ (o : LiveOrder). o.waits) (turned turn (live policy history)) ≡ waiting_turned turn (filter (λ (o : LiveOrder). o.waits) (live policy history))
     by (Rests number) new = waits_rested number (live policy history)
@@ -228,19 +232,18 @@ waiting_next policy history step r legal left =
     by (Fills f) new = waits_turned r (Fills f) (live policy history) refl new
     by (Ends number) new = waits_turned r (Ends number) (live policy history) refl new
 
--- a price is better, and no better, in a row
-pub ahead_ranks : (buy : Bool) → IsRanking (ahead buy)
-ahead_ranks true = record {
+pub prices_rank : (buy : Bool) → IsRanking (ahead buy)
+prices_rank true = record {
   goes_on = λ (a b c : LiveOrder) h k. lower c.terms.price b.terms.price a.terms.price k h;
   stays_behind = λ (a b c : LiveOrder) h k. no_lower c.terms.price b.terms.price a.terms.price k h;
 }
-ahead_ranks false = record {
+prices_rank false = record {
   goes_on = λ (a b c : LiveOrder) h k. lower a.terms.price b.terms.price c.terms.price h k;
   stays_behind = λ (a b c : LiveOrder) h k. no_lower a.terms.price b.terms.price c.terms.price h k;
 }
 
-ahead_alike : (buy : Bool) (x y u v : LiveOrder) → u.terms ≡ x.terms → v.terms ≡ y.terms → ahead buy u v ≡ ahead buy x y
-ahead_alike buy x y u v e f = ap (λ (t : OrderTerms). cond buy (nat_lt v.terms.price t.price) (nat_lt t.price v.terms.price)) e ∙ ap (λ (t : OrderTerms). cond buy (nat_lt t.price x.terms.price) (nat_lt x.terms.price t.price)) f
+price_alike : (buy : Bool) (x y u v : LiveOrder) → u.terms ≡ x.terms → v.terms ≡ y.terms → ahead buy u v ≡ ahead buy x y
+price_alike buy x y u v e f = ap (λ (t : OrderTerms). cond buy (nat_lt v.terms.price t.price) (nat_lt t.price v.terms.price)) e ∙ ap (λ (t : OrderTerms). cond buy (nat_lt t.price x.terms.price) (nat_lt x.terms.price t.price)) f
 
 there_alike : (stock : Symbol) (buy : Bool) (o x : LiveOrder) → x.terms ≡ o.terms → is_there stock buy x ≡ is_there stock buy o
 there_alike stock buy o x e = ap (λ (t : OrderTerms). same_stock t.stock stock && is_on buy t.side) e
@@ -248,12 +251,6 @@ there_alike stock buy o x e = ap (λ (t : OrderTerms). same_stock t.stock stock 
 -- a side of those that are found by these numbers
 abbrev side_of : List LiveOrder → List ℕ → Symbol → Bool → List LiveOrder
 side_of found came stock buy = in_order (ahead buy) (filter (is_there stock buy) (filter_map (live_numbered found) came))
-
-pub live_apart : (policy : PolicyData) (history : List RecordData) → IsOrderly policy history → AreApart (λ (o : LiveOrder). o.number) (live policy history)
-unfolding live_orders
-live_apart policy history orderly =
-    subst (AreApart (λ (o : LiveOrder). o.number)) (sym (live_is_kept policy history))
-    (map_apart (λ (o : LiveOrder). o.number) (kept policy history) (filter is_live (standings policy history)) (apart_filter number_in is_live (standings policy history) (standings_apart policy history orderly)))
 
 -- where no order comes to rest
 side_goes_on : (turn : Turn) (r : RecordData) (os : List LiveOrder) (came : List ℕ) (stock : Symbol) (buy : Bool) → AreApart (λ (o : LiveOrder). o.number) os → AreNew r turn → AllByRecursion (λ (n : ℕ). r.number ≡ n → ⊥) came
@@ -264,17 +261,9 @@ side_goes_on turn r os came stock buy apart new others =
     (all_weaker (λ (n : ℕ). r.number ≡ n → ⊥) (λ (n : ℕ). live_numbered (turned turn os) n ≡ option_and_then (becomes turn) (live_numbered os n))
     (λ n other. found_front (filter_map (becomes turn) os) (new_in turn) n (none_new n r.number (new_in turn) other new) ∙ found_turned (becomes turn) (λ o x k. (becomes_same turn o x k).0) os apart n) came others))
     ∙ ap (in_order (ahead buy)) (filter_turned (is_there stock buy) (is_there stock buy) (becomes turn) (λ o x k. there_alike stock buy o x (becomes_same turn o x k).1) (filter_map (live_numbered os) came))
-    ∙ places_turned (ahead buy) (ahead_ranks buy) (becomes turn) (λ x y u v e f. ahead_alike buy x y u v (becomes_same turn x u e).1 (becomes_same turn y v f).1) [] (filter (is_there stock buy) (filter_map (live_numbered os) came)) (λ x. refl)
+    ∙ places_turned (ahead buy) (prices_rank buy) (becomes turn) (λ x y u v e f. price_alike buy x y u v (becomes_same turn x u e).1 (becomes_same turn y v f).1) [] (filter (is_there stock buy) (filter_map (live_numbered os) came)) (λ x. refl)
 
 -- where one does
-pub number_found : (os : List LiveOrder) (n : ℕ) (o : LiveOrder) → live_numbered os n ≡ Some o → (o.number == n) ≡ true
-number_found [] n o h = cc
-number_found (x ∷ os) n o h = at (x.number == n) refl h (number_found os n o)
-  where
-    at : (b : Bool) → (x.number == n) ≡ b → cond b (Some x) (live_numbered os n) ≡ Some o → (live_numbered os n ≡ Some o → (o.number == n) ≡ true) → (o.number == n) ≡ true
-    at true e k deeper = ap (λ (y : LiveOrder). y.number == n) (sym (some_is x o k)) ∙ e
-    at false e k deeper = deeper k
-
 rests_beside : (number n : ℕ) (found : Option LiveOrder) → ((o : LiveOrder) → found ≡ Some o → (o.number == n) ≡ true) → (number ≡ n → ⊥) → option_and_then (becomes (Rests number)) found ≡ found
 rests_beside number n None is other = refl
 rests_beside number n (Some o) is other = ap (λ (b : Bool). Some (cond b (record o { waits = false }) o)) (ne_eqb number o.number (λ e. other (e ∙ eqb-true o.number n (is o refl))))
@@ -332,7 +321,7 @@ rested_stays : (history : List RecordData) (r : RecordData) (v : Verdict) → r.
 rested_stays history r v e none = rested_next history r ∙ ap (λ (x : Verdict). rested history ++ option_to_list (rested_of x)) e ∙ ap (λ (x : Option ℕ). rested history ++ option_to_list x) none ∙ append-nil (rested history)
 
 -- any turn but a rest
-other_turn : (turn : Turn) (os : List LiveOrder) (stock : Symbol) (buy : Bool) (found : List LiveOrder) → puts_to_rest turn ≡ false → filter_map (becomes turn) found ≡ side_turned turn os stock buy found
+pub other_turn : (turn : Turn) (os : List LiveOrder) (stock : Symbol) (buy : Bool) (found : List LiveOrder) → puts_to_rest turn ≡ false → filter_map (becomes turn) found ≡ side_turned turn os stock buy found
 other_turn Keeps os stock buy found h = refl
 other_turn (Adds o) os stock buy found h = refl
 other_turn (Sizes number size) os stock buy found h = refl
@@ -342,32 +331,35 @@ other_turn (Fills f) os stock buy found h = refl
 other_turn (Rests number) os stock buy found h = cc
 other_turn (Ends number) os stock buy found h = refl
 
-goes_by : (policy : PolicyData) (found : List LiveOrder) (r : RecordData) (q : Request) (user : UserName) → puts_to_rest (turn_asked policy found r user q) ≡ false
-goes_by policy found r (requests.Enter m) user = elim (account_of policy user) as (λ (x : Option AccountName). puts_to_rest (option_map_or (λ (account : AccountName). Adds (new_order policy r user account m)) x Keeps) ≡ false) [ None ↦ refl | Some account ↦ refl ]
-goes_by policy found r (requests.Replace m) user =
-    elim (live_under found user m.existing_token) as (λ (x : Option LiveOrder). puts_to_rest (option_map_or (λ (old : LiveOrder). Replaces old.number (replacement_order r m old)) x Keeps) ≡ false) [ None ↦ refl | Some old ↦ refl ]
-goes_by policy found r (requests.Cancel m) user = elim (live_under found user m.token) as (λ (x : Option LiveOrder). puts_to_rest (option_map_or (λ (cut : LiveOrder). Sizes cut.number m.shares) x Keeps) ≡ false) [ None ↦ refl | Some cut ↦ refl ]
-goes_by policy found r other user = refl
+abbrev GoesOn : Turn → Type 0
+GoesOn turn = puts_to_rest turn ≡ false
 
-pub goes : (policy : PolicyData) (found : List LiveOrder) (r : RecordData) (v : Verdict) (s : Step) → rested_of v ≡ None → puts_to_rest (turn_by policy found r v s) ≡ false
-goes policy found r verdicts.Granted (steps.Asked a) h = goes_by policy found r a.request a.user
-goes policy found r verdicts.Granted (steps.Matching handed) h = refl
-goes policy found r (verdicts.Denied rule) s h = refl
-goes policy found r (verdicts.Filled f) s h = refl
-goes policy found r (verdicts.Rested number) s h = cc
-goes policy found r (verdicts.Expired number) s h = refl
+goes_by : (policy : PolicyData) (w : World) (r : RecordData) (a : Asked) (q : Request) → GoesOn (turn_in (move_asked policy w r a q))
+goes_by policy w r a (requests.Enter m) = found_turns GoesOn (λ (account : AccountName). moves.Adds (new_order policy r a.user account m)) refl (λ account. refl) (account_of policy a.user)
+goes_by policy w r a (requests.Replace m) = found_turns GoesOn (λ (old : LiveOrder). moves.Replaces old (replacement_order r m old)) refl (λ old. refl) (live_under w.live a.user m.existing_token)
+goes_by policy w r a (requests.Cancel m) = found_turns GoesOn (λ (cut : LiveOrder). moves.Sizes cut m.shares) refl (λ cut. refl) (live_under w.live a.user m.token)
+goes_by policy w r a other = refl
+
+pub goes : (policy : PolicyData) (w : World) (r : RecordData) (v : Verdict) (s : Step) → rested_of v ≡ None → GoesOn (turn_by policy w r v s)
+goes policy w r verdicts.Granted (steps.Asked a) h = goes_by policy w r a a.request
+goes policy w r verdicts.Granted (steps.Matching handed) h = refl
+goes policy w r (verdicts.Denied rule) (steps.Asked a) h = refl
+goes policy w r (verdicts.Denied rule) (steps.Matching handed) h = refl
+goes policy w r (verdicts.Filled f) s h = refl
+goes policy w r (verdicts.Rested number) s h = cc
+goes policy w r (verdicts.Expired number) s h = refl
 
 -- a record that puts none to rest
 side_kept : (policy : PolicyData) (history : List RecordData) (step : Step) (r : RecordData) (stock : Symbol) (buy : Bool) → IsLegal policy history → next policy history step ≡ Some r → (v : Verdict) → r.verdict ≡ v → rested_of v ≡ None
-    → side policy (history ++ r ∷ []) stock buy ≡ side_turned (turn_by policy (live policy history) r v r.step) (live policy history) stock buy (side policy history stock buy)
+    → side policy (history ++ r ∷ []) stock buy ≡ side_turned (turn_by policy (world policy history) r v r.step) (live policy history) stock buy (side policy history stock buy)
 unfolding side
 side_kept policy history step r stock buy legal left v e none =
-    let turn : Turn = turn_by policy (live policy history) r v r.step in
+    let turn : Turn = turn_by policy (world policy history) r v r.step in
     ap (λ (ns : List ℕ). side_of (live policy (history ++ r ∷ [])) ns stock buy) (rested_stays history r v e none)
-    ∙ ap (λ (os : List LiveOrder). side_of os (rested history) stock buy) (live_next policy history step r legal left ∙ ap (λ (x : Verdict). turned (turn_by policy (live policy history) r x r.step) (live policy history)) e)
-    ∙ side_goes_on turn r (live policy history) (rested history) stock buy (live_apart policy history (legal_is_orderly policy history legal)) (new_by policy (live policy history) r v r.step)
-    (later (length history) r.number (rested history) (number_left policy history step r left) (rested_are_within policy history legal))
-    ∙ other_turn turn (live policy history) stock buy (side policy history stock buy) (goes policy (live policy history) r v r.step none)
+    ∙ ap (λ (os : List LiveOrder). side_of os (rested history) stock buy) (live_next policy history step r legal left ∙ ap (λ (x : Verdict). turned (turn_by policy (world policy history) r x r.step) (live policy history)) e)
+    ∙ side_goes_on turn r (live policy history) (rested history) stock buy (live_apart policy history (legal_is_orderly policy history legal)) (new_by policy (world policy history) r v r.step)
+    (later (length history) r.number (rested history) (number_left policy history step r left) (legal_is_orderly policy history legal).rested_within)
+    ∙ other_turn turn (live policy history) stock buy (side policy history stock buy) (goes policy (world policy history) r v r.step none)
 
 -- a record that does
 side_more : (policy : PolicyData) (history : List RecordData) (handed : ℕ) (r : RecordData) (stock : Symbol) (buy : Bool) (number : ℕ) → IsLegal policy history → next policy history (steps.Matching handed) ≡ Some r → r.verdict ≡ verdicts.Rested number
@@ -375,13 +367,13 @@ side_more : (policy : PolicyData) (history : List RecordData) (handed : ℕ) (r 
 unfolding side
 side_more policy history handed r stock buy number legal left e =
     let orderly : IsOrderly policy history = legal_is_orderly policy history legal in
-    let is : IsRest policy history r number = is_rest policy history handed r number orderly left e in
+    let may : MayRest (world policy history) r number = may_match policy history handed r (verdicts.Rested number) left e in
     ap (λ (ns : List ℕ). side_of (live policy (history ++ r ∷ [])) ns stock buy) (rested_next history r ∙ ap (λ (v : Verdict). rested history ++ option_to_list (rested_of v)) e)
-    ∙ ap (λ (os : List LiveOrder). side_of os (rested history ++ number ∷ []) stock buy) (live_next policy history (steps.Matching handed) r legal left ∙ ap (λ (x : Verdict). turned (turn_by policy (live policy history) r x r.step) (live policy history)) e)
-    ∙ side_rests number (live policy history) (rested history) stock buy (live_apart policy history orderly) (none_of number (rested history) (ap (has_come (rested history)) is.has_number ∙ is.first_waits.has_not_rested))
+    ∙ ap (λ (os : List LiveOrder). side_of os (rested history ++ number ∷ []) stock buy) (live_next policy history (steps.Matching handed) r legal left ∙ ap (λ (x : Verdict). turned (turn_by policy (world policy history) r x r.step) (live policy history)) e)
+    ∙ side_rests number (live policy history) (rested history) stock buy (live_apart policy history orderly) (none_of number (rested history) (ap (has_come (rested history)) may.has_number ∙ (first_waiting policy history may.first may.waiting orderly may.comes_first).has_not_rested))
 
 by_verdict : (policy : PolicyData) (history : List RecordData) (step : Step) (r : RecordData) (stock : Symbol) (buy : Bool) → IsLegal policy history → next policy history step ≡ Some r → (v : Verdict) → r.verdict ≡ v
-    → side policy (history ++ r ∷ []) stock buy ≡ side_turned (turn_by policy (live policy history) r v r.step) (live policy history) stock buy (side policy history stock buy)
+    → side policy (history ++ r ∷ []) stock buy ≡ side_turned (turn_by policy (world policy history) r v r.step) (live policy history) stock buy (side policy history stock buy)
 by_verdict policy history step r stock buy legal left verdicts.Granted e = side_kept policy history step r stock buy legal left verdicts.Granted e refl
 by_verdict policy history step r stock buy legal left (verdicts.Denied rule) e = side_kept policy history step r stock buy legal left (verdicts.Denied rule) e refl
 by_verdict policy history step r stock buy legal left (verdicts.Filled f) e = side_kept policy history step r stock buy legal left (verdicts.Filled f) e refl

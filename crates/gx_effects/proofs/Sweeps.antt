@@ -1,119 +1,95 @@
 -- A Kill ends the rest of a sweep: until a Lift no matching step fills an order of the account.
-use Rattle.std.proofs.Common.{◌≡◌, ℕ, ◌≤◌, Bool, true, false, List, [], ◌∷◌, ◌++◌, refl, ◌∙◌, ap, sym, map, arith, append_assoc}
+use Rattle.std.proofs.Common.{◌≡◌, ℕ, true, false, List, [], ◌∷◌, ◌++◌, refl, ◌∙◌, ap, sym, append_assoc}
 use Rattle.std.proofs.Math.Path.{subst}
-use Rattle.std.specs.Prelude.{Some, ◌==◌, nat_lt}
-use Rattle.std.specs.List.{AllByRecursion}
-use Rattle.std.proofs.lemmas.Bool.{ltb-false}
+use Rattle.std.specs.Prelude.{Some, ◌==◌}
+use Rattle.std.specs.List.{AllByRecursion, filter_map}
 use Rattle.std.proofs.lemmas.List.{append-nil}
-use Rattle.gx_units.specs.Names.{same_account}
 use Rattle.gx_units.specs.declared.names.AccountName.{AccountName}
+use Rattle.gx_units.specs.Names.{same_account}
 use Rattle.gx_policy.specs.declared.policy.PolicyData.{PolicyData}
+use Rattle.gx_history.specs.declared.live_order.LiveOrder.{LiveOrder}
 use Rattle.gx_history.specs.declared.record.Fill.{Fill}
 use Rattle.gx_history.specs.declared.record.RecordData.{RecordData}
 use Rattle.gx_history.specs.declared.record.Step.TheVariants as steps
 use Rattle.gx_history.specs.declared.record.Verdict.{Verdict}
 use Rattle.gx_history.specs.declared.record.Verdict.TheVariants as verdicts
-use Rattle.gx_history.specs.Executions.{Execution, Standing, standings, executions, sides, is_live}
+use Rattle.gx_history.specs.Executions.{Execution, executions, sides}
 use Rattle.gx_history.specs.InForce.{is_killed}
-use Rattle.gx_history.specs.Effects.{with_open, shares_left}
-use Rattle.gx_history.specs.Matched.{left_by_fill}
-use Rattle.gx_history.specs.Requests.{is_judged}
+use Rattle.gx_history.specs.Live.{live}
 use Rattle.gx_history.specs.Settling.{most_matches, settled, FillsNoneOf}
+use Rattle.gx_history.specs.Turns as turns
+use Rattle.gx_history.specs.Turns.{Turn, becomes}
 use Rattle.gx_history.specs.Verdicts.{next, IsLegal}
 use Rattle.gx_history_laws.proofs.NextOrders.{executions_next}
-use Rattle.gx_history_laws.proofs.Numbers.{all_weaker}
 use Rattle.gx_history_laws.proofs.Owners.{all_both}
-use Rattle.gx_effects.proofs.Emptied.{IsSpent, all_spent, live_is_others}
-use Rattle.gx_effects.proofs.Entered.{all_mapped}
-use Rattle.gx_effects.proofs.Expiries.{is_end, standings_ended, end_revives_none}
-use Rattle.gx_effects.proofs.Fills.{IsFill, is_fill, standings_filled, fill_revives_none, sides_are}
+use Rattle.gx_effects.proofs.Entered.{all_found_of}
+use Rattle.gx_effects.proofs.Fills.{IsFill, is_fill, sides_are}
+use Rattle.gx_effects.proofs.KilledAccounts.{IsOthers, killed_have_no_live}
 use Rattle.gx_effects.proofs.Known.{IsKnown}
-use Rattle.gx_effects.proofs.Lessening.{NoneRevives}
+use Rattle.gx_effects.proofs.Live.{by_match}
+use Rattle.gx_effects.proofs.Matches.{may_match}
 use Rattle.gx_effects.proofs.NewOrders.{found_is}
 use Rattle.gx_effects.proofs.Orderly.{IsOrderly, legal_is_orderly}
-use Rattle.gx_effects.proofs.Rests.{is_rest, same_standings}
-use Rattle.gx_effects.proofs.Settling.{not_judged, match_is_orderly, settled_keeps}
+use Rattle.gx_effects.proofs.Settling.{match_is_orderly, settled_keeps}
+use Rattle.gx_effects.proofs.Sides.{becomes_same}
 
--- nothing of the account's orders is open
-abbrev AreSpent : PolicyData → List RecordData → AccountName → Type 0
-AreSpent policy history account = AllByRecursion (IsSpent account) (standings policy history)
+-- no live order is of the account
+abbrev AreOthers : PolicyData → List RecordData → AccountName → Type 0
+AreOthers policy history account = AllByRecursion (IsOthers account) (live policy history)
 
-clash : {b : Bool} → b ≡ true → b ≡ false → ⊥
-clash h k = cc
+abbrev AreOfOthers : AccountName → List Execution → Type 0
+AreOfOthers account es = AllByRecursion (λ (e : Execution). same_account account e.order.account ≡ false) es
 
--- and nothing is, where no order revives
-spent_still : (account : AccountName) (open_now : Standing → ℕ) → NoneRevives open_now → (ss : List Standing) → AllByRecursion (IsSpent account) ss → AllByRecursion (IsSpent account) (map (with_open open_now) ss)
-spent_still account open_now none ss spent =
-    all_mapped (IsSpent account) (with_open open_now) ss (all_weaker (IsSpent account) (λ (s : Standing). IsSpent account (with_open open_now s)) (λ s h his. nothing s (h his) (nat_lt 0 (open_now s)) refl) ss spent)
+-- nor one of those that go on
+others_still : (turn : Turn) (account : AccountName) (os : List LiveOrder) → AllByRecursion (IsOthers account) os → AllByRecursion (IsOthers account) (filter_map (becomes turn) os ++ [])
+others_still turn account os h =
+    all_both (IsOthers account) (filter_map (becomes turn) os) []
+    (all_found_of (IsOthers account) (IsOthers account) (becomes turn) (λ o x others e. ap (same_account account) (becomes_same turn o x e).3 ∙ others) os h) tt
+
+-- the order of a side is of another account
+is_of_another : (policy : PolicyData) (history : List RecordData) (account : AccountName) (o : LiveOrder) → AreOthers policy history account → (known : IsKnown policy history o) → same_account account known.of.order.account ≡ false
+is_of_another policy history account o others known =
+    ap (λ (x : LiveOrder). same_account account x.account) known.of.is_it
+    ∙ found_is (IsOthers account) (λ (x : LiveOrder). x.number == o.number) (live policy history) o others known.is_found
+
+-- a matching step adds none of the account, and fills none
+match_leaves_alone : (policy : PolicyData) (history : List RecordData) (handed : ℕ) (r : RecordData) (account : AccountName) → IsOrderly policy history → AreOthers policy history account
+    → next policy history (steps.Matching handed) ≡ Some r → AreOthers policy (history ++ r ∷ []) account × AreOfOthers account (sides policy history r.verdict)
+match_leaves_alone policy history handed r account orderly others left = by r.verdict refl
   where
-    at_zero : (n m : ℕ) → n ≡ m → m ≤ 0 → n ≡ 0
-    at_zero n m e h = omega arith
+    then : (turn : Turn) → live policy (history ++ r ∷ []) ≡ filter_map (becomes turn) (live policy history) ++ [] → AreOthers policy (history ++ r ∷ []) account
+    then turn e = subst (AllByRecursion (IsOthers account)) (sym e) (others_still turn account (live policy history) others)
 
-    nothing : (s : Standing) → s.open_shares ≡ 0 → (b : Bool) → nat_lt 0 (open_now s) ≡ b → open_now s ≡ 0
-    nothing s e true k = absurd (clash (none s k) (ap (nat_lt 0) e))
-    nothing s e false k = at_zero (open_now s) (open_now s) refl (ltb-false 0 (open_now s) k)
+    none : (v : Verdict) → r.verdict ≡ v → sides policy history v ≡ [] → AreOfOthers account (sides policy history r.verdict)
+    none v e h = subst (AreOfOthers account) (sym (ap (sides policy history) e ∙ h)) tt
 
--- a live order is of another account
-is_of_another : (policy : PolicyData) (history : List RecordData) (account : AccountName) (s : Standing) → AreSpent policy history account → IsKnown policy history s → is_live s ≡ true → same_account account s.order.account ≡ false
-is_of_another policy history account s spent known lives =
-    live_is_others account s (found_is (IsSpent account) (λ (x : Standing). x.order.number == s.order.number) (standings policy history) s spent known.is_found) lives
+    both : (f : Fill) → IsFill policy history r f → AreOfOthers account (sides policy history r.verdict)
+    both f is =
+        subst (AreOfOthers account) (sym (sides_are policy history r f is))
+        (is_of_another policy history account is.may.taker others is.taker_waits.known, (is_of_another policy history account is.may.maker others is.maker_rests.known, tt))
 
--- what a matching step does where nothing of the account is open
-pub record LeavesAlone (policy : PolicyData) (history : List RecordData) (r : RecordData) (account : AccountName) : Type 0 where
-  pub still_spent : AreSpent policy (history ++ r ∷ []) account
-  pub fills_others : AllByRecursion (λ (e : Execution). same_account account e.order.account ≡ false) (sides policy history r.verdict)
-
-pub match_leaves_alone : (policy : PolicyData) (history : List RecordData) (handed : ℕ) (r : RecordData) (account : AccountName) → IsOrderly policy history → AreSpent policy history account
-    → next policy history (steps.Matching handed) ≡ Some r → LeavesAlone policy history r account
-match_leaves_alone policy history handed r account orderly spent left = by_verdict r.verdict refl
-  where
-    none : (v : Verdict) → r.verdict ≡ v → sides policy history v ≡ [] → AllByRecursion (λ (e : Execution). same_account account e.order.account ≡ false) (sides policy history r.verdict)
-    none v e h = subst (AllByRecursion (λ (x : Execution). same_account account x.order.account ≡ false)) (sym (ap (sides policy history) e ∙ h)) tt
-
-    never : (v : Verdict) → r.verdict ≡ v → is_judged v ≡ true → LeavesAlone policy history r account
-    never v e h = absurd (clash (ap is_judged e ∙ h) (not_judged policy history handed r left))
-
-    of_fill : (f : Fill) → IsFill policy history r f → LeavesAlone policy history r account
-    of_fill f is = record {
-      still_spent =
-          subst (AllByRecursion (IsSpent account)) (sym (standings_filled policy history r f orderly is))
-          (spent_still account (left_by_fill f) (fill_revives_none f) (standings policy history) spent);
-      fills_others = subst (AllByRecursion (λ (e : Execution). same_account account e.order.account ≡ false)) (sym (sides_are policy history r f is)) (
-        is_of_another policy history account is.taker spent is.taker_waits.known is.taker_waits.lives,
-        (is_of_another policy history account is.maker spent is.maker_rests.known is.maker_rests.there.lives, tt),
-      );
-    }
-
-    by_verdict : (v : Verdict) → r.verdict ≡ v → LeavesAlone policy history r account
-    by_verdict verdicts.Granted e = never verdicts.Granted e refl
-    by_verdict (verdicts.Denied rule) e = never (verdicts.Denied rule) e refl
-    by_verdict (verdicts.Filled f) e = of_fill f (is_fill policy history handed r f orderly left e)
-    by_verdict (verdicts.Rested n) e = record {
-      still_spent = subst (AllByRecursion (IsSpent account)) (sym (same_standings policy history r n (is_rest policy history handed r n orderly left e))) spent;
-      fills_others = none (verdicts.Rested n) e refl;
-    }
-    by_verdict (verdicts.Expired n) e = record {
-      still_spent =
-          subst (AllByRecursion (IsSpent account)) (sym (standings_ended policy history r n orderly (is_end policy history handed r n orderly left e)))
-          (spent_still account (shares_left n 0) (end_revives_none n) (standings policy history) spent);
-      fills_others = none (verdicts.Expired n) e refl;
-    }
+    by : (v : Verdict) → r.verdict ≡ v → AreOthers policy (history ++ r ∷ []) account × AreOfOthers account (sides policy history r.verdict)
+    by verdicts.Granted e = absurd (may_match policy history handed r verdicts.Granted left e)
+    by (verdicts.Denied rule) e = absurd (may_match policy history handed r (verdicts.Denied rule) left e)
+    by (verdicts.Filled f) e = (then (turns.Fills f) (by_match policy history handed r orderly left (verdicts.Filled f) e), both f (is_fill policy history handed r f orderly left e))
+    by (verdicts.Rested n) e = (then (turns.Rests n) (by_match policy history handed r orderly left (verdicts.Rested n) e), none (verdicts.Rested n) e refl)
+    by (verdicts.Expired n) e = (then (turns.Ends n) (by_match policy history handed r orderly left (verdicts.Expired n) e), none (verdicts.Expired n) e refl)
 
 abbrev GoesOnWithout : PolicyData → List RecordData → AccountName → List RecordData → Type 0
-GoesOnWithout policy history account h = IsOrderly policy h × AreSpent policy h account × FillsNoneOf policy history h account
+GoesOnWithout policy history account h = IsOrderly policy h × AreOthers policy h account × FillsNoneOf policy history h account
 
 one_more : (policy : PolicyData) (history : List RecordData) (account : AccountName) (moment : ℕ) (h : List RecordData) (r : RecordData) → GoesOnWithout policy history account h
     → next policy h (steps.Matching moment) ≡ Some r → GoesOnWithout policy history account (h ++ r ∷ [])
 one_more policy history account moment h r kept left =
-    let alone : LeavesAlone policy h r account = match_leaves_alone policy h moment r account kept.0 kept.1 left in (
+    let alone : AreOthers policy (h ++ r ∷ []) account × AreOfOthers account (sides policy h r.verdict) = match_leaves_alone policy h moment r account kept.0 kept.1 left in (
       match_is_orderly policy h moment r kept.0 left,
-      alone.still_spent,
+      alone.0,
       record {
         more = kept.2.more ++ sides policy h r.verdict;
         executions_more =
             executions_next policy h r ∙ ap (λ (es : List Execution). es ++ sides policy h r.verdict) kept.2.executions_more
             ∙ append_assoc (executions policy history) kept.2.more (sides policy h r.verdict);
-        are_of_others = all_both (λ (e : Execution). same_account account e.order.account ≡ false) kept.2.more (sides policy h r.verdict) kept.2.are_of_others alone.fills_others;
+        are_of_others = all_both (λ (e : Execution). same_account account e.order.account ≡ false) kept.2.more (sides policy h r.verdict) kept.2.are_of_others alone.1;
       },
     )
 
@@ -123,4 +99,4 @@ pub killed_are_not_filled : (policy : PolicyData) (history : List RecordData) (a
 unfolding settled
 killed_are_not_filled policy history account moment legal killed =
     (settled_keeps policy moment (GoesOnWithout policy history account) (one_more policy history account moment) (most_matches policy history) history
-    (legal_is_orderly policy history legal, all_spent policy history account legal killed, record { more = []; executions_more = sym (append-nil (executions policy history)); are_of_others = tt })).2
+    (legal_is_orderly policy history legal, killed_have_no_live policy history legal account killed, record { more = []; executions_more = sym (append-nil (executions policy history)); are_of_others = tt })).2

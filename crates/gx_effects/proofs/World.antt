@@ -1,25 +1,26 @@
 -- One more record moves the world by what it does.
 use Rattle.std.proofs.Common.{◌≡◌, ℕ, ◌-◌, Bool, true, false, List, [], ◌∷◌, ◌++◌, refl, ◌∙◌, ap, sym, cond, map, fold}
 use Rattle.std.proofs.Math.Path.{subst}
-use Rattle.std.specs.Prelude.{Option, Some, None, ◌&&◌, ◌==◌, is_some, option_map, option_to_list}
+use Rattle.std.specs.Prelude.{Option, Some, None, ◌&&◌, is_some, option_to_list}
 use Rattle.std.specs.Option.{option_map_or}
-use Rattle.std.specs.List.{AllByRecursion, filter, filter_map, flat_map}
+use Rattle.std.specs.List.{filter, filter_map, flat_map}
 use Rattle.std.proofs.lemmas.List.{append-nil, length_push, map-append}
 use Rattle.std.proofs.lemmas.List.Sums.{fold_push}
-use Rattle.gx_units.specs.Names.{same_token, same_user}
 use Rattle.gx_units.specs.declared.names.AccountName.{AccountName}
 use Rattle.gx_units.specs.declared.names.Symbol.{Symbol}
 use Rattle.gx_units.specs.declared.names.Token.{Token}
 use Rattle.gx_units.specs.declared.names.UserName.{UserName}
+use Rattle.gx_units.specs.Names.{same_token, same_user}
 use Rattle.gx_ouch.specs.declared.letters.CancelReason.TheVariants as cancels
 use Rattle.gx_desk.specs.declared.Action.{Action}
 use Rattle.gx_desk.specs.declared.Action.TheVariants as actions
+use Rattle.gx_desk.specs.declared.AnswerCode.TheVariants as codes
 use Rattle.gx_desk.specs.declared.Command.{Command}
 use Rattle.gx_policy.specs.declared.policy.PolicyData.{PolicyData}
+use Rattle.gx_policy.specs.Lists.{in_order, where_true}
 use Rattle.gx_policy.specs.People.{account_of}
 use Rattle.gx_history.specs.declared.live_order.LiveOrder.{LiveOrder}
 use Rattle.gx_history.specs.declared.record.Asked.{Asked}
-use Rattle.gx_history.specs.declared.record.Fill.{Fill}
 use Rattle.gx_history.specs.declared.record.RecordData.{RecordData}
 use Rattle.gx_history.specs.declared.record.Request.{Request}
 use Rattle.gx_history.specs.declared.record.Request.TheVariants as requests
@@ -28,71 +29,30 @@ use Rattle.gx_history.specs.declared.record.Step.TheVariants as steps
 use Rattle.gx_history.specs.declared.record.Verdict.{Verdict}
 use Rattle.gx_history.specs.declared.record.Verdict.TheVariants as verdicts
 use Rattle.gx_history.specs.declared.report.Message.{Message}
-use Rattle.gx_history.specs.Effects.{CutsOrder, LiftsAccount, ReplacesOrder, TakesEffect}
-use Rattle.gx_desk.specs.declared.AnswerCode.TheVariants as codes
-use Rattle.gx_history_laws.proofs.Owners.{last_such_is}
-use Rattle.gx_history.specs.Executions.{Execution, Standing, done, executions, live_orders, sides, standing_numbered, standing_under}
-use Rattle.gx_history.specs.LiveOrders.{kept, replacement_order, shares_open}
-use Rattle.gx_history.specs.Matched.{ExpiresOrder}
-use Rattle.gx_history.specs.Orders.{ends_account, total}
-use Rattle.gx_history.specs.Requests.{is_judged}
-use Rattle.gx_history.specs.Streams.{answer, canceled, day_end, drop_copy, lift_code, ended, reported, reports_of_execution, reports_of_expiry, reports_of_verdict, stream, to_user}
-use Rattle.gx_history.specs.Verdicts.{IsLegal, next}
-use Rattle.gx_history_laws.proofs.Adding.{found_passes, user_is}
-use Rattle.gx_history_laws.proofs.Granting.{asked_is_judged, legal_keeps}
-use Rattle.gx_history_laws.proofs.Judging.{both}
-use Rattle.gx_history_laws.proofs.NextInForce.{last_moment_next}
-use Rattle.gx_history_laws.proofs.NextOrders.{executions_next, is_token_used_next, orders_next}
-use Rattle.gx_history_laws.proofs.NextReports.{legal_next, legal_none, stream_next}
-use Rattle.gx_history_laws.proofs.Numbers.{all_weaker}
-use Rattle.gx_history_laws.proofs.Runs.{step_left}
+use Rattle.gx_history.specs.declared.report.Report.{Report}
+use Rattle.gx_history.specs.Book.{rested}
+use Rattle.gx_history.specs.Executions.{executions, sides, sides_in}
+use Rattle.gx_history.specs.InForce.{is_entitled, is_killed, kill_or_lift_of}
+use Rattle.gx_history.specs.Live.{ahead, is_there, waiting, side, live, live_numbered, live_under}
+use Rattle.gx_history.specs.LiveOrders.{replacement_order, shares_open}
+use Rattle.gx_history.specs.Orders.{ends_account, entered}
+use Rattle.gx_history.specs.Streams.{accepted, answer, canceled_of, day_end, copy_of, ended_of, expired_of, granted_code, lift_code, replaced_of, reported, reports_of_denial, reports_of_execution, reports_of_grant, stream, to_user}
 use Rattle.gx_history.specs.Turns as turns
-use Rattle.gx_history.specs.Turns.{Turn, live, live_numbered, live_under, new_order, side, side_turned, turn_asked, turn_by, turn_of, turned, waiting, waiting_turned}
-use Rattle.gx_history.specs.World.{World, world, Move, Nothing, Denies, PutsOn, Adds, Sizes, Replaces, Commands, Fills, Rests, Expires, canceled_of, commanded, ended_of, move_asked, move_by, move_of, moved, replaced_of, sides_in, stepped, turn_in, WorldGoesOn, WorldsAreRuns}
-use Rattle.gx_effects.proofs.Closing.{close_takes_effect}
-use Rattle.gx_effects.proofs.Cutting.{cancel_takes_effect}
-use Rattle.gx_effects.proofs.Effects.{is_told}
-use Rattle.gx_effects.proofs.Expiries.{IsEnd, end_takes_effect, is_end}
-use Rattle.gx_effects.proofs.FairFills.{live_found}
-use Rattle.gx_effects.proofs.Killing.{kill_takes_effect}
-use Rattle.gx_effects.proofs.Lifting.{lift_takes_effect}
-use Rattle.gx_effects.proofs.Lines.{login_takes_effect, logout_takes_effect}
-use Rattle.gx_effects.proofs.Live.{live_is_kept, live_next, under_is}
+use Rattle.gx_history.specs.Turns.{Turn, new_order, side_turned, turned, waiting_turned}
+use Rattle.gx_history.specs.Verdicts.{IsLegal}
+use Rattle.gx_history.specs.World.{World, world, Move, Nothing, Denies, PutsOn, Adds, Sizes, Replaces, Commands, Fills, Rests, Expires, commanded, move_asked, move_by, move_of, moved, stepped, turn_in, turn_of, WorldGoesOn, WorldsAreRuns}
+use Rattle.gx_history_laws.proofs.Adding.{found_passes, user_is}
+use Rattle.gx_history_laws.proofs.Granting.{legal_keeps}
+use Rattle.gx_history_laws.proofs.Judging.{both}
+use Rattle.gx_history_laws.proofs.Keeping.{AddsNothing, EndsNone}
 use Rattle.gx_history_laws.proofs.Moves.{InForce, in_force_next}
-use Rattle.gx_effects.proofs.NamedOrders.{live_is_open}
-use Rattle.gx_effects.proofs.Naming.{live_of_known}
-use Rattle.gx_effects.proofs.NewOrders.{found_is}
-use Rattle.gx_effects.proofs.OrderRequests.{told_by}
-use Rattle.gx_effects.proofs.Orderly.{IsOrderly, legal_is_orderly}
-use Rattle.gx_effects.proofs.Replacing.{replace_takes_effect}
-use Rattle.gx_effects.proofs.Rests.{rest_takes_effect}
-use Rattle.gx_effects.proofs.RuleChanges.{limit_takes_effect, restrict_takes_effect, unrestrict_takes_effect}
-use Rattle.gx_effects.proofs.Settling.{not_judged}
+use Rattle.gx_history_laws.proofs.Names.{account_is_itself}
+use Rattle.gx_history_laws.proofs.NextInForce.{last_moment_next}
+use Rattle.gx_history_laws.proofs.NextOrders.{executions_next, is_token_used_next, orders_next, rested_next}
+use Rattle.gx_history_laws.proofs.NextReports.{legal_next, legal_none, stream_next}
+use Rattle.gx_effects.proofs.Commanding.{GrantsCommand, kill_by_command, none_ended, tells}
+use Rattle.gx_effects.proofs.Live.{live_next, live_stays}
 use Rattle.gx_effects.proofs.Sides.{side_next, waiting_next}
-use Rattle.gx_effects.proofs.SightChanges.{grant_takes_effect, revoke_takes_effect}
-use Rattle.gx_effects.proofs.Taking.{takes_effect}
-
--- the turn of the live orders is that of the move
-turn_asked_is : (policy : PolicyData) (w : World) (r : RecordData) (a : Asked) (q : Request) → turn_asked policy w.live r a.user q ≡ turn_in (move_asked policy w r a q)
-turn_asked_is policy w r a (requests.Login m) = refl
-turn_asked_is policy w r a requests.Logout = refl
-turn_asked_is policy w r a (requests.Unreadable m) = refl
-turn_asked_is policy w r a (requests.Command c) = refl
-turn_asked_is policy w r a (requests.Enter m) = elim (account_of policy a.user) as (λ (x : Option AccountName).
-    option_map_or (λ (account : AccountName). turns.Adds (new_order policy r a.user account m)) x turns.Keeps ≡ turn_in (option_map_or (λ (account : AccountName). Adds (new_order policy r a.user account m)) x Nothing)) [ None ↦ refl | Some account ↦ refl ]
-turn_asked_is policy w r a (requests.Replace m) = elim (live_under w.live a.user m.existing_token) as (λ (x : Option LiveOrder).
-    option_map_or (λ (old : LiveOrder). turns.Replaces old.number (replacement_order r m old)) x turns.Keeps ≡ turn_in (option_map_or (λ (old : LiveOrder). Replaces old (replacement_order r m old)) x Nothing)) [ None ↦ refl | Some old ↦ refl ]
-turn_asked_is policy w r a (requests.Cancel m) = elim (live_under w.live a.user m.token) as (λ (x : Option LiveOrder).
-    option_map_or (λ (cut : LiveOrder). turns.Sizes cut.number m.shares) x turns.Keeps ≡ turn_in (option_map_or (λ (cut : LiveOrder). Sizes cut m.shares) x Nothing)) [ None ↦ refl | Some cut ↦ refl ]
-
-turn_is : (policy : PolicyData) (w : World) (r : RecordData) (v : Verdict) (s : Step) → turn_by policy w.live r v s ≡ turn_in (move_by policy w r v s)
-turn_is policy w r verdicts.Granted (steps.Asked a) = turn_asked_is policy w r a a.request
-turn_is policy w r verdicts.Granted (steps.Matching handed) = refl
-turn_is policy w r (verdicts.Denied rule) (steps.Asked a) = refl
-turn_is policy w r (verdicts.Denied rule) (steps.Matching handed) = refl
-turn_is policy w r (verdicts.Filled f) s = refl
-turn_is policy w r (verdicts.Rested number) s = refl
-turn_is policy w r (verdicts.Expired number) s = refl
 
 -- what the move makes of the lists
 pub all_stay : (os : List LiveOrder) → filter_map (λ (o : LiveOrder). Some o) os ≡ os
@@ -132,167 +92,107 @@ lists_moved policy r w (Fills f) = record { lives = refl; waits = refl; rests = 
 lists_moved policy r w (Rests number) = record { lives = refl; waits = refl; rests = λ stock buy. refl }
 lists_moved policy r w (Expires number) = record { lives = refl; waits = refl; rests = λ stock buy. refl }
 
--- what is open of a live order
-abbrev IsRest : PolicyData → List RecordData → Standing → Type 0
-IsRest policy history s = s.open_shares ≡ total history s.order - done (executions policy history) s.order
-
-all_rest : (policy : PolicyData) (history : List RecordData) → AllByRecursion (IsRest policy history) (live_orders policy history)
-all_rest policy history = all_weaker _ (IsRest policy history) (λ (s : Standing) k. (live_is_open policy history s k.0.0 k.1).is_rest) (live_orders policy history) (live_of_known policy history)
-
--- an order that is found under a user's token is his, and has open what is not executed
-under_facts : (policy : PolicyData) (history : List RecordData) (user : UserName) (token : Token) (s : Standing) → standing_under (live_orders policy history) user token ≡ Some s → s.order.user ≡ user
-under_facts policy history user token s e =
-    user_is s.order.user user
-    (both (same_user s.order.user user) (same_token s.order.token token) (found_passes (λ (x : Standing). same_user x.order.user user && same_token x.order.token token) (live_orders policy history) s e)).0
-
--- what is told of the orders that an action ends
-ended_is : (policy : PolicyData) (history : List RecordData) (action : Action) (user : UserName) → ended policy history action user ≡ ended_of (live policy history) action user
-ended_is policy history action user = each (live_orders policy history) (all_rest policy history) ∙ sym (ap (λ (os : List LiveOrder). ended_of os action user) (live_is_kept policy history))
-  where
-    each : (ss : List Standing) → AllByRecursion (IsRest policy history) ss
-        → flat_map (λ (s : Standing). canceled cancels.Supervisory s.open_shares s.order) (filter (λ (s : Standing). same_user s.order.user user && ends_account s.order.account action) ss) ≡ ended_of (map (kept policy history) ss) action user
-    each [] h = refl
-    each (s ∷ ss) h = at (same_user s.order.user user && ends_account s.order.account action) (each ss h.1)
-      where
-        old : List Message
-        old = flat_map (λ (s : Standing). canceled cancels.Supervisory s.open_shares s.order) (filter (λ (s : Standing). same_user s.order.user user && ends_account s.order.account action) ss)
-
-        at : (b : Bool) → old ≡ ended_of (map (kept policy history) ss) action user
-            → flat_map (λ (s : Standing). canceled cancels.Supervisory s.open_shares s.order) (cond b (s ∷ filter (λ (s : Standing). same_user s.order.user user && ends_account s.order.account action) ss) (filter (λ (s : Standing). same_user s.order.user user && ends_account s.order.account action) ss))
-            ≡ flat_map (λ (o : LiveOrder). canceled_of cancels.Supervisory (shares_open o) o) (cond b (kept policy history s ∷ filter (λ (o : LiveOrder). same_user o.user user && ends_account o.account action) (map (kept policy history) ss)) (filter (λ (o : LiveOrder). same_user o.user user && ends_account o.account action) (map (kept policy history) ss)))
-        at true deeper = ap (λ (n : ℕ). canceled_of cancels.Supervisory n (kept policy history s) ++ old) h.0 ∙ ap (λ (ms : List Message). canceled_of cancels.Supervisory (shares_open (kept policy history s)) (kept policy history s) ++ ms) deeper
-        at false deeper = deeper
-
 -- what each user is told
-abbrev Tells : PolicyData → List RecordData → RecordData → Move → Type 0
+abbrev pub Tells : PolicyData → List RecordData → RecordData → Move → Type 0
 Tells policy history r m = (user : UserName) → stream policy (history ++ r ∷ []) user ≡ (moved policy r m (world policy history)).streams user
 
-tells_action : (policy : PolicyData) (history : List RecordData) (a : Asked) (r : RecordData) (c : Command) → IsLegal policy history → next policy history (steps.Asked a) ≡ Some r → r.verdict ≡ verdicts.Granted → a.request ≡ requests.Command c
-    → (action : Action) → c.action ≡ action → (user : UserName) → stream policy (history ++ r ∷ []) user ≡ (commanded policy r a.user c action (world policy history)).streams user
-tells_action policy history a r c legal left e is (actions.Kill account) acts user =
-    (kill_takes_effect policy history a r c account legal left is acts e).told user
-    ∙ ap (λ (ms : List Message). stream policy history user ++ map (reported r) (ms ++ to_user a.user user (answer r c codes.Done))) (ended_is policy history (actions.Kill account) user)
-tells_action policy history a r c legal left e is (actions.Lift account) acts user =
-    let t : LiftsAccount policy history (history ++ r ∷ []) r a.user c account = lift_takes_effect policy history a r c account legal left is acts e in
-    t.told user ∙ ap (λ (x : Option (List UserName)). stream policy history user ++ map (reported r) (to_user a.user user (answer r c (lift_code (is_some x))))) t.kill_now
-tells_action policy history a r c legal left e is (actions.SetLimit rule limit) acts user = (limit_takes_effect policy history a r c rule limit left is acts e).answered user
-tells_action policy history a r c legal left e is (actions.Restrict rule stock) acts user = (restrict_takes_effect policy history a r c rule stock left is acts e).answered user
-tells_action policy history a r c legal left e is (actions.Unrestrict rule stock) acts user = (unrestrict_takes_effect policy history a r c rule stock left is acts e).answered user
-tells_action policy history a r c legal left e is (actions.Grant written account) acts user = (grant_takes_effect policy history a r c written account left is acts e).answered user
-tells_action policy history a r c legal left e is (actions.Revoke written account) acts user = (revoke_takes_effect policy history a r c written account left is acts e).answered user
-tells_action policy history a r c legal left e is actions.CloseDay acts user =
-    (close_takes_effect policy history a r c legal left is acts e).told user
-    ∙ ap (λ (ms : List Message). stream policy history user ++ map (reported r) (ms ++ day_end policy actions.CloseDay user ++ to_user a.user user (answer r c codes.Done))) (ended_is policy history actions.CloseDay user)
+-- nothing for him is nothing
+told_nothing : (r : RecordData) (rs : List Report) (receiver user : UserName) → rs ++ map (reported r) (to_user receiver user []) ≡ rs
+told_nothing r rs receiver user = ap (λ (ms : List Message). rs ++ map (reported r) ms) (at (same_user receiver user)) ∙ append-nil rs
+  where
+    at : (b : Bool) → cond {A = List Message} b [] [] ≡ []
+    at true = refl
+    at false = refl
 
-tells_grant : (policy : PolicyData) (history : List RecordData) (a : Asked) (r : RecordData) → IsLegal policy history → next policy history (steps.Asked a) ≡ Some r → r.step ≡ steps.Asked a → r.verdict ≡ verdicts.Granted
-    → (q : Request) → a.request ≡ q → Tells policy history r (move_asked policy (world policy history) r a q)
-tells_grant policy history a r legal left s e (requests.Login m) is user = (login_takes_effect policy history a r m left is e).told_nothing user
-tells_grant policy history a r legal left s e requests.Logout is user = (logout_takes_effect policy history a r left is e).told_nothing user
-tells_grant policy history a r legal left s e (requests.Unreadable m) is user = told_by policy history r a (requests.Unreadable m) user (record { asks = s; grants = e; is_for = is }) ∙ append-nil (stream policy history user)
-tells_grant policy history a r legal left s e (requests.Enter m) is user =
-    let t : TakesEffect policy history (history ++ r ∷ []) r a.user m = takes_effect policy history a r m legal left is e in
-    t.told user
-    ∙ ap (λ (found : Option AccountName). (moved policy r (option_map_or (λ (account : AccountName). Adds (new_order policy r a.user account m)) found Nothing) (world policy history)).streams user) (sym t.is_his)
-tells_grant policy history a r legal left s e (requests.Replace m) is user =
-    let t : ReplacesOrder policy history (history ++ r ∷ []) r a.user m = replace_takes_effect policy history a r m legal left is e in
-    let old : LiveOrder = kept policy history t.old in
-    t.told user
-    ∙ ap (λ (x : UserName). stream policy history user ++ map (reported r) (to_user x user (replaced_of old (replacement_order r m old)))) (sym (under_facts policy history a.user m.existing_token t.old t.is_named))
-    ∙ ap (λ (found : Option LiveOrder). (moved policy r (option_map_or (λ (old : LiveOrder). Replaces old (replacement_order r m old)) found Nothing) (world policy history)).streams user)
-    (sym (under_is policy history a.user m.existing_token t.old t.is_named))
-tells_grant policy history a r legal left s e (requests.Cancel m) is user =
-    let t : CutsOrder policy history (history ++ r ∷ []) r a.user m = cancel_takes_effect policy history a r m legal left is e in
-    let cut : LiveOrder = kept policy history t.cut in
-    let rest : IsRest policy history t.cut = last_such_is (IsRest policy history) (λ (x : Standing). same_user x.order.user a.user && same_token x.order.token m.token) (live_orders policy history) t.cut (all_rest policy history) t.is_named in
-    t.told user
-    ∙ ap (λ (x : UserName). stream policy history user ++ map (reported r) (to_user x user (canceled_of cancels.UserRequested (t.cut.open_shares - t.left) cut))) (sym (under_facts policy history a.user m.token t.cut t.is_named))
-    ∙ ap (λ (n : ℕ). stream policy history user ++ map (reported r) (to_user cut.user user (canceled_of cancels.UserRequested (n - t.left) cut))) rest
-    ∙ ap (λ (n : ℕ). stream policy history user ++ map (reported r) (to_user cut.user user (canceled_of cancels.UserRequested (shares_open cut - n) cut))) t.is_left
-    ∙ ap (λ (found : Option LiveOrder). (moved policy r (option_map_or (λ (cut : LiveOrder). Sizes cut m.shares) found Nothing) (world policy history)).streams user)
-    (sym (under_is policy history a.user m.token t.cut t.is_named))
-tells_grant policy history a r legal left s e (requests.Command c) is user = tells_action policy history a r c legal left e is c.action refl user
+-- a user's order under a token is his
+is_his : (found : List LiveOrder) (user : UserName) (token : Token) (o : LiveOrder) → live_under found user token ≡ Some o → o.user ≡ user
+is_his found user token o e = user_is o.user user (both (same_user o.user user) (same_token o.token token) (found_passes (λ (x : LiveOrder). same_user x.user user && same_token x.token token) found o e)).0
 
-tells_asked : (policy : PolicyData) (history : List RecordData) (a : Asked) (r : RecordData) → IsLegal policy history → next policy history (steps.Asked a) ≡ Some r → r.step ≡ steps.Asked a
-    → (v : Verdict) → r.verdict ≡ v → Tells policy history r (move_by policy (world policy history) r v (steps.Asked a))
-tells_asked policy history a r legal left s verdicts.Granted e = tells_grant policy history a r legal left s e a.request refl
-tells_asked policy history a r legal left s (verdicts.Denied rule) e = (is_told policy history a r rule left e).told
-tells_asked policy history a r legal left s (verdicts.Filled f) e = let judged : false ≡ true = ap is_judged (sym e) ∙ asked_is_judged policy history a r left in cc
-tells_asked policy history a r legal left s (verdicts.Rested number) e = let judged : false ≡ true = ap is_judged (sym e) ∙ asked_is_judged policy history a r left in cc
-tells_asked policy history a r legal left s (verdicts.Expired number) e = let judged : false ≡ true = ap is_judged (sym e) ∙ asked_is_judged policy history a r left in cc
+-- what an action owes, where it ends no order and no day
+lasting : (policy : PolicyData) (history : List RecordData) (r : RecordData) (action : Action) (user : UserName) (told : List Message) → ((account : AccountName) → ends_account account action ≡ false) → day_end policy action user ≡ []
+    → ended_of (live policy history) action user ++ day_end policy action user ++ told ≡ told
+lasting policy history r action user told stays no_end = ap (λ (ms : List Message). ms ++ day_end policy action user ++ told) (none_ended policy history action user stays) ∙ ap (λ (ms : List Message). ms ++ told) no_end
+
+tells_action : (policy : PolicyData) (history : List RecordData) (a : Asked) (r : RecordData) (c : Command) → GrantsCommand r a c.action → (action : Action) → c.action ≡ action → (user : UserName)
+    → stream policy history user ++ map (reported r) (ended_of (live policy history) action user ++ day_end policy action user ++ to_user a.user user (answer r c (granted_code policy (history ++ r ∷ []) action))) ≡ (commanded policy r a.user c action (world policy history)).streams user
+tells_action policy history a r c g (actions.Kill account) acts user =
+    ap (λ (ms : List Message). stream policy history user ++ map (reported r) (ms ++ to_user a.user user (answer r c codes.Done))) (append-nil (ended_of (live policy history) (actions.Kill account) user))
+tells_action policy history a r c g (actions.Lift account) acts user =
+    ap (λ (ms : List Message). stream policy history user ++ map (reported r) ms) (lasting policy history r (actions.Lift account) user (to_user a.user user (answer r c (lift_code (is_killed policy (history ++ r ∷ []) account)))) (λ account. refl) refl)
+    ∙ ap (λ (x : Option (List UserName)). stream policy history user ++ map (reported r) (to_user a.user user (answer r c (lift_code (is_some x)))))
+    (kill_by_command policy history r a c.action account (Some (Some a.user)) g (ap (kill_or_lift_of account a.user) acts ∙ ap (λ (b : Bool). where_true b (Some a.user)) (account_is_itself account)))
+tells_action policy history a r c g (actions.SetLimit rule limit) acts user = ap (λ (ms : List Message). stream policy history user ++ map (reported r) ms) (lasting policy history r (actions.SetLimit rule limit) user (to_user a.user user (answer r c codes.Done)) (λ account. refl) refl)
+tells_action policy history a r c g (actions.Restrict rule stock) acts user = ap (λ (ms : List Message). stream policy history user ++ map (reported r) ms) (lasting policy history r (actions.Restrict rule stock) user (to_user a.user user (answer r c codes.Done)) (λ account. refl) refl)
+tells_action policy history a r c g (actions.Unrestrict rule stock) acts user = ap (λ (ms : List Message). stream policy history user ++ map (reported r) ms) (lasting policy history r (actions.Unrestrict rule stock) user (to_user a.user user (answer r c codes.Done)) (λ account. refl) refl)
+tells_action policy history a r c g (actions.Grant written account) acts user = ap (λ (ms : List Message). stream policy history user ++ map (reported r) ms) (lasting policy history r (actions.Grant written account) user (to_user a.user user (answer r c codes.Done)) (λ account. refl) refl)
+tells_action policy history a r c g (actions.Revoke written account) acts user = ap (λ (ms : List Message). stream policy history user ++ map (reported r) ms) (lasting policy history r (actions.Revoke written account) user (to_user a.user user (answer r c codes.Done)) (λ account. refl) refl)
+tells_action policy history a r c g actions.CloseDay acts user = refl
+
+tells_request : (policy : PolicyData) (history : List RecordData) (a : Asked) (r : RecordData) → r.step ≡ steps.Asked a → r.verdict ≡ verdicts.Granted → (q : Request) → a.request ≡ q → (user : UserName)
+    → stream policy history user ++ map (reported r) (reports_of_grant policy history r a.user q user) ≡ (moved policy r (move_asked policy (world policy history) r a q) (world policy history)).streams user
+tells_request policy history a r s e (requests.Login m) is user = append-nil (stream policy history user)
+tells_request policy history a r s e requests.Logout is user = append-nil (stream policy history user)
+tells_request policy history a r s e (requests.Unreadable m) is user = append-nil (stream policy history user)
+tells_request policy history a r s e (requests.Enter m) is user = at (account_of policy a.user)
+  where
+    at : (found : Option AccountName)
+        → stream policy history user ++ map (reported r) (to_user a.user user (flat_map accepted (option_map_or (λ (account : AccountName). entered policy r a.user account m ∷ []) found [])))
+        ≡ (moved policy r (option_map_or (λ (account : AccountName). Adds (new_order policy r a.user account m)) found Nothing) (world policy history)).streams user
+    at None = told_nothing r (stream policy history user) a.user user
+    at (Some account) = refl
+tells_request policy history a r s e (requests.Replace m) is user = at (live_under (live policy history) a.user m.existing_token) (is_his (live policy history) a.user m.existing_token)
+  where
+    at : (found : Option LiveOrder) → ((o : LiveOrder) → found ≡ Some o → o.user ≡ a.user)
+        → stream policy history user ++ map (reported r) (to_user a.user user (flat_map (λ (old : LiveOrder). replaced_of old (replacement_order r m old)) (option_to_list found)))
+        ≡ (moved policy r (option_map_or (λ (old : LiveOrder). Replaces old (replacement_order r m old)) found Nothing) (world policy history)).streams user
+    at None his = told_nothing r (stream policy history user) a.user user
+    at (Some old) his = ap (λ (x : UserName). stream policy history user ++ map (reported r) (to_user x user (replaced_of old (replacement_order r m old)))) (sym (his old refl))
+tells_request policy history a r s e (requests.Cancel m) is user = at (live_under (live policy history) a.user m.token) (is_his (live policy history) a.user m.token)
+  where
+    at : (found : Option LiveOrder) → ((o : LiveOrder) → found ≡ Some o → o.user ≡ a.user)
+        → stream policy history user ++ map (reported r) (to_user a.user user (flat_map (λ (cut : LiveOrder). canceled_of cancels.UserRequested (shares_open cut - (m.shares - cut.done)) cut) (option_to_list found)))
+        ≡ (moved policy r (option_map_or (λ (cut : LiveOrder). Sizes cut m.shares) found Nothing) (world policy history)).streams user
+    at None his = told_nothing r (stream policy history user) a.user user
+    at (Some cut) his = ap (λ (x : UserName). stream policy history user ++ map (reported r) (to_user x user (canceled_of cancels.UserRequested (shares_open cut - (m.shares - cut.done)) cut))) (sym (his cut refl))
+tells_request policy history a r s e (requests.Command c) is user = tells_action policy history a r c (record { asks = s; grants = e; command = c; is_command = is; is_for = refl }) c.action refl user
 
 joined : {X Y : Type 0} (f : X → Y) (xs : List Y) (es cs : List X) → xs ++ (map f es ++ map f cs) ≡ xs ++ map f (es ++ cs)
 joined f xs es cs = ap (λ ys. xs ++ ys) (sym (map-append f es cs))
 
--- a fill: whatever is known of its orders
-tells_fill : (policy : PolicyData) (history : List RecordData) (r : RecordData) (f : Fill) → r.verdict ≡ verdicts.Filled f → Tells policy history r (Fills f)
-tells_fill policy history r f e user =
-    stream_next policy history r user
-    ∙ ap (λ (v : Verdict). stream policy history user ++ (map (reported r) (reports_of_verdict policy history r v r.step user) ++ map (reported r) (flat_map (drop_copy policy history r user) (sides policy history v)))) e
-    ∙ joined (reported r) (stream policy history user) (flat_map (reports_of_execution r user) (sides policy history (verdicts.Filled f))) (flat_map (drop_copy policy history r user) (sides policy history (verdicts.Filled f)))
+tells_by : (policy : PolicyData) (history : List RecordData) (r : RecordData) (user : UserName) (v : Verdict) (s : Step) → r.verdict ≡ v → r.step ≡ s
+    → stream policy history user ++ tells policy history r user v s ≡ (moved policy r (move_by policy (world policy history) r v s) (world policy history)).streams user
+tells_by policy history r user verdicts.Granted (steps.Asked a) e is =
+    ap (λ (ms : List Report). stream policy history user ++ ms) (append-nil (map (reported r) (reports_of_grant policy history r a.user a.request user))) ∙ tells_request policy history a r is e a.request refl user
+tells_by policy history r user verdicts.Granted (steps.Matching handed) e is = append-nil (stream policy history user)
+tells_by policy history r user (verdicts.Denied rule) (steps.Asked a) e is = ap (λ (ms : List Report). stream policy history user ++ ms) (append-nil (map (reported r) (to_user a.user user (reports_of_denial policy r rule a.request))))
+tells_by policy history r user (verdicts.Denied rule) (steps.Matching handed) e is = append-nil (stream policy history user)
+tells_by policy history r user (verdicts.Filled f) s e is =
+    joined (reported r) (stream policy history user) (flat_map (reports_of_execution r user) (sides policy history (verdicts.Filled f))) (flat_map (copy_of (is_entitled policy history) r user) (sides policy history (verdicts.Filled f)))
+tells_by policy history r user (verdicts.Rested number) s e is = append-nil (stream policy history user)
+tells_by policy history r user (verdicts.Expired number) s e is = ap (λ (ms : List Report). stream policy history user ++ ms) (append-nil (map (reported r) (expired_of (live policy history) number user)))
 
--- the order of a number is the same in both
-numbered_is : (policy : PolicyData) (history : List RecordData) (number : ℕ) (ss : List Standing) (s : Standing) → standing_numbered ss number ≡ Some s → live_numbered (map (kept policy history) ss) number ≡ Some (kept policy history s)
-numbered_is policy history number [] s h = cc
-numbered_is policy history number (x ∷ ss) s h = at (x.order.number == number) h (numbered_is policy history number ss s)
-  where
-    at : (b : Bool) → cond b (Some x) (standing_numbered ss number) ≡ Some s → (standing_numbered ss number ≡ Some s → live_numbered (map (kept policy history) ss) number ≡ Some (kept policy history s))
-        → cond b (Some (kept policy history x)) (live_numbered (map (kept policy history) ss) number) ≡ Some (kept policy history s)
-    at true k deeper = ap (option_map (kept policy history)) k
-    at false k deeper = deeper k
+-- whatever the history
+pub told : (policy : PolicyData) (history : List RecordData) (r : RecordData) → Tells policy history r (move_of policy (world policy history) r)
+told policy history r user = stream_next policy history r user ∙ tells_by policy history r user r.verdict r.step refl refl
 
-same_first : {found ss ts : List Standing} {s t : Standing} → found ≡ s ∷ ss → found ≡ t ∷ ts → s ≡ t
-same_first e f = cc
+-- the lists turn so
+abbrev Turns : PolicyData → List RecordData → RecordData → Turn → Type 0
+Turns policy history r turn =
+    (live policy (history ++ r ∷ []) ≡ turned turn (live policy history))
+    × (waiting policy (history ++ r ∷ []) ≡ waiting_turned turn (waiting policy history))
+    × ((stock : Symbol) (buy : Bool) → side policy (history ++ r ∷ []) stock buy ≡ side_turned turn (live policy history) stock buy (side policy history stock buy))
 
-tells_end : (policy : PolicyData) (history : List RecordData) (handed : ℕ) (r : RecordData) (number : ℕ) → IsLegal policy history → next policy history (steps.Matching handed) ≡ Some r → r.verdict ≡ verdicts.Expired number → Tells policy history r (Expires number)
-tells_end policy history handed r number legal left e user =
-    let orderly : IsOrderly policy history = legal_is_orderly policy history legal in
-    let is : IsEnd policy history r number = is_end policy history handed r number orderly left e in
-    let t : ExpiresOrder policy history (history ++ r ∷ []) r number = end_takes_effect policy history handed r number orderly left e in
-    let found : standing_numbered (live_orders policy history) number ≡ Some is.first =
-    ap (standing_numbered (live_orders policy history)) is.has_number ∙ live_found policy history is.first is.first_waits.known is.first_waits.lives in
-    let there : live_numbered (live policy history) number ≡ Some (kept policy history is.first) =
-    ap (λ (os : List LiveOrder). live_numbered os number) (live_is_kept policy history) ∙ numbered_is policy history number (live_orders policy history) is.first found in
-    let rest : IsRest policy history is.first = found_is (IsRest policy history) (λ (x : Standing). x.order.number == number) (live_orders policy history) is.first (all_rest policy history) found in
-    t.told user
-    ∙ ap (λ (x : Standing). stream policy history user ++ map (reported r) (reports_of_expiry user x)) (same_first t.comes_first is.comes_first)
-    ∙ ap (λ (n : ℕ). stream policy history user ++ map (reported r) (to_user is.first.order.user user (canceled_of cancels.ImmediateOrCancel n (kept policy history is.first)))) rest
-    ∙ ap (λ (ms : List Message). stream policy history user ++ map (reported r) ms) (sym (append-nil _))
-    ∙ ap (λ (x : Option LiveOrder). stream policy history user ++ map (reported r) (flat_map (λ (o : LiveOrder). to_user o.user user (canceled_of cancels.ImmediateOrCancel (shares_open o) o)) (option_to_list x))) (sym there)
-
-tells_match : (policy : PolicyData) (history : List RecordData) (handed : ℕ) (r : RecordData) → IsLegal policy history → next policy history (steps.Matching handed) ≡ Some r
-    → (v : Verdict) → r.verdict ≡ v → Tells policy history r (move_by policy (world policy history) r v (steps.Matching handed))
-tells_match policy history handed r legal left verdicts.Granted e = let judged : true ≡ false = ap is_judged (sym e) ∙ not_judged policy history handed r left in cc
-tells_match policy history handed r legal left (verdicts.Denied rule) e = let judged : true ≡ false = ap is_judged (sym e) ∙ not_judged policy history handed r left in cc
-tells_match policy history handed r legal left (verdicts.Filled f) e = tells_fill policy history r f e
-tells_match policy history handed r legal left (verdicts.Rested number) e = (rest_takes_effect policy history handed r number (legal_is_orderly policy history legal) left e).told_nothing
-tells_match policy history handed r legal left (verdicts.Expired number) e = tells_end policy history handed r number legal left e
-
-tells : (policy : PolicyData) (history : List RecordData) (step : Step) (r : RecordData) → IsLegal policy history → next policy history step ≡ Some r → Tells policy history r (move_of policy (world policy history) r)
-tells policy history (steps.Asked a) r legal left =
-    let s : r.step ≡ steps.Asked a = step_left policy history (steps.Asked a) r left in
-    subst (λ (s : Step). Tells policy history r (move_by policy (world policy history) r r.verdict s)) (sym s) (tells_asked policy history a r legal left s r.verdict refl)
-tells policy history (steps.Matching handed) r legal left =
-    subst (λ (s : Step). Tells policy history r (move_by policy (world policy history) r r.verdict s)) (sym (step_left policy history (steps.Matching handed) r left)) (tells_match policy history handed r legal left r.verdict refl)
-
--- the fills, by the orders that are known
-sides_are : (policy : PolicyData) (history : List RecordData) (v : Verdict) → sides policy history v ≡ sides_in (world policy history).orders v
-sides_are policy history verdicts.Granted = refl
-sides_are policy history (verdicts.Denied rule) = refl
-sides_are policy history (verdicts.Filled f) = refl
-sides_are policy history (verdicts.Rested number) = refl
-sides_are policy history (verdicts.Expired number) = refl
-
-pub world_next : WorldGoesOn
-world_next policy history step r legal left =
+-- where they turn by what the record does, so does the world
+by_turn : (policy : PolicyData) (history : List RecordData) (r : RecordData) → Turns policy history r (turn_of policy (world policy history) r) → world policy (history ++ r ∷ []) ≡ stepped policy (world policy history) r
+by_turn policy history r turns_so =
     let w : World = world policy history in
     let m : Move = move_of policy w r in
     let f : InForce policy (history ++ r ∷ []) (moved policy r m w) = in_force_next policy history r in
-    let turn : turn_of policy w.live r ≡ turn_in m = turn_is policy w r r.verdict r.step in
-    let lists : Lists w (moved policy r m w) (turn_of policy w.live r) = subst (Lists w (moved policy r m w)) (sym turn) (lists_moved policy r w m) in
-    let lives : live policy (history ++ r ∷ []) ≡ (moved policy r m w).live = live_next policy history step r legal left ∙ lists.lives in
-    let waits : waiting policy (history ++ r ∷ []) ≡ (moved policy r m w).waiting = waiting_next policy history step r legal left ∙ lists.waits in
-    let rests : (stock : Symbol) (buy : Bool) → side policy (history ++ r ∷ []) stock buy ≡ (moved policy r m w).resting stock buy = λ stock buy. side_next policy history step r stock buy legal left ∙ lists.rests stock buy in
-    let fills : executions policy (history ++ r ∷ []) ≡ w.executions ++ sides_in w.orders r.verdict = executions_next policy history r ∙ ap (λ (es : List Execution). w.executions ++ es) (sides_are policy history r.verdict) in
+    let lists : Lists w (moved policy r m w) (turn_in m) = lists_moved policy r w m in
+    let lives : live policy (history ++ r ∷ []) ≡ (moved policy r m w).live = turns_so.0 ∙ lists.lives in
+    let waits : waiting policy (history ++ r ∷ []) ≡ (moved policy r m w).waiting = turns_so.1 ∙ lists.waits in
+    let rests : (stock : Symbol) (buy : Bool) → side policy (history ++ r ∷ []) stock buy ≡ (moved policy r m w).resting stock buy = λ stock buy. turns_so.2 stock buy ∙ lists.rests stock buy in
+    let fills : executions policy (history ++ r ∷ []) ≡ w.executions ++ sides_in w.orders r.verdict = executions_next policy history r in
     λ i. record {
       count = length_push history r i;
       moment = last_moment_next history r i;
@@ -307,8 +207,30 @@ world_next policy history step r legal left =
       closed = f.closed i;
       lines = λ user. f.lines user i;
       sight = λ reader account. f.sight reader account i;
-      streams = λ user. tells policy history step r legal left user i;
+      streams = λ user. told policy history r user i;
     }
+
+pub world_next : WorldGoesOn
+world_next policy history step r legal left =
+    by_turn policy history r (live_next policy history step r legal left, waiting_next policy history step r legal left, λ stock buy. side_next policy history step r stock buy legal left)
+
+-- whatever the records, where the record adds nothing and ends no order
+quiet_turns : (policy : PolicyData) (history : List RecordData) (r : RecordData) → AddsNothing policy history r → EndsNone r → Turns policy history r turns.Keeps
+unfolding waiting side
+quiet_turns policy history r nothing none =
+    let same : live policy (history ++ r ∷ []) ≡ live policy history = live_stays policy history r nothing none ∙ stay (live policy history) in
+    let rests : rested (history ++ r ∷ []) ≡ rested history = rested_next history r ∙ ap (λ (found : Option ℕ). rested history ++ option_to_list found) nothing.rests_none ∙ append-nil (rested history) in (
+      live_stays policy history r nothing none,
+      ap (filter (λ (o : LiveOrder). o.waits)) same ∙ sym (stay (filter (λ (o : LiveOrder). o.waits) (live policy history))),
+      λ stock buy.
+          ap (λ (ns : List ℕ). in_order (ahead buy) (filter (is_there stock buy) (filter_map (live_numbered (live policy (history ++ r ∷ []))) ns))) rests
+          ∙ ap (λ (os : List LiveOrder). in_order (ahead buy) (filter (is_there stock buy) (filter_map (live_numbered os) (rested history)))) same
+          ∙ sym (all_stay _),
+    )
+
+pub quiet_next : (policy : PolicyData) (history : List RecordData) (r : RecordData) → AddsNothing policy history r → EndsNone r → turn_of policy (world policy history) r ≡ turns.Keeps
+    → world policy (history ++ r ∷ []) ≡ stepped policy (world policy history) r
+quiet_next policy history r nothing none keeps = by_turn policy history r (subst (Turns policy history r) (sym keeps) (quiet_turns policy history r nothing none))
 
 -- so a legal day is its records, one after the other
 pub worlds_are_runs : WorldsAreRuns

@@ -1,12 +1,14 @@
 -- What the world is after a record of each kind, in plain words.
-use Rattle.std.specs.Option.{option_map_or}
-use Rattle.std.specs.Prelude.{◌≡◌, ℕ, ◌+◌, Bool, true, false, not, ◌||◌, is_some, List, [], ◌∷◌, ◌++◌, map, Option, Some, None, if◌then◌else◌}
-use Rattle.std.specs.List.{AllByRecursion, filter}
-use Rattle.gx_units.specs.Names.{same_account, same_user}
+use Rattle.std.specs.Prelude.{◌≡◌, ℕ, ◌+◌, ◌-◌, ◌<◌, true, false, ◌||◌, is_some, List, [], ◌∷◌, ◌++◌, map, Option, Some, None, if◌then◌else◌}
+use Rattle.std.specs.List.{flat_map}
 use Rattle.gx_units.specs.declared.names.AccountName.{AccountName}
 use Rattle.gx_units.specs.declared.names.RuleId.{RuleId}
 use Rattle.gx_units.specs.declared.names.Symbol.{Symbol}
+use Rattle.gx_units.specs.Names.{same_user}
+use Rattle.gx_ouch.specs.declared.inbound.CancelOrder.{CancelOrder}
 use Rattle.gx_ouch.specs.declared.inbound.EnterOrder.{EnterOrder}
+use Rattle.gx_ouch.specs.declared.inbound.ReplaceOrder.{ReplaceOrder}
+use Rattle.gx_ouch.specs.declared.letters.CancelReason.TheVariants as cancels
 use Rattle.gx_desk.specs.declared.Action.TheVariants as actions
 use Rattle.gx_desk.specs.declared.AnswerCode.TheVariants as codes
 use Rattle.gx_desk.specs.declared.Command.{Command}
@@ -16,27 +18,40 @@ use Rattle.gx_policy.specs.declared.rule_name.RuleName.{RuleName}
 use Rattle.gx_policy.specs.People.{account_of}
 use Rattle.gx_history.specs.declared.live_order.LiveOrder.{LiveOrder}
 use Rattle.gx_history.specs.declared.record.Asked.{Asked}
+use Rattle.gx_history.specs.declared.record.Fill.{Fill}
 use Rattle.gx_history.specs.declared.record.Login.{Login}
 use Rattle.gx_history.specs.declared.record.RecordData.{RecordData}
 use Rattle.gx_history.specs.declared.record.Request.{Request}
 use Rattle.gx_history.specs.declared.record.Request.TheVariants as requests
 use Rattle.gx_history.specs.declared.record.Step.TheVariants as steps
+use Rattle.gx_history.specs.declared.record.Verdict.{Verdict}
 use Rattle.gx_history.specs.declared.record.Verdict.TheVariants as verdicts
-use Rattle.gx_history.specs.Book.{incoming, resting}
-use Rattle.gx_history.specs.Executions.{Standing, live_orders, standings}
+use Rattle.gx_history.specs.Executions.{sides_in}
 use Rattle.gx_history.specs.InForce.{adding, change_rule, kill_after, removing, with_limit, with_stocks}
-use Rattle.gx_history.specs.LiveOrders.{kept, shares_open}
-use Rattle.gx_history.specs.Orders.{entered, record_uses}
-use Rattle.gx_history.specs.Streams.{answer, day_end, lift_code, reports_of_denial, to_user}
-use Rattle.gx_history.specs.Turns.{live, live_numbered, new_order, side, waiting}
+use Rattle.gx_history.specs.Live.{live, live_under, of_others}
+use Rattle.gx_history.specs.LiveOrders.{replacement_order, shares_open}
+use Rattle.gx_history.specs.Orders.{entered, orders, orders_made, record_uses}
+use Rattle.gx_history.specs.Streams.{answer, canceled_of, copy_of, day_end, ended_of, expired_of, lift_code, replaced_of, reports_of_denial, reports_of_execution, stream, to_user}
+use Rattle.gx_history.specs.Turns as turns
+use Rattle.gx_history.specs.Turns.{new_order}
 use Rattle.gx_history.specs.Verdicts.{IsLegal, next}
-use Rattle.gx_history.specs.World.{World, accepted_of, ended_of, tell, tell_each, with_kill, with_rule, with_sight, world}
+use Rattle.gx_history.specs.World.{World, accepted_of, tell, tell_each, turned_world, with_kill, with_rule, with_sight, world}
 
--- the world so, with one record more than before: its number, its moment, and the token that it uses
+-- the world so, with one record more than before: its number and its moment
+abbrev pub counted : World → RecordData → World → World
+counted before r now = record now { count = before.count + 1; moment = r.moment }
+
+-- and the token that it uses
 abbrev pub recorded : World → RecordData → World → World
-recorded before r now = record now { count = before.count + 1; moment = r.moment; tokens = λ user token. before.tokens user token || record_uses user token r }
+recorded before r now = record (counted before r now) { tokens = λ user token. before.tokens user token || record_uses user token r }
 
--- of each legal day, the granted request makes this of the world, and records it
+-- whatever the records before, the granted request makes this of the world, and records it
+abbrev pub MakesAlways : Request → (PolicyData → Asked → RecordData → World → World) → Type 0
+MakesAlways q made = (policy : PolicyData) (history : List RecordData) (a : Asked) (r : RecordData)
+    → next policy history (steps.Asked a) ≡ Some r → a.request ≡ q → r.verdict ≡ verdicts.Granted
+    → world policy (history ++ r ∷ []) ≡ recorded (world policy history) r (made policy a r (world policy history))
+
+-- and of each legal day
 abbrev pub Makes : Request → (PolicyData → Asked → RecordData → World → World) → Type 0
 Makes q made = (policy : PolicyData) (history : List RecordData) (a : Asked) (r : RecordData)
     → IsLegal policy history → next policy history (steps.Asked a) ≡ Some r → a.request ≡ q → r.verdict ≡ verdicts.Granted
@@ -45,7 +60,7 @@ Makes q made = (policy : PolicyData) (history : List RecordData) (a : Asked) (r 
 -- a denial tells at most who asked, and changes nothing else
 abbrev pub DenialsTellWhoAsked : Type 0
 DenialsTellWhoAsked = (policy : PolicyData) (history : List RecordData) (a : Asked) (r : RecordData) (rule : RuleName)
-    → IsLegal policy history → next policy history (steps.Asked a) ≡ Some r → r.verdict ≡ verdicts.Denied rule
+    → next policy history (steps.Asked a) ≡ Some r → r.verdict ≡ verdicts.Denied rule
     → let w = world policy history in
     world policy (history ++ r ∷ []) ≡ recorded w r (record w { streams = tell r a.user (reports_of_denial policy r rule a.request) w.streams })
 
@@ -55,11 +70,11 @@ with_line a line w = record w { lines = λ other. if same_user a.user other then
 
 -- a Login puts its user on its line, and changes nothing else
 abbrev pub LoginsPutOn : Type 0
-LoginsPutOn = (m : Login) → Makes (requests.Login m) (λ policy a r w. with_line a (Some a.line) w)
+LoginsPutOn = (m : Login) → MakesAlways (requests.Login m) (λ policy a r w. with_line a (Some a.line) w)
 
 -- a Logout puts him on none
 abbrev pub LogoutsPutOff : Type 0
-LogoutsPutOff = Makes requests.Logout (λ policy a r w. with_line a None w)
+LogoutsPutOff = MakesAlways requests.Logout (λ policy a r w. with_line a None w)
 
 -- an Enter's order is the last of the orders, of the live ones and of those that wait; its user is told, and nothing else changes
 abbrev pub EntersComeLast : Type 0
@@ -75,9 +90,33 @@ EntersComeLast = (policy : PolicyData) (history : List RecordData) (a : Asked) (
       streams = tell r a.user (accepted_of new) w.streams;
     })
 
--- the orders of other accounts, in their places
-abbrev pub of_others : AccountName → List LiveOrder → List LiveOrder
-of_others account found = filter (λ (o : LiveOrder). not (same_account account o.account)) found
+-- a Cancel leaves its user's live order under its token fewer shares open, in its place, or ends it; he is told, and nothing else changes
+pub record CutsOne (policy : PolicyData) (history : List RecordData) (a : Asked) (r : RecordData) (m : CancelOrder) : Type 0 where
+  pub cut : LiveOrder
+  pub is_named : live_under (live policy history) a.user m.token ≡ Some cut
+  pub is_less : m.shares - cut.done < shares_open cut
+  pub makes : world policy (history ++ r ∷ []) ≡ recorded (world policy history) r (record (turned_world (turns.Sizes cut.number m.shares) (world policy history)) {
+    streams = tell r cut.user (canceled_of cancels.UserRequested (shares_open cut - (m.shares - cut.done)) cut) (stream policy history);
+  })
+
+abbrev pub CancelsLeaveFewer : Type 0
+CancelsLeaveFewer = (policy : PolicyData) (history : List RecordData) (a : Asked) (r : RecordData) (m : CancelOrder)
+    → IsLegal policy history → next policy history (steps.Asked a) ≡ Some r → a.request ≡ requests.Cancel m → r.verdict ≡ verdicts.Granted → CutsOne policy history a r m
+
+-- a Replace ends its user's live order under the existing token, and its own, which has shares open, comes last of the orders, of the live ones and of those that wait; he is told,
+-- and nothing else changes
+pub record ReplacesOne (policy : PolicyData) (history : List RecordData) (a : Asked) (r : RecordData) (m : ReplaceOrder) : Type 0 where
+  pub old : LiveOrder
+  pub is_named : live_under (live policy history) a.user m.existing_token ≡ Some old
+  pub some_open : old.done < m.shares
+  pub makes : world policy (history ++ r ∷ []) ≡ recorded (world policy history) r (record (turned_world (turns.Replaces old.number (replacement_order r m old)) (world policy history)) {
+    orders = orders policy history ++ orders_made policy (orders policy history) r a.user (requests.Replace m);
+    streams = tell r old.user (replaced_of old (replacement_order r m old)) (stream policy history);
+  })
+
+abbrev pub ReplacesComeLast : Type 0
+ReplacesComeLast = (policy : PolicyData) (history : List RecordData) (a : Asked) (r : RecordData) (m : ReplaceOrder)
+    → IsLegal policy history → next policy history (steps.Asked a) ≡ Some r → a.request ≡ requests.Replace m → r.verdict ≡ verdicts.Granted → ReplacesOne policy history a r m
 
 -- a Kill leaves the orders of other accounts, each in its place, and the account killed, not yet lifted by anyone; each user is told of his that ended
 abbrev pub KillsLeaveTheOthers : Type 0
@@ -133,6 +172,29 @@ ClosesLeaveNone = (c : Command) → c.action ≡ actions.CloseDay
       streams = tell_each r (λ user. ended_of w.live actions.CloseDay user ++ day_end policy actions.CloseDay user ++ to_user a.user user (answer r c codes.Done)) w.streams;
     })
 
+-- of each legal day, a matching step with this verdict makes this of the world, and records it
+abbrev pub Matches : Verdict → (RecordData → World → World) → Type 0
+Matches v made = (policy : PolicyData) (history : List RecordData) (handed : ℕ) (r : RecordData)
+    → IsLegal policy history → next policy history (steps.Matching handed) ≡ Some r → r.verdict ≡ v
+    → world policy (history ++ r ∷ []) ≡ counted (world policy history) r (made r (world policy history))
+
+-- a fill takes its shares off what its two orders have open, each in its place, or ends it; their users are told, and the readers who see their accounts, and nothing else changes
+abbrev pub FillsTakeFromTwo : Type 0
+FillsTakeFromTwo = (f : Fill) → Matches (verdicts.Filled f) (λ r w.
+    let both = sides_in w.orders (verdicts.Filled f) in
+    record (turned_world (turns.Fills f) w) {
+      executions = w.executions ++ both;
+      streams = tell_each r (λ user. flat_map (reports_of_execution r user) both ++ flat_map (copy_of w.sight r user) both) w.streams;
+    })
+
+-- an order that comes to rest leaves those that wait for its side of the book; nobody is told, and nothing else changes
+abbrev pub RestsMoveOne : Type 0
+RestsMoveOne = (number : ℕ) → Matches (verdicts.Rested number) (λ r w. turned_world (turns.Rests number) w)
+
+-- an order that expires lives no more; its user is told, and nothing else changes
+abbrev pub ExpiriesEndOne : Type 0
+ExpiriesEndOne = (number : ℕ) → Matches (verdicts.Expired number) (λ r w. record (turned_world (turns.Ends number) w) { streams = tell_each r (expired_of w.live number) w.streams })
+
 -- a matching step makes no order, uses no token, and changes nothing that is in force
 abbrev pub MatchesKeepInForce : Type 0
 MatchesKeepInForce = (policy : PolicyData) (history : List RecordData) (handed : ℕ) (r : RecordData)
@@ -140,21 +202,3 @@ MatchesKeepInForce = (policy : PolicyData) (history : List RecordData) (handed :
     → let w = world policy history in
     let now = world policy (history ++ r ∷ []) in
     now ≡ record now { orders = w.orders; tokens = w.tokens; rules = w.rules; kills = w.kills; closed = w.closed; lines = w.lines; sight = w.sight }
-
--- the world's live orders are the live ones of all orders, each as what is kept of it
-abbrev pub LiveAreKept : Type 0
-LiveAreKept = (policy : PolicyData) (history : List RecordData) → live policy history ≡ map (kept policy history) (live_orders policy history)
-
--- and so are those that wait, in their places
-abbrev pub WaitingAreKept : Type 0
-WaitingAreKept = (policy : PolicyData) (history : List RecordData) → waiting policy history ≡ map (kept policy history) (incoming policy history)
-
--- and, on a legal day, those that rest on each side of a stock
-abbrev pub RestingAreKept : Type 0
-RestingAreKept = (policy : PolicyData) (history : List RecordData) (stock : Symbol) (buy : Bool)
-    → IsLegal policy history → side policy history stock buy ≡ map (kept policy history) (resting policy history stock buy)
-
--- each order of a legal day has open what the live order of its number has open, and nothing where none has it
-abbrev pub OpenAreOfTheLive : Type 0
-OpenAreOfTheLive = (policy : PolicyData) (history : List RecordData) → IsLegal policy history
-    → AllByRecursion (λ (s : Standing). s.open_shares ≡ option_map_or shares_open (live_numbered (live policy history) s.order.number) 0) (standings policy history)

@@ -1,4 +1,3 @@
-pub mod OneMore
 pub mod Laws
 pub mod Lifts
 pub mod Kinds

@@ -9,20 +9,17 @@ use Rattle.gx_units.specs.declared.names.AccountName.{AccountName}
 use Rattle.gx_policy.specs.declared.policy.PolicyData.{PolicyData}
 use Rattle.gx_history.specs.declared.record.RecordData.{RecordData}
 use Rattle.gx_history.specs.Executions.{Execution, executions, sides}
-use Rattle.gx_history.specs.Figures.{Positions, done_of_chosen, of_accounts}
+use Rattle.gx_ouch.specs.declared.outbound.OrderTerms.{OrderTerms}
+use Rattle.gx_history.specs.Figures.{Positions, done_of_chosen, of_accounts, positions}
 use Rattle.gx_policy.specs.Lists.{each_after, each_with_earlier}
 use Rattle.gx_history.specs.Orders.{Order, orders, orders_added}
 use Rattle.gx_history.specs.Verdicts.{Follows, IsLegal}
 use Rattle.gx_history_laws.proofs.NextFigures.{done_more}
 use Rattle.gx_history_laws.proofs.NextOrders.{executions_next, orders_next}
 use Rattle.gx_history_laws.proofs.NextReports.{legal_next}
-use Rattle.gx_effects.specs.OneMore.{change_of}
-use Rattle.gx_positions.specs.Changing.{live_positions}
-use Rattle.gx_positions.specs.Laws.{PositionsAreSound, PositionsGoOn, RecordsMayCome}
-use Rattle.gx_positions.proofs.Sums.{sum_of_filter, sum_where-append}
-use Rattle.gx_exposure.specs.Exposure.{executions_after, gain, gained, gross_value, shares_of_chosen}
-use Rattle.gx_exposure.proofs.Live.{gross_value_is, shares_are}
-use Rattle.gx_exposure.proofs.Steps.{AddsNone, AreWorth, adds_none, no_more_shares, no_more_value, shares_held, value_held}
+use Rattle.gx_positions.specs.Laws.{PositionsAreSound, PositionsGoOn, RecordsMayCome, granted_after, turn_after}
+use Rattle.gx_exposure.specs.Exposure.{executions_after, gained, gross_value, is_such, shares_of_chosen}
+use Rattle.gx_exposure.proofs.Steps.{AddsNone, AreWorth, adds_none, all_in_parts, gained-append, no_more_shares, no_more_value, shares_held, value_held}
 use Rattle.gx_exposure.proofs.Worth.{executions_are_worth}
 
 -- what is known of positions
@@ -36,13 +33,6 @@ each_after-append {X} earlier [] ys = ap (λ (before : List X). each_after befor
 each_after-append {X} earlier (x ∷ xs) ys =
     ap (λ (rest : List (List X × X)). (earlier, x) ∷ rest)
     (each_after-append (earlier ++ x ∷ []) xs ys ∙ ap (λ (before : List X). each_after (earlier ++ x ∷ []) xs ++ each_after before ys) (append_assoc earlier (x ∷ []) xs))
-
--- what holds of all holds of the first and of the last
-pub all_in_parts : {X : Type 0} (P : X → Type 0) (xs ys : List X) → AllByRecursion P (xs ++ ys) → AllByRecursion P xs × AllByRecursion P ys
-all_in_parts P [] ys h = (tt, h)
-all_in_parts P (x ∷ xs) ys h =
-    let rest : AllByRecursion P xs × AllByRecursion P ys = all_in_parts P xs ys h.1 in
-    ((h.0, rest.0), rest.1)
 
 -- a legal history's records follow a legal history
 pub legal_in_parts : (policy : PolicyData) (earlier later : List RecordData) → IsLegal policy (earlier ++ later) → IsLegal policy earlier × AllByRecursion (Follows policy) (each_after earlier later)
@@ -67,49 +57,38 @@ kept_to_the_end policy Keeps step earlier later legal kept =
     kept_after policy Keeps step earlier later parts.0 kept parts.1
 
 -- how many orders that are chosen were granted
-abbrev pub granted_to : PolicyData → (Order → Bool) → List RecordData → ℕ
-granted_to policy chosen history = length (filter chosen (orders policy history))
+abbrev pub granted_to : PolicyData → (AccountName → OrderTerms → Bool) → List RecordData → ℕ
+granted_to policy chosen history = length (filter (is_such chosen) (orders policy history))
 
-grants_grow : (policy : PolicyData) (chosen : Order → Bool) (history : List RecordData) (r : RecordData) → granted_to policy chosen history ≤ granted_to policy chosen (history ++ r ∷ [])
+grants_grow : (policy : PolicyData) (chosen : AccountName → OrderTerms → Bool) (history : List RecordData) (r : RecordData) → granted_to policy chosen history ≤ granted_to policy chosen (history ++ r ∷ [])
 grants_grow policy chosen history r =
     let added : List Order = orders_added policy (orders policy history) r in
-    let more = ap (λ (os : List Order). length (filter chosen os)) (orders_next policy history r)
-    ∙ ap length (filter-append chosen (orders policy history) added)
-    ∙ length-append (filter chosen (orders policy history)) (filter chosen added) in
+    let more = ap (λ (os : List Order). length (filter (is_such chosen) os)) (orders_next policy history r)
+    ∙ ap length (filter-append (is_such chosen) (orders policy history) added)
+    ∙ length-append (filter (is_such chosen) (orders policy history)) (filter (is_such chosen) added) in
     omega (arith, more)
-
--- gains add up
-pub gained-append : (made more : List Execution) (among : AccountName → Bool) → gained (made ++ more) among ≡ gained made among + gained more among
-unfolding gained
-gained-append made more among =
-    let theirs : Execution → Bool = λ e. among e.order.account in
-    let all = sum_of_filter theirs gain (made ++ more) in
-    let first = sum_of_filter theirs gain made in
-    let last = sum_of_filter theirs gain more in
-    let parts = sum_where-append theirs gain made more in
-    omega (arith, all, first, last, parts)
 
 -- these come first among all
 abbrev IsFront : List Execution → List Execution → Type 0
 IsFront made all = (more : List Execution) × (all ≡ made ++ more)
 
-module _ (laws : GoOn) (policy : PolicyData) (chosen : Order → Bool) where
+module _ (laws : GoOn) (policy : PolicyData) (chosen : AccountName → OrderTerms → Bool) where
   none_added : (history : List RecordData) (r : RecordData) → IsLegal policy history → Follows policy (history, r) → granted_to policy chosen (history ++ r ∷ []) ≤ granted_to policy chosen history
-      → AddsNone chosen (change_of policy history r)
+      → AddsNone chosen (turn_after policy history r)
   none_added history r legal follows few =
       let grow = grants_grow policy chosen history r in
       let same : granted_to policy chosen (history ++ r ∷ []) ≡ granted_to policy chosen history = omega (arith, few, grow) in
-      adds_none chosen (change_of policy history r) (orders policy history)
-      (sym (ap (λ (held : Positions). length (filter chosen held.grants)) (laws.go_on policy history r.step r legal follows.is_next)) ∙ same)
+      adds_none policy (positions policy history) (granted_after policy history r) (laws.are_sound policy history legal).numbers_differ chosen
+      (sym (ap (λ (os : List Order). length (filter (is_such chosen) os)) (orders_next policy history r)) ∙ same)
+      (turn_after policy history r) (laws.may_come policy history r.step r legal follows.is_next)
 
   no_more_by_record : (history : List RecordData) (r : RecordData) → IsLegal policy history → Follows policy (history, r) → granted_to policy chosen (history ++ r ∷ []) ≤ granted_to policy chosen history
       → shares_of_chosen policy (history ++ r ∷ []) chosen ≤ shares_of_chosen policy history chosen
   no_more_by_record history r legal follows few =
-      let held : Positions = live_positions policy history in
-      let fall = no_more_shares policy held chosen (laws.are_sound policy history legal).numbers_differ (change_of policy history r) (laws.may_come policy history r.step r legal follows.is_next) (none_added history r legal follows few) in
-      let after = shares_are policy (history ++ r ∷ []) chosen ∙ ap (λ (p : Positions). shares_held p chosen) (laws.go_on policy history r.step r legal follows.is_next) in
-      let before = shares_are policy history chosen in
-      omega (arith, fall, after, before)
+      let fall = no_more_shares policy (positions policy history) (granted_after policy history r) (laws.are_sound policy history legal).numbers_differ chosen (turn_after policy history r)
+      (laws.may_come policy history r.step r legal follows.is_next) (none_added history r legal follows few) in
+      let after = ap (λ (p : Positions). shares_held p chosen) (laws.go_on policy history r.step r legal follows.is_next) in
+      omega (arith, fall, after)
 
   -- no order is granted after these, so no more shares
   abbrev KeepsTheShares : List RecordData → List RecordData → Type 0
@@ -154,15 +133,14 @@ module _ (laws : GoOn) (policy : PolicyData) (among : AccountName → Bool) wher
   no_more_value_by_record : (history : List RecordData) (r : RecordData) → IsLegal policy history → Follows policy (history, r) → granted_to policy (of_accounts among) (history ++ r ∷ []) ≤ granted_to policy (of_accounts among) history
       → gross_value policy (history ++ r ∷ []) among + gained (executions policy history) among ≤ gross_value policy history among + gained (executions policy (history ++ r ∷ [])) among
   no_more_value_by_record history r legal follows few =
-      let held : Positions = live_positions policy history in
       let goes = laws.go_on policy history r.step r legal follows.is_next in
-      let worth : AreWorth (executions policy (history ++ r ∷ [])) = executions_are_worth policy (history ++ r ∷ []) (legal_next policy history r legal follows) in
       let made = ap (λ (p : Positions). p.executions) goes in
-      let fall = no_more_value policy held among (laws.are_sound policy history legal).numbers_differ (change_of policy history r) (laws.may_come policy history r.step r legal follows.is_next) (none_added laws policy (of_accounts among) history r legal follows few) (subst AreWorth made worth) in
-      let after = gross_value_is policy (history ++ r ∷ []) among ∙ ap (λ (p : Positions). value_held p among) goes in
-      let before = gross_value_is policy history among in
+      let worth : AreWorth (executions policy (history ++ r ∷ [])) = executions_are_worth policy (history ++ r ∷ []) (legal_next policy history r legal follows) in
+      let fall = no_more_value policy (positions policy history) (granted_after policy history r) (laws.are_sound policy history legal).numbers_differ among (turn_after policy history r)
+      (laws.may_come policy history r.step r legal follows.is_next) (none_added laws policy (of_accounts among) history r legal follows few) (subst AreWorth made worth) in
+      let after = ap (λ (p : Positions). value_held p among) goes in
       let same = ap (λ (es : List Execution). gained es among) made in
-      omega (arith, fall, after, before, same)
+      omega (arith, fall, after, same)
 
   -- and no more value, but for the gain
   abbrev KeepsTheValue : List RecordData → List RecordData → Type 0

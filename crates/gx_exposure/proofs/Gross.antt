@@ -1,5 +1,6 @@
 -- What rules on running sums keep, by the laws of orders, fills and grants.
-use Rattle.gx_positions.proofs.GoingOn.{positions_go_on, records_may_come}
+use Rattle.gx_positions.proofs.Coming.{records_may_come}
+use Rattle.gx_positions.proofs.GoingOn.{positions_go_on}
 use Rattle.gx_positions.proofs.Sound.{positions_are_sound}
 use Rattle.gx_history.specs.Figures.{on_side}
 use Rattle.gx_exposure.specs.Laws.{GrossSharesAreKept, GrossValuesAreKept, NetSharesAreKept, NoneAskedNoneHeld, NoneAskedNoneOnSide}

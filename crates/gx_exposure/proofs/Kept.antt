@@ -1,7 +1,7 @@
 -- A rule on gross shares, gross value or net shares that was in force at the last grant of some accounts keeps its limit.
 use Rattle.std.proofs.Common.{◌≡◌, ℕ, ◌+◌, ◌-◌, ◌≤◌, pos, ◌+ℤ◌, ◌-ℤ◌, int_lt, Bool, true, false, cond, not, List, [], ◌∷◌, ◌++◌, length, refl, sym, ap, ◌∙◌, arith, append_assoc}
 use Rattle.std.proofs.Math.Path.{subst}
-use Rattle.std.specs.Prelude.{Option, Some, option_and_then, option_map, ◌&&◌, ◌||◌}
+use Rattle.std.specs.Prelude.{Option, Some, ◌&&◌, ◌||◌}
 use Rattle.std.specs.Option.{option_map_or}
 use Rattle.std.specs.List.{AllByRecursion, list_any}
 use Rattle.std.proofs.lemmas.Bool.{ltb-false}
@@ -28,8 +28,12 @@ use Rattle.gx_history.specs.declared.record.Step.TheVariants as steps
 use Rattle.gx_history.specs.declared.record.Verdict.TheVariants as verdicts
 use Rattle.gx_history.specs.Asking.{facts}
 use Rattle.gx_history.specs.Book.{is_buy}
-use Rattle.gx_history.specs.Executions.{Standing, executions, standing_numbered, standings}
-use Rattle.gx_history.specs.Figures.{counts_account, figures, is_on, kind_figures, net_done, no_figures, of_accounts, on_side, open_value, other_side, positions, side_done, side_live}
+use Rattle.gx_ouch.specs.declared.outbound.OrderTerms.{OrderTerms}
+use Rattle.gx_history.specs.Executions.{executions}
+use Rattle.gx_history.specs.Live.{live}
+use Rattle.gx_history.specs.LiveOrders.{shares_open}
+use Rattle.gx_history.specs.Book.{is_on}
+use Rattle.gx_history.specs.Figures.{counts_account, figures, kind_figures, net_done, no_figures, of_accounts, on_side, open_value, other_side, positions, side_done, side_live}
 use Rattle.gx_history.specs.InForce.{rules_in_force}
 use Rattle.gx_history.specs.Orders.{Order}
 use Rattle.gx_policy.specs.People.{covers}
@@ -40,6 +44,7 @@ use Rattle.gx_history_laws.proofs.Judging.{both}
 use Rattle.gx_history_laws.proofs.Names.{account_is, stock_is}
 use Rattle.gx_history_laws.proofs.NextReports.{legal_before}
 use Rattle.gx_history_laws.proofs.Numbers.{all_weaker}
+use Rattle.gx_positions.proofs.Sums.{is_chosen}
 use Rattle.gx_exposure.specs.Exposure.{IsLastGrant, KeepsNet, KeepsShares, KeepsValue, executions_after, gained, gross_shares, gross_value, side_shares}
 use Rattle.gx_effects.proofs.Among.{IsIn, all_are_in, of_all}
 use Rattle.gx_exposure.specs.Laws.{GrossSharesAreKept, GrossValuesAreKept, NetSharesAreKept}
@@ -70,12 +75,11 @@ rules_pass policy before a r left granted =
     (none_of_file (rules_now policy before a) (facts_now policy before a) a.request (granted_passes policy before a r left granted))
 
 -- the figures of a rule that has the account in its scope
-figures_in_scope : (policy : PolicyData) (before : List RecordData) (asker : AccountName) (q : Request) (replaced : Option ℕ) (moment : ℕ) (rule : FileRule) → covers rule.scope asker ≡ true
-    → figures policy (positions policy before) asker q replaced moment rule
-    ≡ kind_figures policy (positions policy before) (λ count. counts_account count rule.scope asker) q (option_and_then (standing_numbered (standings policy before)) replaced) moment rule.kind
+figures_in_scope : (policy : PolicyData) (before : List RecordData) (asker : AccountName) (q : Request) (replaced : Option LiveOrder) (moment : ℕ) (rule : FileRule) → covers rule.scope asker ≡ true
+    → figures policy (positions policy before) asker q replaced moment rule ≡ kind_figures policy (positions policy before) (λ count. counts_account count rule.scope asker) q replaced moment rule.kind
 unfolding figures
 figures_in_scope policy before asker q replaced moment rule covered =
-    ap (λ b. cond b (kind_figures policy (positions policy before) (λ count. counts_account count rule.scope asker) q (option_and_then (standing_numbered (standings policy before)) replaced) moment rule.kind) no_figures) covered
+    ap (λ b. cond b (kind_figures policy (positions policy before) (λ count. counts_account count rule.scope asker) q replaced moment rule.kind) no_figures) covered
 
 -- the figures on which the rule passed it
 kind_passes : (policy : PolicyData) (before : List RecordData) (r : RecordData) (g : GrantsOrder policy before r) (rule : FileRule) (kind : RuleKind) → rule.kind ≡ kind → covers rule.scope g.order.account ≡ true
@@ -85,18 +89,17 @@ unfolding facts
 kind_passes policy before r g rule kind is covered passes =
     let given : Facts = facts_now policy before g.asked in
     let q : Request = g.asked.request in
-    let number : Option ℕ = option_map (λ (o : LiveOrder). o.number) given.named in
-    let of_kind : (k : RuleKind) → RuleFigures = λ k. kind_figures policy (positions policy before) (λ count. counts_account count rule.scope g.order.account) q g.old given.moment k in
-    let asked_of : figures_asked policy (positions policy before) q given rule ≡ of_kind rule.kind =
-    ap (λ (account : Option AccountName). option_map_or (λ (account : AccountName). figures policy (positions policy before) account q number given.moment rule) account no_figures) g.is_his
-    ∙ figures_in_scope policy before g.order.account q number given.moment rule covered
-    ∙ ap (λ (o : Option Standing). kind_figures policy (positions policy before) (λ count. counts_account count rule.scope g.order.account) q o given.moment rule.kind) g.is_replaced in
+    let of_kind : Option LiveOrder → RuleKind → RuleFigures = λ o k. kind_figures policy (positions policy before) (λ count. counts_account count rule.scope g.order.account) q o given.moment k in
+    let asked_of : figures_asked policy (positions policy before) q given rule ≡ of_kind g.old rule.kind =
+    ap (λ (account : Option AccountName). option_map_or (λ (account : AccountName). figures policy (positions policy before) account q given.named given.moment rule) account no_figures) g.is_his
+    ∙ figures_in_scope policy before g.order.account q given.named given.moment rule covered
+    ∙ ap (λ (o : Option LiveOrder). of_kind o rule.kind) g.is_replaced in
     sym
     (ap (λ (account : Option AccountName). option_map_or (covers rule.scope) account false && of_proposed given q (kind_forbids rule.kind (figures_asked policy (positions policy before) q given rule))) g.is_his
     ∙ ap (λ b. b && of_proposed given q (kind_forbids rule.kind (figures_asked policy (positions policy before) q given rule))) covered
     ∙ ap (λ (w : Option ProposedOrder). option_map_or (kind_forbids rule.kind (figures_asked policy (positions policy before) q given rule)) w false) g.is_shown
     ∙ ap (λ (f : RuleFigures). kind_forbids rule.kind f g.shown) asked_of
-    ∙ ap (λ (k : RuleKind). kind_forbids k (of_kind k) g.shown) is)
+    ∙ ap (λ (k : RuleKind). kind_forbids k (of_kind g.old k) g.shown) is)
     ∙ passes
 
 -- an asker whose account counts is in the scope, and the same accounts count for him
@@ -110,7 +113,7 @@ counts_the_same counts.Each scope account asker covered counted =
 counts_the_same counts.Together scope account asker covered counted = (counted, refl)
 
 -- an order on a side of a stock: whose it is, and which side
-stands_there : (among : AccountName → Bool) (side : StockSide) (o : Order) → on_side among side o ≡ true
+stands_there : (among : AccountName → Bool) (side : StockSide) (o : LiveOrder) → is_chosen (on_side among side) o ≡ true
     → (among o.account ≡ true) × (record { stock = o.terms.stock; buys = is_buy o.terms.side } ≡ side)
 stands_there among side o h =
     let first = both (among o.account && same_stock o.terms.stock side.stock) (is_on side.buys o.terms.side) h in
@@ -139,31 +142,40 @@ module _ (laws : GoOn) (policy : PolicyData) (before : List RecordData) (r : Rec
   legal_at : IsLegal policy before × Follows policy (before, r)
   legal_at = legal_before policy before r (legal_in_parts policy (before ++ r ∷ []) after legal_on).0
 
-  few : (chosen : Order → Bool) → IsLastGrant policy chosen before r after → granted_to policy chosen ((before ++ r ∷ []) ++ after) ≤ granted_to policy chosen (before ++ r ∷ [])
+  few : (chosen : AccountName → OrderTerms → Bool) → IsLastGrant policy chosen before r after → granted_to policy chosen ((before ++ r ∷ []) ++ after) ≤ granted_to policy chosen (before ++ r ∷ [])
   few chosen last =
       let same : granted_to policy chosen ((before ++ r ∷ []) ++ after) ≡ granted_to policy chosen (before ++ r ∷ []) = ap (granted_to policy chosen) whole ∙ ap (λ (os : List Order). length os) last.is_last in
       omega (arith, same)
 
-  keeps_shares : (g : GrantsOrder policy before r) (rule : FileRule) → Passes policy before g.asked rule → KeepsShares policy before r after rule
-  keeps_shares g rule passes limit count account is covered last =
+  -- a rule that was in force passed the last grant
+  grant_of : (chosen : AccountName → OrderTerms → Bool) → IsLastGrant policy chosen before r after → GrantsOrder policy before r
+  grant_of chosen last = grants_order laws policy before r chosen legal_at.0 legal_at.1 last.is_granted
+
+  passed : (g : GrantsOrder policy before r) (rule : FileRule) → IsIn rule (rules_in_force policy before) → Passes policy before g.asked rule
+  passed g rule was = of_all (Passes policy before g.asked) rule (rules_in_force policy before) (rules_pass policy before g.asked r g.is_left g.is_granted) was
+
+  keeps_shares : (rule : FileRule) → IsIn rule (rules_in_force policy before) → KeepsShares policy before r after rule
+  keeps_shares rule was limit count account is covered last =
       let among : AccountName → Bool = counts_account count rule.scope account in
+      let g : GrantsOrder policy before r = grant_of (of_accounts among) last in
       let counted : among g.order.account ≡ true = g.theirs (of_accounts among) last.is_granted in
       let same : CountsTheSame count rule.scope account g.order.account = counts_the_same count rule.scope account g.order.account covered counted in
-      let old_open : ℕ = option_map_or (λ (s : Standing). s.open_shares) g.old 0 in
-      let low = ltb-false limit (gross_shares policy before (counts_account count rule.scope g.order.account) + new_open g.shown - old_open) (kind_passes policy before r g rule (kinds.GrossShares limit count) is same.0 passes) in
+      let old_open : ℕ = option_map_or shares_open g.old 0 in
+      let low = ltb-false limit (gross_shares policy before (counts_account count rule.scope g.order.account) + new_open g.shown - old_open) (kind_passes policy before r g rule (kinds.GrossShares limit count) is same.0 (passed g rule was)) in
       let theirs = ap (gross_shares policy before) same.1 in
       let then_has = g.shares_then (of_accounts among) counted (g.old_theirs among counted) in
       let no_more = no_more_shares_after laws policy (of_accounts among) (before ++ r ∷ []) after legal_on (few (of_accounts among) last) in
       let now = ap (λ (h : List RecordData). gross_shares policy h among) whole in
       omega (arith, low, theirs, then_has, no_more, now)
 
-  keeps_value : (g : GrantsOrder policy before r) (rule : FileRule) → Passes policy before g.asked rule → KeepsValue policy before r after rule
-  keeps_value g rule passes limit count account is covered last =
+  keeps_value : (rule : FileRule) → IsIn rule (rules_in_force policy before) → KeepsValue policy before r after rule
+  keeps_value rule was limit count account is covered last =
       let among : AccountName → Bool = counts_account count rule.scope account in
+      let g : GrantsOrder policy before r = grant_of (of_accounts among) last in
       let counted : among g.order.account ≡ true = g.theirs (of_accounts among) last.is_granted in
       let same : CountsTheSame count rule.scope account g.order.account = counts_the_same count rule.scope account g.order.account covered counted in
       let old_value : ℕ = option_map_or open_value g.old 0 in
-      let low = ltb-false limit (gross_value policy before (counts_account count rule.scope g.order.account) + value (new_open g.shown) g.shown.price - old_value) (kind_passes policy before r g rule (kinds.GrossValue limit count) is same.0 passes) in
+      let low = ltb-false limit (gross_value policy before (counts_account count rule.scope g.order.account) + value (new_open g.shown) g.shown.price - old_value) (kind_passes policy before r g rule (kinds.GrossValue limit count) is same.0 (passed g rule was)) in
       let theirs = ap (gross_value policy before) same.1 in
       let then_has = g.value_then among counted in
       let no_more = no_more_value_after laws policy among (before ++ r ∷ []) after legal_on (few (of_accounts among) last) in
@@ -171,57 +183,37 @@ module _ (laws : GoOn) (policy : PolicyData) (before : List RecordData) (r : Rec
       let since = ap (λ (h : List RecordData). gained (executions_after policy (before ++ r ∷ []) h) among) whole in
       omega (arith, low, theirs, then_has, no_more, now, since)
 
-  keeps_net : (g : GrantsOrder policy before r) (rule : FileRule) → Passes policy before g.asked rule → KeepsNet policy before r after rule
-  keeps_net g rule passes limit count account side is covered last =
+  keeps_net : (rule : FileRule) → IsIn rule (rules_in_force policy before) → KeepsNet policy before r after rule
+  keeps_net rule was limit count account side is covered last =
       let among : AccountName → Bool = counts_account count rule.scope account in
-      let chosen : on_side among side g.order ≡ true = g.theirs (on_side among side) last.is_granted in
+      let g : GrantsOrder policy before r = grant_of (on_side among side) last in
+      let chosen : is_chosen (on_side among side) g.order ≡ true = g.theirs (on_side among side) last.is_granted in
       let parts = stands_there among side g.order chosen in
       let same : CountsTheSame count rule.scope account g.order.account = counts_the_same count rule.scope account g.order.account covered parts.0 in
-      let old_open : ℕ = option_map_or (λ (s : Standing). s.open_shares) g.old 0 in
+      let old_open : ℕ = option_map_or shares_open g.old 0 in
       let before_it : (AccountName → Bool) → Option StockSide → Bool = λ who there.
-      int_lt (pos limit) (option_map_or (net_done (executions policy before) who) there (pos 0) +ℤ pos (option_map_or (side_live (standings policy before) who) there 0) +ℤ pos (new_open g.shown) -ℤ pos old_open) in
+      int_lt (pos limit) (option_map_or (net_done (executions policy before) who) there (pos 0) +ℤ pos (option_map_or (side_live (live policy before) who) there 0) +ℤ pos (new_open g.shown) -ℤ pos old_open) in
       let passed : before_it among (Some side) ≡ false =
-      (λ i. before_it (sym same.1 i) (sym (g.is_there ∙ ap Some parts.1) i)) ∙ kind_passes policy before r g rule (kinds.NetShares limit count) is same.0 passes in
-      let low = net_low limit (side_done (executions policy before) among side) (side_done (executions policy before) among (other_side side)) (side_live (standings policy before) among side) (new_open g.shown) old_open passed in
+      (λ i. before_it (sym same.1 i) (sym (g.is_there ∙ ap Some parts.1) i)) ∙ kind_passes policy before r g rule (kinds.NetShares limit count) is same.0 (passed g rule was) in
+      let low = net_low limit (side_done (executions policy before) among side) (side_done (executions policy before) among (other_side side)) (side_live (live policy before) among side) (new_open g.shown) old_open passed in
       let then_has = g.shares_then (on_side among side) chosen (g.old_there among side chosen) in
       let no_more = no_more_shares_after laws policy (on_side among side) (before ++ r ∷ []) after legal_on (few (on_side among side) last) in
       let stays = done_stays laws policy (on_side among (other_side side)) before (r ∷ after) legal in
       let now = ap (λ (h : List RecordData). side_shares policy h among side) whole in
       omega (arith, low, then_has, no_more, stays, now)
 
-  -- each rule that was in force
-  all_keep_shares : AllByRecursion (KeepsShares policy before r after) (rules_in_force policy before)
-  all_keep_shares =
-      let rules : List FileRule = rules_in_force policy before in
-      all_weaker (λ (rule : FileRule). IsIn rule rules) (KeepsShares policy before r after) (λ rule among_them limit count account is covered last.
-      let g : GrantsOrder policy before r = grants_order laws policy before r (of_accounts (counts_account count rule.scope account)) legal_at.0 legal_at.1 last.is_granted in
-      keeps_shares g rule (of_all (Passes policy before g.asked) rule rules (rules_pass policy before g.asked r g.is_left g.is_granted) among_them) limit count account is covered last)
-      rules (all_are_in rules)
-
-  all_keep_value : AllByRecursion (KeepsValue policy before r after) (rules_in_force policy before)
-  all_keep_value =
-      let rules : List FileRule = rules_in_force policy before in
-      all_weaker (λ (rule : FileRule). IsIn rule rules) (KeepsValue policy before r after) (λ rule among_them limit count account is covered last.
-      let g : GrantsOrder policy before r = grants_order laws policy before r (of_accounts (counts_account count rule.scope account)) legal_at.0 legal_at.1 last.is_granted in
-      keeps_value g rule (of_all (Passes policy before g.asked) rule rules (rules_pass policy before g.asked r g.is_left g.is_granted) among_them) limit count account is covered last)
-      rules (all_are_in rules)
-
-  all_keep_net : AllByRecursion (KeepsNet policy before r after) (rules_in_force policy before)
-  all_keep_net =
-      let rules : List FileRule = rules_in_force policy before in
-      all_weaker (λ (rule : FileRule). IsIn rule rules) (KeepsNet policy before r after) (λ rule among_them limit count account side is covered last.
-      let g : GrantsOrder policy before r = grants_order laws policy before r (on_side (counts_account count rule.scope account) side) legal_at.0 legal_at.1 last.is_granted in
-      keeps_net g rule (of_all (Passes policy before g.asked) rule rules (rules_pass policy before g.asked r g.is_left g.is_granted) among_them) limit count account side is covered last)
-      rules (all_are_in rules)
+-- what each rule in force keeps, all do
+all_keep : (policy : PolicyData) (before : List RecordData) (Keeps : FileRule → Type 0) → ((rule : FileRule) → IsIn rule (rules_in_force policy before) → Keeps rule) → AllByRecursion Keeps (rules_in_force policy before)
+all_keep policy before Keeps each = all_weaker (λ (rule : FileRule). IsIn rule (rules_in_force policy before)) Keeps each (rules_in_force policy before) (all_are_in (rules_in_force policy before))
 
 -- in every legal history
 pub shares_stay_within : GoOn → GrossSharesAreKept
-shares_stay_within laws policy history legal before after r is = all_keep_shares laws policy before r after (subst (IsLegal policy) is legal)
+shares_stay_within laws policy history legal before after r is = all_keep policy before (KeepsShares policy before r after) (keeps_shares laws policy before r after (subst (IsLegal policy) is legal))
 
 -- and their value
 pub values_stay_within : GoOn → GrossValuesAreKept
-values_stay_within laws policy history legal before after r is = all_keep_value laws policy before r after (subst (IsLegal policy) is legal)
+values_stay_within laws policy history legal before after r is = all_keep policy before (KeepsValue policy before r after) (keeps_value laws policy before r after (subst (IsLegal policy) is legal))
 
 -- and their net position
 pub net_stays_within : GoOn → NetSharesAreKept
-net_stays_within laws policy history legal before after r is = all_keep_net laws policy before r after (subst (IsLegal policy) is legal)
+net_stays_within laws policy history legal before after r is = all_keep policy before (KeepsNet policy before r after) (keeps_net laws policy before r after (subst (IsLegal policy) is legal))

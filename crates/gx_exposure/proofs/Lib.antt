@@ -1,6 +1,5 @@
 pub mod Steps
 pub mod Worth
-pub mod Live
 pub mod After
 pub mod Grants
 pub mod None

@@ -1,5 +1,5 @@
 -- Accounts that were granted no order have nothing.
-use Rattle.std.proofs.Common.{◌≡◌, ℕ, Bool, true, false, cond, List, [], ◌∷◌, map, refl, sym, ap, ◌∙◌, arith}
+use Rattle.std.proofs.Common.{◌≡◌, ℕ, Bool, true, false, cond, List, [], ◌∷◌, map, refl, sym, ◌∙◌, arith}
 use Rattle.std.proofs.Math.Path.{subst}
 use Rattle.std.specs.Prelude.{Option, Some, None, nat_eq, option_to_list}
 use Rattle.std.specs.List.{filter, AllByRecursion}
@@ -12,18 +12,21 @@ use Rattle.gx_history.specs.declared.record.Fill.{Fill}
 use Rattle.gx_history.specs.declared.record.RecordData.{RecordData}
 use Rattle.gx_history.specs.declared.record.Verdict.{Verdict}
 use Rattle.gx_history.specs.declared.record.Verdict.TheVariants as verdicts
-use Rattle.gx_history.specs.Executions.{Execution, Standing, executions, side_of, sides, standing, standings}
+use Rattle.gx_ouch.specs.declared.outbound.OrderTerms.{OrderTerms}
+use Rattle.gx_history.specs.declared.live_order.LiveOrder.{LiveOrder}
+use Rattle.gx_history.specs.Executions.{Execution, executions, side_of, sides}
 use Rattle.gx_history.specs.Figures.{of_accounts}
+use Rattle.gx_history.specs.Live.{live}
 use Rattle.gx_history.specs.Orders.{Order, order_numbered, orders, orders_added}
 use Rattle.gx_history.specs.Verdicts.{IsLegal}
 use Rattle.gx_history_laws.proofs.Granting.{legal_keeps}
 use Rattle.gx_history_laws.proofs.NextOrders.{executions_next, executions_none, orders_next}
 use Rattle.gx_history_laws.proofs.Owners.{all_both}
-use Rattle.gx_effects.proofs.Entered.{all_mapped}
 use Rattle.gx_effects.proofs.NewOrders.{found_is}
-use Rattle.gx_positions.proofs.Sums.{as_shares, done_are, done_value_are, is_chosen, live_value_are, open_are, open_of, sum_where}
-use Rattle.gx_exposure.specs.Exposure.{HasNothing, NoneIsGranted, shares_of_chosen}
-use Rattle.gx_exposure.proofs.After.{all_in_parts}
+use Rattle.gx_positions.proofs.Coming.{of_live}
+use Rattle.gx_positions.proofs.Sums.{done_are, done_value_are, is_chosen, none_of, shares_of, sum_of_none, value_of}
+use Rattle.gx_exposure.specs.Exposure.{HasNothing, NoneIsGranted, is_such, shares_of_chosen}
+use Rattle.gx_exposure.proofs.Steps.{all_in_parts}
 
 none_passes : {X : Type 0} (p : X → Bool) (xs : List X) → filter p xs ≡ [] → AllByRecursion (λ (x : X). p x ≡ false) xs
 none_passes p [] h = tt
@@ -32,13 +35,6 @@ none_passes {X} p (x ∷ xs) h = at (p x) refl h (none_passes p xs)
     at : (b : Bool) → p x ≡ b → cond b (x ∷ filter p xs) (filter p xs) ≡ [] → (filter p xs ≡ [] → AllByRecursion (λ (x : X). p x ≡ false) xs) → AllByRecursion (λ (x : X). p x ≡ false) (x ∷ xs)
     at true e k deeper = cc
     at false e k deeper = (e, deeper k)
-
-sum_of_none : {X : Type 0} (p : X → Bool) (m : X → ℕ) (xs : List X) → AllByRecursion (λ (x : X). p x ≡ false) xs → sum_where p m xs ≡ 0
-sum_of_none p m [] h = refl
-sum_of_none p m (x ∷ xs) h =
-    let here = ap (λ b. cond b (m x) 0) h.0 in
-    let rest = sum_of_none p m xs h.1 in
-    omega (arith, here, rest)
 
 module _ (P : Order → Type 0) where
   -- a fill's sides are orders that are known
@@ -70,33 +66,29 @@ module _ (P : Order → Type 0) where
       (all_both (λ (e : Execution). P e.order) (executions policy h) (sides policy h r.verdict) (kept parts.0) (sides_have policy h r.verdict parts.0)))
       history legal
 
--- all orders stand as they were granted
-standings_have : (policy : PolicyData) (history : List RecordData) (chosen : Order → Bool) → AllByRecursion (λ (o : Order). chosen o ≡ false) (orders policy history)
-    → AllByRecursion (λ (s : Standing). is_chosen chosen s ≡ false) (standings policy history)
-unfolding standings
-standings_have policy history chosen h = all_mapped (λ (s : Standing). is_chosen chosen s ≡ false) (standing (executions policy history) history) (orders policy history) h
+module _ (policy : PolicyData) (history : List RecordData) (chosen : AccountName → OrderTerms → Bool) (legal : IsLegal policy history) (none : NoneIsGranted policy history chosen) where
+  not_chosen : AllByRecursion (λ (o : Order). is_such chosen o ≡ false) (orders policy history)
+  not_chosen = none_passes (is_such chosen) (orders policy history) none
 
-module _ (policy : PolicyData) (history : List RecordData) (chosen : Order → Bool) (legal : IsLegal policy history) (none : NoneIsGranted policy history chosen) where
-  not_chosen : AllByRecursion (λ (o : Order). chosen o ≡ false) (orders policy history)
-  not_chosen = none_passes chosen (orders policy history) none
+  none_lives : AllByRecursion (λ (o : LiveOrder). is_chosen chosen o ≡ false) (live policy history)
+  none_lives =
+      of_live policy history (λ (x : Order). is_such chosen x ≡ false) (λ (o : LiveOrder). is_chosen chosen o ≡ false)
+      (λ x o is h. (λ i. chosen (sym is.account i) (sym is.terms i)) ∙ h) legal not_chosen
 
-  none_stands : AllByRecursion (λ (s : Standing). is_chosen chosen s ≡ false) (standings policy history)
-  none_stands = standings_have policy history chosen not_chosen
-
-  none_executed : AllByRecursion (λ (e : Execution). chosen e.order ≡ false) (executions policy history)
-  none_executed = executions_have (λ (o : Order). chosen o ≡ false) policy history legal not_chosen
+  none_executed : AllByRecursion (λ (e : Execution). is_such chosen e.order ≡ false) (executions policy history)
+  none_executed = executions_have (λ (o : Order). is_such chosen o ≡ false) policy history legal not_chosen
 
   -- none granted, no shares
   pub no_shares : shares_of_chosen policy history chosen ≡ 0
   no_shares =
-      let still = open_are (standings policy history) chosen ∙ sum_of_none (is_chosen chosen) (open_of as_shares) (standings policy history) none_stands in
-      let done = done_are (executions policy history) chosen ∙ sum_of_none (λ (e : Execution). chosen e.order) (λ (e : Execution). e.fill.shares) (executions policy history) none_executed in
+      let still = none_of (shares_of chosen) (live policy history) none_lives in
+      let done = done_are (executions policy history) chosen ∙ sum_of_none (λ (e : Execution). is_such chosen e.order) (λ (e : Execution). e.fill.shares) (executions policy history) none_executed in
       omega (arith, still, done)
 
 -- none granted, none held
 pub none_asked : (policy : PolicyData) (history : List RecordData) (among : AccountName → Bool) → IsLegal policy history → NoneIsGranted policy history (of_accounts among) → HasNothing policy history among
 none_asked policy history among legal none =
     let theirs : Execution → Bool = λ e. among e.order.account in
-    let value_open = live_value_are (standings policy history) among ∙ sum_of_none (is_chosen (of_accounts among)) (open_of value) (standings policy history) (none_stands policy history (of_accounts among) legal none) in
+    let value_open = none_of (value_of among) (live policy history) (none_lives policy history (of_accounts among) legal none) in
     let value_done = done_value_are (executions policy history) among ∙ sum_of_none theirs (λ (e : Execution). value e.fill.shares e.fill.price) (executions policy history) (none_executed policy history (of_accounts among) legal none) in
     record { no_shares = no_shares policy history (of_accounts among) legal none; no_value = omega (arith, value_open, value_done) }

@@ -1,37 +1,37 @@
--- A change that adds no order of some accounts raises nothing that they have in all.
+-- A turn that adds no order of some accounts raises nothing that they have in all.
 use Rattle.std.proofs.Common.{◌≡◌, ℕ, ◌+◌, ◌≤◌, Bool, true, false, cond, List, [], ◌∷◌, ◌++◌, length, refl, sym, ap, ◌∙◌, arith}
-use Rattle.std.specs.Prelude.{nat_eq}
 use Rattle.std.proofs.Math.Path.{subst}
-use Rattle.std.specs.List.{filter, AllByRecursion, IsDistinct}
-use Rattle.std.proofs.lemmas.List.{length-append}
+use Rattle.std.specs.Prelude.{nat_eq}
+use Rattle.std.specs.List.{filter, filter_map, AllByRecursion, IsDistinct}
+use Rattle.std.proofs.lemmas.List.{append-nil, length-append}
 use Rattle.std.proofs.lemmas.List.Elements.{filter-append}
 use Rattle.gx_units.specs.Money.{value}
 use Rattle.gx_units.specs.declared.names.AccountName.{AccountName}
+use Rattle.gx_ouch.specs.declared.outbound.OrderTerms.{OrderTerms}
 use Rattle.gx_policy.specs.declared.policy.PolicyData.{PolicyData}
+use Rattle.gx_history.specs.declared.live_order.LiveOrder.{LiveOrder}
 use Rattle.gx_history.specs.declared.record.Fill.{Fill}
 use Rattle.gx_history.specs.Executions.{Execution}
 use Rattle.gx_history.specs.Figures.{Positions, done_of_chosen, done_value, live_value, of_accounts, open_of_chosen}
-use Rattle.gx_history.specs.Matched.{taker_side, maker_side}
 use Rattle.gx_history.specs.Orders.{Order}
-use Rattle.gx_effects.specs.OneMore.{Change, Adds, EndsAll, Fills, Leaves, Nothing, Replaces, Rests}
-use Rattle.gx_positions.specs.Changing.{executions_with, grants_with, positions_with}
-use Rattle.gx_positions.specs.Sound.{MayChange, numbers_of}
-use Rattle.gx_positions.proofs.Sums.{done_shares_filled, done_value_filled, executions_filled, is_chosen, shares_added, shares_filled, shares_not_ended, shares_replaced, shares_when_left, sum_of_filter, sum_where-append, value_added, value_filled, value_not_ended, value_replaced, value_when_left}
-use Rattle.gx_exposure.specs.Exposure.{gain, gained}
+use Rattle.gx_history.specs.Turns.{Turn, Adds, EndsAll, Ends, Fills, Keeps, Replaces, Rests, Sizes, becomes, new_in, turned}
+use Rattle.gx_effects.proofs.Fills.{both_sides, maker_side, taker_side}
+use Rattle.gx_positions.specs.Changing.{executed_by, positions_with}
+use Rattle.gx_positions.specs.Sound.{IsThere, MayChange, MayCome, MayFill, numbers_of}
+use Rattle.gx_positions.proofs.Sums.{IsOpenSum, done_shares_filled, done_value_filled, filled_by, is_chosen, joined, no_rise_by, none_gains, none_of, shares_of, sides_are, sum_of_filter, sum_where-append, value_of}
+use Rattle.gx_exposure.specs.Exposure.{gain, gained, is_such}
 
 -- what the orders that are chosen have in all
-abbrev pub shares_held : Positions → (Order → Bool) → ℕ
-shares_held held chosen = open_of_chosen held.standings chosen + done_of_chosen held.executions chosen
+abbrev pub shares_held : Positions → (AccountName → OrderTerms → Bool) → ℕ
+shares_held held chosen = open_of_chosen held.live chosen + done_of_chosen held.executions chosen
 
 -- and what those of these accounts are worth
 abbrev pub value_held : Positions → (AccountName → Bool) → ℕ
-value_held held among = live_value held.standings among + done_value held.executions among
+value_held held among = live_value held.live among + done_value held.executions among
 
--- the change adds no order that is chosen
-abbrev pub AddsNone : (Order → Bool) → Change → Type 0
-AddsNone chosen (Adds new) = chosen new.order ≡ false
-AddsNone chosen (Replaces number new) = chosen new.order ≡ false
-AddsNone chosen other = Unit {0}
+-- no order comes new that is chosen
+abbrev pub AddsNone : (AccountName → OrderTerms → Bool) → Turn → Type 0
+AddsNone chosen turn = AllByRecursion (λ (o : LiveOrder). is_chosen chosen o ≡ false) (new_in turn)
 
 -- the executed shares are worth no more than at the order's own price and the gain
 abbrev pub IsWorth : Execution → Type 0
@@ -41,90 +41,140 @@ IsWorth e = value e.fill.shares e.fill.price ≤ value e.fill.shares e.order.ter
 abbrev pub AreWorth : List Execution → Type 0
 AreWorth made = AllByRecursion IsWorth made
 
--- what holds of all holds of the last
-pub all_behind : {X : Type 0} (P : X → Type 0) (xs ys : List X) → AllByRecursion P (xs ++ ys) → AllByRecursion P ys
-all_behind P [] ys h = h
-all_behind P (x ∷ xs) ys h = all_behind P xs ys h.1
+-- what holds of all holds of the first and of the last
+pub all_in_parts : {X : Type 0} (P : X → Type 0) (xs ys : List X) → AllByRecursion P (xs ++ ys) → AllByRecursion P xs × AllByRecursion P ys
+all_in_parts P [] ys h = (tt, h)
+all_in_parts P (x ∷ xs) ys h =
+    let rest : AllByRecursion P xs × AllByRecursion P ys = all_in_parts P xs ys h.1 in
+    ((h.0, rest.0), rest.1)
 
-none_more : (b : Bool) (n : ℕ) → b ≡ false → cond b n 0 ≡ 0
-none_more b n h = ap (λ c. cond c n 0) h
+-- gains add up
+pub gained-append : (made more : List Execution) (among : AccountName → Bool) → gained (made ++ more) among ≡ gained made among + gained more among
+unfolding gained
+gained-append made more among =
+    let theirs : Execution → Bool = λ e. among e.order.account in
+    let all = sum_of_filter theirs gain (made ++ more) in
+    let first = sum_of_filter theirs gain made in
+    let last = sum_of_filter theirs gain more in
+    let parts = sum_where-append theirs gain made more in
+    omega (arith, all, first, last, parts)
 
-module _ (policy : PolicyData) (held : Positions) (chosen : Order → Bool) (distinct : IsDistinct nat_eq (numbers_of held.standings)) where
-  -- no more shares, open or executed
-  pub no_more_shares : (change : Change) → MayChange policy held change → AddsNone chosen change → shares_held (positions_with change held) chosen ≤ shares_held held chosen
-  no_more_shares Nothing may none = omega arith
-  no_more_shares (Adds new) may none =
-      let more = shares_added chosen held.standings new in
-      let no_more = none_more (is_chosen chosen new) new.open_shares none in
-      omega (arith, more, no_more)
-  no_more_shares (Leaves number left) may none = let fall = shares_when_left chosen held number left distinct may in omega (arith, fall)
-  no_more_shares (Replaces number new) may none =
-      let turn = shares_replaced chosen held.standings number may.old new distinct may.is_found in
-      let no_more = none_more (is_chosen chosen new) new.open_shares none in
-      omega (arith, turn, no_more)
-  no_more_shares (EndsAll action) may none = let fall = shares_not_ended chosen held.standings action in omega (arith, fall)
-  no_more_shares (Fills f) may none =
-      let fall = shares_filled chosen held f distinct may in
-      let rise = done_shares_filled chosen held f may in
-      omega (arith, fall, rise)
-  no_more_shares (Rests s) may none = omega arith
+module _ (policy : PolicyData) (held : Positions) (granted : List Order) (distinct : IsDistinct nat_eq (numbers_of held.live)) where
+  -- what is open falls, where no order comes that is chosen
+  open_falls : {figure : List LiveOrder → ℕ} {chosen : AccountName → OrderTerms → Bool} {weight : ℕ → ℕ → ℕ} → IsOpenSum figure chosen weight → (turn : Turn) → MayChange policy held turn granted → AddsNone chosen turn
+      → figure (turned turn held.live) ≤ figure held.live
+  open_falls is turn may none =
+      let both = joined is (filter_map (becomes turn) held.live) (new_in turn) in
+      let fall = no_rise_by is turn held.live (none_gains policy held turn granted distinct may) in
+      let new = none_of is (new_in turn) none in
+      omega (arith, both, fall, new)
 
-module _ (policy : PolicyData) (held : Positions) (among : AccountName → Bool) (distinct : IsDistinct nat_eq (numbers_of held.standings)) where
-  gained_filled : (f : Fill) → (may : MayChange policy held (Fills f))
-      → gained (executions_with (Fills f) held) among ≡ gained held.executions among + (cond (is_chosen (of_accounts among) may.taker) (gain (taker_side f may.taker.order)) 0 + cond (is_chosen (of_accounts among) may.maker) (gain (maker_side f may.maker.order)) 0)
-  unfolding gained
-  gained_filled f may =
-      let theirs : Execution → Bool = λ e. among e.order.account in
-      let two : List Execution = taker_side f may.taker.order ∷ maker_side f may.maker.order ∷ [] in
-      let after = ap (λ (es : List Execution). gained es among) (executions_filled held f may) ∙ sum_of_filter theirs gain (held.executions ++ two) in
-      let before = sum_of_filter theirs gain held.executions in
-      let parts = sum_where-append theirs gain held.executions two in
-      omega (arith, after, before, parts)
+  -- where two are filled, by their shares
+  open_fills : {figure : List LiveOrder → ℕ} {chosen : AccountName → OrderTerms → Bool} {weight : ℕ → ℕ → ℕ} → IsOpenSum figure chosen weight → (f : Fill) (may : MayFill held f)
+      → figure (turned (Fills f) held.live)
+      + (cond (is_chosen chosen may.taker.order) (weight f.shares may.taker.order.terms.price) 0 + cond (is_chosen chosen may.maker.order) (weight f.shares may.maker.order.terms.price) 0)
+      ≡ figure held.live
+  open_fills {figure} is f may =
+      let same = ap figure (append-nil (filter_map (becomes (Fills f)) held.live)) in
+      let fall = filled_by is held f distinct may in
+      omega (arith, same, fall)
 
-  within : (b : Bool) (paid asked more : ℕ) → paid ≤ asked + more → cond b paid 0 ≤ cond b asked 0 + cond b more 0
-  within true paid asked more h = h
-  within false paid asked more h = omega arith
+  -- nothing is executed
+  same_made : (turn : Turn) → executed_by turn held.grants ≡ [] → held.executions ++ executed_by turn held.grants ≡ held.executions
+  same_made turn idle = ap (λ (es : List Execution). held.executions ++ es) idle ∙ append-nil held.executions
 
-  -- no more value, open or executed, but for the gain
-  pub no_more_value : (change : Change) → MayChange policy held change → AddsNone (of_accounts among) change → AreWorth (executions_with change held)
-      → value_held (positions_with change held) among + gained held.executions among ≤ value_held held among + gained (executions_with change held) among
-  no_more_value Nothing may none worth = omega arith
-  no_more_value (Adds new) may none worth =
-      let more = value_added among held.standings new in
-      let no_more = none_more (is_chosen (of_accounts among) new) (value new.open_shares new.order.terms.price) none in
-      omega (arith, more, no_more)
-  no_more_value (Leaves number left) may none worth = let fall = value_when_left among held number left distinct may in omega (arith, fall)
-  no_more_value (Replaces number new) may none worth =
-      let turn = value_replaced among held.standings number may.old new distinct may.is_found in
-      let no_more = none_more (is_chosen (of_accounts among) new) (value new.open_shares new.order.terms.price) none in
-      omega (arith, turn, no_more)
-  no_more_value (EndsAll action) may none worth = let fall = value_not_ended among held.standings action in omega (arith, fall)
-  no_more_value (Fills f) may none worth =
-      let fall = value_filled among held f distinct may in
-      let rise = done_value_filled among held f may in
-      let more = gained_filled f may in
-      let two : List Execution = taker_side f may.taker.order ∷ maker_side f may.maker.order ∷ [] in
-      let each : AreWorth two = all_behind IsWorth held.executions two (subst AreWorth (executions_filled held f may) worth) in
-      let of_taker = within (is_chosen (of_accounts among) may.taker) (value f.shares f.price) (value f.shares may.taker.order.terms.price) (gain (taker_side f may.taker.order)) each.0 in
-      let of_maker = within (is_chosen (of_accounts among) may.maker) (value f.shares f.price) (value f.shares may.maker.order.terms.price) (gain (maker_side f may.maker.order)) each.1.0 in
-      omega (arith, fall, rise, more, of_taker, of_maker)
-  no_more_value (Rests s) may none worth = omega arith
+  module _ (chosen : AccountName → OrderTerms → Bool) where
+    fewer_shares : (turn : Turn) → MayChange policy held turn granted → AddsNone chosen turn → executed_by turn held.grants ≡ [] → shares_held (positions_with turn granted held) chosen ≤ shares_held held chosen
+    fewer_shares turn may none idle =
+        let fall = open_falls (shares_of chosen) turn may none in
+        let made = ap (λ (es : List Execution). done_of_chosen es chosen) (same_made turn idle) in
+        omega (arith, fall, made)
 
-one_more : (chosen : Order → Bool) (grants : List Order) (o : Order) → length (filter chosen (grants ++ o ∷ [])) ≡ length (filter chosen grants) → chosen o ≡ false
-one_more chosen grants o same =
-    at (chosen o)
-    (sym (length-append (filter chosen grants) (filter chosen (o ∷ []))) ∙ sym (ap length (filter-append chosen grants (o ∷ []))) ∙ same)
-  where
-    at : (b : Bool) → length (filter chosen grants) + length (cond {A = List Order} b (o ∷ []) []) ≡ length (filter chosen grants) → b ≡ false
-    at true h = absurd (omega arith)
-    at false h = refl
+    -- no more shares, open or executed
+    pub no_more_shares : (turn : Turn) → MayChange policy held turn granted → AddsNone chosen turn → shares_held (positions_with turn granted held) chosen ≤ shares_held held chosen
+    no_more_shares Keeps may none = fewer_shares Keeps may none refl
+    no_more_shares (Adds new) may none = fewer_shares (Adds new) may none refl
+    no_more_shares (Sizes number size) may none = fewer_shares (Sizes number size) may none refl
+    no_more_shares (Replaces number new) may none = fewer_shares (Replaces number new) may none refl
+    no_more_shares (EndsAll action) may none = fewer_shares (EndsAll action) may none refl
+    no_more_shares (Fills f) may none =
+        let fall = open_fills (shares_of chosen) f may in
+        let rise = done_shares_filled chosen held f may in
+        omega (arith, fall, rise)
+    no_more_shares (Rests number) may none = fewer_shares (Rests number) may none refl
+    no_more_shares (Ends number) may none = fewer_shares (Ends number) may none refl
 
--- where as many such orders are there as before, none was added
-pub adds_none : (chosen : Order → Bool) (change : Change) (grants : List Order) → length (filter chosen (grants_with change grants)) ≡ length (filter chosen grants) → AddsNone chosen change
-adds_none chosen Nothing grants same = tt
-adds_none chosen (Adds new) grants same = one_more chosen grants new.order same
-adds_none chosen (Leaves number left) grants same = tt
-adds_none chosen (Replaces number new) grants same = one_more chosen grants new.order same
-adds_none chosen (EndsAll action) grants same = tt
-adds_none chosen (Fills f) grants same = tt
-adds_none chosen (Rests s) grants same = tt
+  module _ (among : AccountName → Bool) where
+    less_value : (turn : Turn) → MayChange policy held turn granted → AddsNone (of_accounts among) turn → executed_by turn held.grants ≡ []
+        → value_held (positions_with turn granted held) among + gained held.executions among ≤ value_held held among + gained (held.executions ++ executed_by turn held.grants) among
+    less_value turn may none idle =
+        let fall = open_falls (value_of among) turn may none in
+        let made = ap (λ (es : List Execution). done_value es among) (same_made turn idle) in
+        let gains = ap (λ (es : List Execution). gained es among) (same_made turn idle) in
+        omega (arith, fall, made, gains)
+
+    gained_filled : (f : Fill) (may : MayFill held f)
+        → gained (executed_by (Fills f) held.grants) among
+        ≡ cond (among may.taker.order.account) (gain (taker_side f may.taker.grant)) 0 + (cond (among may.maker.order.account) (gain (maker_side f may.maker.grant)) 0 + 0)
+    unfolding gained
+    gained_filled f may =
+        ap (λ (es : List Execution). gained es among) (sides_are held f may)
+        ∙ sum_of_filter (λ (e : Execution). among e.order.account) gain (both_sides f may.taker.grant may.maker.grant)
+        ∙ (λ i. cond (among (may.taker.is_of.account i)) (gain (taker_side f may.taker.grant)) 0 + (cond (among (may.maker.is_of.account i)) (gain (maker_side f may.maker.grant)) 0 + 0))
+
+    within : (b : Bool) (paid asked more : ℕ) → paid ≤ asked + more → cond b paid 0 ≤ cond b asked 0 + cond b more 0
+    within true paid asked more h = h
+    within false paid asked more h = omega arith
+
+    -- one side, at the price of the live order
+    side_worth : (f : Fill) (number : ℕ) (there : IsThere held number) (gains : ℕ) → value f.shares f.price ≤ value f.shares there.grant.terms.price + gains
+        → cond (among there.order.account) (value f.shares f.price) 0 ≤ cond (among there.order.account) (value f.shares there.order.terms.price) 0 + cond (among there.order.account) gains 0
+    side_worth f number there gains h =
+        within (among there.order.account) (value f.shares f.price) (value f.shares there.order.terms.price) gains
+        (subst (λ (terms : OrderTerms). value f.shares f.price ≤ value f.shares terms.price + gains) there.is_of.terms h)
+
+    -- no more value, open or executed, but for the gain
+    pub no_more_value : (turn : Turn) → MayChange policy held turn granted → AddsNone (of_accounts among) turn → AreWorth (held.executions ++ executed_by turn held.grants)
+        → value_held (positions_with turn granted held) among + gained held.executions among ≤ value_held held among + gained (held.executions ++ executed_by turn held.grants) among
+    no_more_value Keeps may none worth = less_value Keeps may none refl
+    no_more_value (Adds new) may none worth = less_value (Adds new) may none refl
+    no_more_value (Sizes number size) may none worth = less_value (Sizes number size) may none refl
+    no_more_value (Replaces number new) may none worth = less_value (Replaces number new) may none refl
+    no_more_value (EndsAll action) may none worth = less_value (EndsAll action) may none refl
+    no_more_value (Fills f) may none worth =
+        let fall = open_fills (value_of among) f may in
+        let rise = done_value_filled among held f may in
+        let more = gained-append held.executions (executed_by (Fills f) held.grants) among in
+        let gains = gained_filled f may in
+        let each : AreWorth (both_sides f may.taker.grant may.maker.grant) = subst AreWorth (sides_are held f may) (all_in_parts IsWorth held.executions (executed_by (Fills f) held.grants) worth).1 in
+        let of_taker = side_worth f f.taker may.taker (gain (taker_side f may.taker.grant)) each.0 in
+        let of_maker = side_worth f f.maker may.maker (gain (maker_side f may.maker.grant)) each.1.0 in
+        omega (arith, fall, rise, more, gains, of_taker, of_maker)
+    no_more_value (Rests number) may none worth = less_value (Rests number) may none refl
+    no_more_value (Ends number) may none worth = less_value (Ends number) may none refl
+
+  -- where as many such orders are there as before, none was added
+  module _ (chosen : AccountName → OrderTerms → Bool) (same : length (filter (is_such chosen) (held.grants ++ granted)) ≡ length (filter (is_such chosen) held.grants)) where
+    none_granted : (grant : Order) → granted ≡ grant ∷ [] → is_such chosen grant ≡ false
+    none_granted grant one =
+        at (is_such chosen grant)
+        (sym (length-append (filter (is_such chosen) held.grants) (filter (is_such chosen) (grant ∷ []))) ∙ sym (ap length (filter-append (is_such chosen) held.grants (grant ∷ [])))
+        ∙ ap (λ (more : List Order). length (filter (is_such chosen) (held.grants ++ more))) (sym one)
+        ∙ same)
+      where
+        at : (b : Bool) → length (filter (is_such chosen) held.grants) + length (cond {A = List Order} b (grant ∷ []) []) ≡ length (filter (is_such chosen) held.grants) → b ≡ false
+        at true h = absurd (omega arith)
+        at false h = refl
+
+    not_new : (new : LiveOrder) → MayCome policy held new granted → is_chosen chosen new ≡ false
+    not_new new may = (λ i. chosen (sym may.is_of.account i) (sym may.is_of.terms i)) ∙ none_granted may.grant may.is_granted
+
+    pub adds_none : (turn : Turn) → MayChange policy held turn granted → AddsNone chosen turn
+    adds_none Keeps may = tt
+    adds_none (Adds new) may = (not_new new may, tt)
+    adds_none (Sizes number size) may = tt
+    adds_none (Replaces number new) may = (not_new new may.may_come, tt)
+    adds_none (EndsAll action) may = tt
+    adds_none (Fills f) may = tt
+    adds_none (Rests number) may = tt
+    adds_none (Ends number) may = tt

@@ -13,16 +13,17 @@ use Rattle.gx_history.specs.declared.record.Step.{Step}
 use Rattle.gx_history.specs.declared.record.Step.TheVariants as steps
 use Rattle.gx_history.specs.declared.record.Verdict.{Verdict}
 use Rattle.gx_history.specs.declared.record.Verdict.TheVariants as verdicts
-use Rattle.gx_history.specs.Book.{is_buy_order}
+use Rattle.gx_ouch.specs.declared.outbound.OrderTerms.{OrderTerms}
+use Rattle.gx_history.specs.declared.live_order.LiveOrder.{LiveOrder}
+use Rattle.gx_history.specs.Book.{is_buy}
 use Rattle.gx_history.specs.Executions.{executions, sides}
-use Rattle.gx_history.specs.Matched.{FillsOrders, maker_side, taker_side}
 use Rattle.gx_history.specs.Requests.{is_judged}
 use Rattle.gx_history.specs.Verdicts.{Follows, IsLegal, next}
 use Rattle.gx_history_laws.proofs.Granting.{asked_is_judged, legal_keeps}
 use Rattle.gx_history_laws.proofs.NextOrders.{executions_next, executions_none}
 use Rattle.gx_history_laws.proofs.NextReports.{legal_next, legal_none}
 use Rattle.gx_history_laws.proofs.Owners.{all_both}
-use Rattle.gx_effects.proofs.Fills.{fill_takes_effect, same_fill}
+use Rattle.gx_effects.proofs.Fills.{IsFill, both_sides, is_fill, sides_are}
 use Rattle.gx_effects.proofs.Orderly.{legal_is_orderly}
 use Rattle.gx_exposure.proofs.Steps.{AreWorth, IsWorth}
 
@@ -38,14 +39,20 @@ taker_pays : (b : Bool) (own other : ℕ) → elim b as (λ _. Bool) [ true ↦ 
 taker_pays true own other h e = leb-true other own h
 taker_pays false own other h e = cc
 
-fill_is_worth : (policy : PolicyData) (before after : List RecordData) (r : RecordData) (f : Fill) → r.verdict ≡ verdicts.Filled f → (is : FillsOrders policy before after r f)
-    → AreWorth (taker_side f is.taker.order ∷ maker_side f is.maker.order ∷ [])
-fill_is_worth policy before after r f fills is =
-    let price : f.price ≡ is.maker.order.terms.price = ap (λ (g : Fill). g.price) (same_fill f _ (sym fills ∙ is.is_theirs)) in
-    let of_taker : is_buy_order is.taker.order ≡ true → f.price ≤ is.taker.order.terms.price =
-    λ e. let most = taker_pays (is_buy_order is.taker.order) is.taker.order.terms.price is.maker.order.terms.price is.do_cross e in omega (arith, most, price) in (
-      worth_by (is_buy_order is.taker.order) f.shares f.price is.taker.order.terms.price of_taker,
-      (worth_by (is_buy_order is.maker.order) f.shares f.price is.maker.order.terms.price (λ e. omega (arith, price)), tt),
+-- the side of the order that was granted on these terms
+side_is_worth : (f : Fill) (terms of_grant : OrderTerms) → of_grant ≡ terms → (is_buy terms.side ≡ true → f.price ≤ terms.price)
+    → value f.shares f.price ≤ value f.shares of_grant.price + cond (is_buy of_grant.side) 0 (value f.shares (f.price - of_grant.price))
+side_is_worth f terms of_grant same pays =
+    subst (λ (t : OrderTerms). value f.shares f.price ≤ value f.shares t.price + cond (is_buy t.side) 0 (value f.shares (f.price - t.price))) (sym same) (worth_by (is_buy terms.side) f.shares f.price terms.price pays)
+
+fill_is_worth : (policy : PolicyData) (before : List RecordData) (r : RecordData) (f : Fill) (is : IsFill policy before r f)
+    → AreWorth (both_sides f is.taker_waits.known.of.order is.maker_rests.known.of.order)
+fill_is_worth policy before r f is =
+    let price : f.price ≡ is.may.maker.terms.price = ap (λ (g : Fill). g.price) is.may.is_theirs in
+    let of_taker : is_buy is.may.taker.terms.side ≡ true → f.price ≤ is.may.taker.terms.price =
+    λ e. let most = taker_pays (is_buy is.may.taker.terms.side) is.may.taker.terms.price is.may.maker.terms.price is.may.cross e in omega (arith, most, price) in (
+      side_is_worth f is.may.taker.terms is.taker_waits.known.of.order.terms (ap (λ (o : LiveOrder). o.terms) is.taker_waits.known.of.is_it) of_taker,
+      (side_is_worth f is.may.maker.terms is.maker_rests.known.of.order.terms (ap (λ (o : LiveOrder). o.terms) is.maker_rests.known.of.is_it) (λ e. omega (arith, price)), tt),
     )
 
 -- of each execution of a legal history
@@ -61,8 +68,9 @@ executions_are_worth policy history legal =
         → AreWorth (executions policy (h ++ r ∷ []))
     by_fill h r f (steps.Asked a) legal worth left fills = let judged : false ≡ true = ap is_judged (sym fills) ∙ asked_is_judged policy h a r left in cc
     by_fill h r f (steps.Matching handed) legal worth left fills =
-        let is : FillsOrders policy h (h ++ r ∷ []) r f = fill_takes_effect policy h handed r f (legal_is_orderly policy h legal) left fills in
-        subst AreWorth (sym is.executions_more) (all_both IsWorth (executions policy h) _ worth (fill_is_worth policy h (h ++ r ∷ []) r f fills is))
+        let is : IsFill policy h r f = is_fill policy h handed r f (legal_is_orderly policy h legal) left fills in
+        subst AreWorth (sym (executions_next policy h r ∙ ap (λ es. executions policy h ++ es) (sides_are policy h r f is)))
+        (all_both IsWorth (executions policy h) (both_sides f is.taker_waits.known.of.order is.maker_rests.known.of.order) worth (fill_is_worth policy h r f is))
 
     one_more : (h : List RecordData) (r : RecordData) → IsLegal policy h → AreWorth (executions policy h) → Follows policy (h, r) → AreWorth (executions policy (h ++ r ∷ []))
     one_more h r legal worth follows = at r.verdict refl

@@ -3,22 +3,24 @@ use Rattle.std.specs.Prelude.{ℕ, ◌+◌, ◌-◌, ◌≤◌, ◌≡◌, Bool,
 use Rattle.std.specs.List.{filter, list_any, AllByRecursion}
 use Rattle.gx_units.specs.Money.{value}
 use Rattle.gx_units.specs.declared.names.AccountName.{AccountName}
+use Rattle.gx_ouch.specs.declared.outbound.OrderTerms.{OrderTerms}
 use Rattle.gx_history.specs.declared.facts.StockSide.{StockSide}
 use Rattle.gx_policy.specs.declared.policy.Count.{Count}
 use Rattle.gx_policy.specs.declared.policy.FileRule.{FileRule}
 use Rattle.gx_policy.specs.declared.policy.PolicyData.{PolicyData}
 use Rattle.gx_policy.specs.declared.policy.RuleKind.TheVariants as kinds
 use Rattle.gx_history.specs.declared.record.RecordData.{RecordData}
-use Rattle.gx_history.specs.Book.{is_buy_order}
-use Rattle.gx_history.specs.Executions.{Execution, executions, standings}
+use Rattle.gx_history.specs.Book.{is_buy}
+use Rattle.gx_history.specs.Executions.{Execution, executions}
 use Rattle.gx_history.specs.Figures.{counts_account, done_of_chosen, done_value, live_value, of_accounts, on_side, open_of_chosen, other_side, side_done}
 use Rattle.gx_history.specs.InForce.{rules_in_force}
+use Rattle.gx_history.specs.Live.{live}
 use Rattle.gx_history.specs.Orders.{Order, orders, orders_added}
 use Rattle.gx_policy.specs.People.{covers}
 
 -- the open shares of the orders that are chosen, and those that they executed
-abbrev pub shares_of_chosen : PolicyData → List RecordData → (Order → Bool) → ℕ
-shares_of_chosen policy history chosen = open_of_chosen (standings policy history) chosen + done_of_chosen (executions policy history) chosen
+abbrev pub shares_of_chosen : PolicyData → List RecordData → (AccountName → OrderTerms → Bool) → ℕ
+shares_of_chosen policy history chosen = open_of_chosen (live policy history) chosen + done_of_chosen (executions policy history) chosen
 
 -- those of these accounts
 abbrev pub gross_shares : PolicyData → List RecordData → (AccountName → Bool) → ℕ
@@ -30,11 +32,11 @@ side_shares policy history among side = shares_of_chosen policy history (on_side
 
 -- the value of their open shares at the prices of their orders, and of those that they executed at the prices of the fills
 abbrev pub gross_value : PolicyData → List RecordData → (AccountName → Bool) → ℕ
-gross_value policy history among = live_value (standings policy history) among + done_value (executions policy history) among
+gross_value policy history among = live_value (live policy history) among + done_value (executions policy history) among
 
 -- what a sell got above its own price
 abbrev pub gain : Execution → ℕ
-gain e = if is_buy_order e.order then 0 else value e.fill.shares (e.fill.price - e.order.terms.price)
+gain e = if is_buy e.order.terms.side then 0 else value e.fill.shares (e.fill.price - e.order.terms.price)
 
 -- what the sells of these accounts got above their own prices
 unfoldable pub gained : List Execution → (AccountName → Bool) → ℕ
@@ -44,10 +46,14 @@ gained made among = sum_by gain (filter (λ (e : Execution). among e.order.accou
 abbrev pub executions_after : PolicyData → List RecordData → List RecordData → List Execution
 executions_after policy earlier history = drop (length (executions policy earlier)) (executions policy history)
 
+-- the order, as it was granted, is one of those that are chosen
+abbrev pub is_such : (AccountName → OrderTerms → Bool) → Order → Bool
+is_such chosen grant = chosen grant.account grant.terms
+
 -- the record grants an order that is chosen, and no later record does
-pub record IsLastGrant (policy : PolicyData) (chosen : Order → Bool) (before : List RecordData) (r : RecordData) (after : List RecordData) : Type 0 where
-  pub is_granted : IsTrue (list_any chosen (orders_added policy (orders policy before) r))
-  pub is_last : filter chosen (orders policy (before ++ r ∷ after)) ≡ filter chosen (orders policy (before ++ r ∷ []))
+pub record IsLastGrant (policy : PolicyData) (chosen : AccountName → OrderTerms → Bool) (before : List RecordData) (r : RecordData) (after : List RecordData) : Type 0 where
+  pub is_granted : IsTrue (list_any (is_such chosen) (orders_added policy (orders policy before) r))
+  pub is_last : filter (is_such chosen) (orders policy (before ++ r ∷ after)) ≡ filter (is_such chosen) (orders policy (before ++ r ∷ []))
 
 -- The rule limits the shares of an account of its scope, or of all of them together: after their last grant they have no more.
 abbrev pub KeepsShares : PolicyData → List RecordData → RecordData → List RecordData → FileRule → Type 0
@@ -90,8 +96,8 @@ NetStaysWithin policy history = (before after : List RecordData) (r : RecordData
     → history ≡ before ++ r ∷ after → AllByRecursion (KeepsNet policy before r after) (rules_in_force policy before)
 
 -- no order that is chosen was granted
-abbrev pub NoneIsGranted : PolicyData → List RecordData → (Order → Bool) → Type 0
-NoneIsGranted policy history chosen = filter chosen (orders policy history) ≡ []
+abbrev pub NoneIsGranted : PolicyData → List RecordData → (AccountName → OrderTerms → Bool) → Type 0
+NoneIsGranted policy history chosen = filter (is_such chosen) (orders policy history) ≡ []
 
 -- the accounts have nothing open and nothing executed
 pub record HasNothing (policy : PolicyData) (history : List RecordData) (among : AccountName → Bool) : Type 0 where

@@ -1,30 +1,13 @@
 -- What is kept of one live order.
-use Rattle.std.specs.Prelude.{ℕ, ◌-◌, Bool, true, ◌&&◌, not, List}
-use Rattle.gx_units.specs.Names.{same_user, same_token}
+use Rattle.std.specs.Prelude.{ℕ, ◌-◌, Bool, true, ◌&&◌}
 use Rattle.gx_units.specs.declared.names.Token.{Token}
 use Rattle.gx_units.specs.declared.names.UserName.{UserName}
+use Rattle.gx_units.specs.Names.{same_user, same_token}
 use Rattle.gx_ouch.specs.declared.inbound.ReplaceOrder.{ReplaceOrder}
 use Rattle.gx_ouch.specs.declared.outbound.OrderTerms.{OrderTerms}
 use Rattle.gx_history.specs.declared.live_order.LiveOrder.{LiveOrder}
 use Rattle.gx_history.specs.declared.live_order.UserToken.{UserToken}
-use Rattle.gx_policy.specs.declared.policy.PolicyData.{PolicyData}
 use Rattle.gx_history.specs.declared.record.RecordData.{RecordData}
-use Rattle.gx_history.specs.Book.{has_rested}
-use Rattle.gx_history.specs.Executions.{Standing, done, executions}
-use Rattle.gx_history.specs.Orders.{total}
-
--- what is kept of a live order
-abbrev pub kept : PolicyData → List RecordData → Standing → LiveOrder
-kept policy history s = record {
-  number = s.order.number;
-  user = s.order.user;
-  account = s.order.account;
-  token = s.order.token;
-  terms = s.order.terms;
-  total = total history s.order;
-  done = done (executions policy history) s.order;
-  waits = not (has_rested history s);
-}
 
 -- the shares that may still be executed
 abbrev pub shares_open : LiveOrder → ℕ

@@ -1,57 +1,30 @@
 -- Why a record may move the world as it does: what is known of its move before it.
-use Rattle.std.specs.Prelude.{◌≡◌, ℕ, ◌-◌, ◌<◌, ◌==◌, nat_le, min, Bool, true, not, ◌&&◌, is_some, IsTrue, IsFalse, List, [], ◌∷◌, Some, None, if◌then◌else◌}
+use Rattle.std.specs.Prelude.{◌≡◌, ℕ, ◌-◌, ◌<◌, ◌==◌, not, is_some, IsTrue, IsFalse, List, ◌∷◌, Some, None}
 use Rattle.std.specs.List.{AllByRecursion}
-use Rattle.gx_desk.specs.declared.Action.{Action}
-use Rattle.gx_desk.specs.declared.Action.TheVariants as actions
 use Rattle.gx_policy.specs.declared.policy.PolicyData.{PolicyData}
 use Rattle.gx_policy.specs.Lists.{where_true}
-use Rattle.gx_policy.specs.People.{account_named, account_of, rule_in, stock_named}
+use Rattle.gx_policy.specs.People.{account_of}
 use Rattle.gx_history.specs.declared.live_order.LiveOrder.{LiveOrder}
 use Rattle.gx_history.specs.declared.record.Fill.{Fill}
 use Rattle.gx_history.specs.declared.record.RecordData.{RecordData}
-use Rattle.gx_history.specs.Asking.{knows_limit, knows_stocks}
-use Rattle.gx_history.specs.Book.{is_buy}
-use Rattle.gx_history.specs.LiveOrders.{shares_open}
-use Rattle.gx_history.specs.Orders.{Order, ends, size_set}
-use Rattle.gx_history.specs.OuchValues.{immediate_or_cancel}
-use Rattle.gx_history.specs.Readers.{reader_in}
-use Rattle.gx_history.specs.Requests.{asked}
 use Rattle.gx_history.specs.declared.record.Step.{Step}
-use Rattle.gx_history.specs.Turns.{live_under}
+use Rattle.gx_history.specs.Asking.{names_known_by}
+use Rattle.gx_history.specs.Live.{is_buy_order, live_under}
+use Rattle.gx_history.specs.LiveOrders.{shares_open}
+use Rattle.gx_history.specs.Matching.{crosses, fill_with, is_immediate, meets_none}
+use Rattle.gx_history.specs.Orders.{Order, ends, size_set}
+use Rattle.gx_history.specs.Requests.{asked}
 use Rattle.gx_history.specs.Verdicts.{IsLegal, next}
 use Rattle.gx_history.specs.World.{World, Move, Nothing, Denies, PutsOn, Adds, Sizes, Replaces, Commands, Fills, Rests, Expires, move_of, world}
 
 -- those that rest on the other side of the order's stock, the best first
 abbrev pub opposite : World → LiveOrder → List LiveOrder
-opposite w o = w.resting o.terms.stock (not (is_buy o.terms.side))
+opposite w o = w.resting o.terms.stock (not (is_buy_order o))
 
--- the buy is at or above the sell
-abbrev pub do_cross : LiveOrder → LiveOrder → Bool
-do_cross o other = if is_buy o.terms.side then nat_le other.terms.price o.terms.price else nat_le o.terms.price other.terms.price
-
--- the order crosses none of these, the best of which comes first
-abbrev pub meets_none : LiveOrder → List LiveOrder → Bool
-meets_none o [] = true
-meets_none o (best ∷ others) = not (do_cross o best)
-
--- the order ends at once where it meets nothing
-abbrev pub is_immediate : LiveOrder → Bool
-is_immediate o = o.terms.time_in_force == immediate_or_cancel
-
--- the names in a command are known, and its rule has the setting
-abbrev pub names_are_known : PolicyData → World → Action → Bool
-names_are_known policy w (actions.Kill account) = is_some (account_named policy account)
-names_are_known policy w (actions.Lift account) = is_some (account_named policy account)
-names_are_known policy w (actions.SetLimit rule limit) = knows_limit (rule_in w.rules rule)
-names_are_known policy w (actions.Restrict rule stock) = knows_stocks (rule_in w.rules rule) && is_some (stock_named policy stock)
-names_are_known policy w (actions.Unrestrict rule stock) = knows_stocks (rule_in w.rules rule) && is_some (stock_named policy stock)
-names_are_known policy w (actions.Grant reader account) = is_some (reader_in policy.users reader) && is_some (account_named policy account)
-names_are_known policy w (actions.Revoke reader account) = is_some (reader_in policy.users reader) && is_some (account_named policy account)
-names_are_known policy w actions.CloseDay = true
-
--- an order is added for its user's account
-pub record MayAdd (policy : PolicyData) (new : LiveOrder) : Type 0 where
+-- an order is added for its user's account, which is not killed
+pub record MayAdd (policy : PolicyData) (w : World) (new : LiveOrder) : Type 0 where
   pub is_his : account_of policy new.user ≡ Some new.account
+  pub not_killed : IsFalse (is_some (w.kills new.account))
 
 -- an order is sized that is its user's live one under its token; it has fewer shares open then, and of all the day's orders it alone is sized
 pub record MaySize (w : World) (r : RecordData) (cut : LiveOrder) (size : ℕ) : Type 0 where
@@ -59,9 +32,10 @@ pub record MaySize (w : World) (r : RecordData) (cut : LiveOrder) (size : ℕ) :
   pub is_less : size - cut.done < shares_open cut
   pub alone : AllByRecursion (λ (o : Order). size_set o r ≡ where_true (o.number == cut.number) size) w.orders
 
--- an order is replaced that is its user's live one under its token; the new one has shares open, and of all the day's orders the old one alone ends
+-- an order is replaced that is its user's live one under its token; the new one is for the same account and has shares open, and of all the day's orders the old one alone ends
 pub record MayReplace (w : World) (r : RecordData) (old new : LiveOrder) : Type 0 where
   pub is_named : live_under w.live old.user old.token ≡ Some old
+  pub same_account : new.account ≡ old.account
   pub some_open : old.done < new.total
   pub alone : AllByRecursion (λ (o : Order). ends o r ≡ (o.number == old.number)) w.orders
 
@@ -74,8 +48,8 @@ pub record MayFill (w : World) (r : RecordData) (f : Fill) : Type 0 where
   pub behind : List LiveOrder
   pub comes_first : w.waiting ≡ taker ∷ waiting
   pub is_best : opposite w taker ≡ maker ∷ behind
-  pub cross : IsTrue (do_cross taker maker)
-  pub is_theirs : f ≡ record { taker = taker.number; maker = maker.number; shares = min (shares_open taker) (shares_open maker); price = maker.terms.price }
+  pub cross : IsTrue (crosses taker maker)
+  pub is_theirs : f ≡ fill_with taker maker
 
 -- a matching step puts the first that waits to rest: it meets nothing, and may rest
 pub record MayRest (w : World) (r : RecordData) (number : ℕ) : Type 0 where
@@ -102,10 +76,10 @@ abbrev pub MayMove : PolicyData → World → RecordData → Move → Type 0
 MayMove policy w r Nothing = ⊥
 MayMove policy w r (Denies a rule) = Unit {0}
 MayMove policy w r (PutsOn user line) = Unit {0}
-MayMove policy w r (Adds new) = MayAdd policy new
+MayMove policy w r (Adds new) = MayAdd policy w new
 MayMove policy w r (Sizes cut size) = MaySize w r cut size
 MayMove policy w r (Replaces old new) = MayReplace w r old new
-MayMove policy w r (Commands officer c) = IsTrue (names_are_known policy w c.action)
+MayMove policy w r (Commands officer c) = IsTrue (names_known_by policy w.rules c.action)
 MayMove policy w r (Fills f) = MayFill w r f
 MayMove policy w r (Rests number) = MayRest w r number
 MayMove policy w r (Expires number) = MayExpire w r number

@@ -1,28 +1,25 @@
 -- All that a record can change, as one value, and what each record makes of it.
 use Rattle.std.specs.Option.{option_map_or}
-use Rattle.std.specs.Prelude.{◌≡◌, ℕ, ◌+◌, ◌-◌, Bool, true, false, ◌&&◌, ◌||◌, is_some, length, List, [], ◌∷◌, ◌++◌, map, fold, Option, Some, None, option_to_list, if◌then◌else◌}
-use Rattle.std.specs.List.{filter, flat_map}
-use Rattle.gx_units.specs.Names.{same_account, same_user}
+use Rattle.std.specs.Prelude.{◌≡◌, ℕ, ◌+◌, ◌-◌, Bool, true, false, ◌&&◌, ◌||◌, is_some, length, List, [], ◌∷◌, ◌++◌, map, fold, Option, Some, None, if◌then◌else◌}
+use Rattle.std.specs.List.{flat_map}
 use Rattle.gx_units.specs.declared.names.AccountName.{AccountName}
 use Rattle.gx_units.specs.declared.names.Symbol.{Symbol}
 use Rattle.gx_units.specs.declared.names.Token.{Token}
 use Rattle.gx_units.specs.declared.names.UserName.{UserName}
+use Rattle.gx_units.specs.Names.{same_account, same_user}
 use Rattle.gx_ouch.specs.declared.letters.CancelReason.TheVariants as cancels
-use Rattle.gx_desk.specs.Names.{is_written}
+use Rattle.gx_ouch.specs.declared.outbound.Outbound.TheVariants as outbounds
 use Rattle.gx_desk.specs.declared.Action.{Action}
 use Rattle.gx_desk.specs.declared.Action.TheVariants as actions
 use Rattle.gx_desk.specs.declared.AnswerCode.TheVariants as codes
 use Rattle.gx_desk.specs.declared.Command.{Command}
 use Rattle.gx_desk.specs.declared.WrittenName.{WrittenName}
+use Rattle.gx_desk.specs.Names.{is_written}
 use Rattle.gx_policy.specs.declared.policy.FileRule.{FileRule}
 use Rattle.gx_policy.specs.declared.policy.PolicyData.{PolicyData}
 use Rattle.gx_policy.specs.declared.rule_name.RuleName.{RuleName}
 use Rattle.gx_policy.specs.People.{account_of, is_reader, role_in}
-use Rattle.gx_ouch.specs.declared.letters.CancelReason.{CancelReason}
-use Rattle.gx_ouch.specs.declared.letters.Liquidity.TheVariants as liquidities
-use Rattle.gx_ouch.specs.declared.outbound.Outbound.TheVariants as outbounds
 use Rattle.gx_history.specs.declared.live_order.LiveOrder.{LiveOrder}
-use Rattle.gx_history.specs.LiveOrders.{replacement_order, shares_open}
 use Rattle.gx_history.specs.declared.record.Asked.{Asked}
 use Rattle.gx_history.specs.declared.record.Fill.{Fill}
 use Rattle.gx_history.specs.declared.record.RecordData.{RecordData}
@@ -35,13 +32,15 @@ use Rattle.gx_history.specs.declared.record.Verdict.TheVariants as verdicts
 use Rattle.gx_history.specs.declared.report.Message.{Message}
 use Rattle.gx_history.specs.declared.report.Message.TheVariants as messages
 use Rattle.gx_history.specs.declared.report.Report.{Report}
-use Rattle.gx_history.specs.Executions.{Execution, executions, side_of}
+use Rattle.gx_history.specs.Executions.{Execution, executions, sides_in}
 use Rattle.gx_history.specs.InForce.{adding, change_rule, is_closed, is_entitled, kill_after, kill_in_force, line_of, removing, rules_in_force, with_limit, with_stocks}
-use Rattle.gx_history.specs.Orders.{Order, ends_account, is_token_used, orders, orders_with, record_uses}
-use Rattle.gx_history.specs.Streams.{answer, day_end, executed_message, lift_code, reported, reports_of_denial, reports_of_execution, stream, to_user, with_shares}
-use Rattle.gx_history.specs.Verdicts.{IsLegal, last_moment, next}
+use Rattle.gx_history.specs.Live.{live, live_under, side, waiting}
+use Rattle.gx_history.specs.LiveOrders.{replacement_order, shares_open}
+use Rattle.gx_history.specs.Orders.{Order, is_token_used, orders, orders_with, record_uses}
+use Rattle.gx_history.specs.Streams.{answer, canceled_of, copy_of, day_end, ended_of, expired_of, lift_code, replaced_of, reported, reports_of_denial, reports_of_execution, stream, to_user}
 use Rattle.gx_history.specs.Turns as turns
-use Rattle.gx_history.specs.Turns.{Turn, live, live_numbered, live_under, new_order, side, side_turned, turned, waiting, waiting_turned}
+use Rattle.gx_history.specs.Turns.{Turn, new_order, side_turned, turned, waiting_turned}
+use Rattle.gx_history.specs.Verdicts.{IsLegal, last_moment, next}
 
 -- all that a record can change
 pub record World : Type 0 where
@@ -136,6 +135,14 @@ turn_in (Rests number) = turns.Rests number
 turn_in (Expires number) = turns.Ends number
 turn_in other = turns.Keeps
 
+-- of what a verdict does
+abbrev pub turn_by : PolicyData → World → RecordData → Verdict → Step → Turn
+turn_by policy w r v s = turn_in (move_by policy w r v s)
+
+-- and of what the record does
+abbrev pub turn_of : PolicyData → World → RecordData → Turn
+turn_of policy w r = turn_in (move_of policy w r)
+
 -- the world with the orders that live, wait and rest turned so
 abbrev pub turned_world : Turn → World → World
 turned_world turn w = record w { live = turned turn w.live; waiting = waiting_turned turn w.waiting; resting = λ stock buy. side_turned turn w.live stock buy (w.resting stock buy) }
@@ -151,32 +158,6 @@ tell_each r told streams user = streams user ++ map (reported r) (told user)
 -- Accepted: the order, with the number of its record
 abbrev pub accepted_of : LiveOrder → List Message
 accepted_of o = messages.Order (outbounds.Accepted (record { token = o.token; terms = o.terms; order_reference = o.number })) ∷ []
-
--- Replaced: the new order with the shares that it has open, and the token of the one before it
-abbrev pub replaced_of : LiveOrder → LiveOrder → List Message
-replaced_of old new = messages.Order (outbounds.Replaced (record { token = new.token; terms = with_shares new.terms (shares_open new); order_reference = new.number; previous_token = old.token })) ∷ []
-
--- Canceled: so many shares less, and why
-abbrev pub canceled_of : CancelReason → ℕ → LiveOrder → List Message
-canceled_of reason decrement o = messages.Order (outbounds.Canceled (record { token = o.token; decrement = decrement; reason = reason })) ∷ []
-
--- what a user is told of his orders that the action ends
-abbrev pub ended_of : List LiveOrder → Action → UserName → List Message
-ended_of found action user = flat_map (λ (o : LiveOrder). canceled_of cancels.Supervisory (shares_open o) o) (filter (λ (o : LiveOrder). same_user o.user user && ends_account o.account action) found)
-
--- what a user is told of the order of this number, which ends
-abbrev pub expired_of : List LiveOrder → ℕ → UserName → List Message
-expired_of found number user = flat_map (λ (o : LiveOrder). to_user o.user user (canceled_of cancels.ImmediateOrCancel (shares_open o) o)) (option_to_list (live_numbered found number))
-
--- the sides of the fill that the verdict makes, if it makes one
-abbrev pub sides_in : List Order → Verdict → List Execution
-sides_in known (verdicts.Filled f) = side_of known f liquidities.Removed f.taker ++ side_of known f liquidities.Added f.maker
-sides_in known other = []
-
--- a drop copy of this side, where the reader sees its account
-abbrev pub copy_of : (UserName → AccountName → Bool) → RecordData → UserName → Execution → List Message
-copy_of sight r reader e =
-    if sight reader e.order.account then messages.DropCopy (record { executed = executed_message r e; account = e.order.account; side = e.order.terms.side }) ∷ [] else []
 
 -- the rules so, and the officer has his answer
 abbrev pub with_rule : RecordData → UserName → Command → List FileRule → World → World
@@ -235,6 +216,22 @@ stepped policy w r = record (moved policy r (move_of policy w r) w) {
   executions = w.executions ++ sides_in w.orders r.verdict;
   tokens = λ user token. w.tokens user token || record_uses user token r;
 }
+
+-- one more record turns the live orders by what it does, and so those that wait
+abbrev pub LiveGoesOn : Type 0
+LiveGoesOn = (policy : PolicyData) (history : List RecordData) (step : Step) (r : RecordData)
+    → IsLegal policy history → next policy history step ≡ Some r
+    → live policy (history ++ r ∷ []) ≡ turned (turn_of policy (world policy history) r) (live policy history)
+
+abbrev pub WaitingGoesOn : Type 0
+WaitingGoesOn = (policy : PolicyData) (history : List RecordData) (step : Step) (r : RecordData)
+    → IsLegal policy history → next policy history step ≡ Some r
+    → waiting policy (history ++ r ∷ []) ≡ waiting_turned (turn_of policy (world policy history) r) (waiting policy history)
+
+abbrev pub SidesGoOn : Type 0
+SidesGoOn = (policy : PolicyData) (history : List RecordData) (step : Step) (r : RecordData) (stock : Symbol) (buy : Bool)
+    → IsLegal policy history → next policy history step ≡ Some r
+    → side policy (history ++ r ∷ []) stock buy ≡ side_turned (turn_of policy (world policy history) r) (live policy history) stock buy (side policy history stock buy)
 
 -- one more record moves the world by what it does
 abbrev pub WorldGoesOn : Type 0

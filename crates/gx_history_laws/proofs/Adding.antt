@@ -1,40 +1,40 @@
 -- What a record that follows adds to the orders: nothing, or the one order of a granted Enter or Replace.
-use Rattle.std.proofs.Common.{◌≡◌, ℕ, Bool, true, false, List, [], ◌∷◌, refl, ◌∙◌, ap, sym, map, cond, inl, inr, ◌⊎◌}
-use Rattle.std.specs.Prelude.{Option, Some, None, option_map, is_none, ◌&&◌, ◌||◌, drop, filter}
+use Rattle.std.proofs.Common.{◌≡◌, ℕ, Bool, true, false, List, [], ◌∷◌, refl, ◌∙◌, ap, sym, cond, inl, inr, ◌⊎◌}
+use Rattle.std.specs.Prelude.{Option, Some, None, is_none, ◌&&◌, ◌||◌, nat_lt, not, filter}
 use Rattle.std.specs.Option.{option_map_or}
-use Rattle.std.specs.List.{list_any, last_or, AllByRecursion}
+use Rattle.std.specs.List.{cons_option, filter_map, list_any, last_or, AllByRecursion}
 use Rattle.std.proofs.lemmas.Slice.Eq.{bytes_eq-Decides}
-use Rattle.gx_units.specs.Names.{same_user, same_token}
 use Rattle.gx_units.specs.declared.names.AccountName.{AccountName}
-use Rattle.gx_units.specs.declared.names.UserName.{UserName}
 use Rattle.gx_units.specs.declared.names.Token.{Token}
+use Rattle.gx_units.specs.declared.names.UserName.{UserName}
+use Rattle.gx_units.specs.Names.{same_user, same_token}
 use Rattle.gx_ouch.specs.declared.inbound.EnterOrder.{EnterOrder}
 use Rattle.gx_ouch.specs.declared.inbound.ReplaceOrder.{ReplaceOrder}
 use Rattle.gx_policy.specs.declared.policy.PolicyData.{PolicyData}
+use Rattle.gx_policy.specs.declared.rule_name.RuleName.TheVariants.{I1, I2}
+use Rattle.gx_policy.specs.Lists.{last_such}
+use Rattle.gx_policy.specs.People.{role_in}
+use Rattle.gx_history.specs.declared.live_order.LiveOrder.{LiveOrder}
 use Rattle.gx_history.specs.declared.record.Asked.{Asked}
+use Rattle.gx_history.specs.declared.record.RecordData.{RecordData}
 use Rattle.gx_history.specs.declared.record.Request.{Request}
 use Rattle.gx_history.specs.declared.record.Request.TheVariants as requests
-use Rattle.gx_history.specs.declared.record.RecordData.{RecordData}
-use Rattle.gx_policy.specs.declared.rule_name.RuleName.{RuleName}
-use Rattle.gx_policy.specs.declared.rule_name.RuleName.TheVariants.{L1, L2, L3, G1, G2, G3, I1, I2}
 use Rattle.gx_history.specs.declared.record.Step.{Step}
 use Rattle.gx_history.specs.declared.record.Step.TheVariants as steps
 use Rattle.gx_history.specs.declared.record.Verdict.{Verdict}
 use Rattle.gx_history.specs.declared.record.Verdict.TheVariants as verdicts
 use Rattle.gx_history.specs.Asking.{facts, live_named}
-use Rattle.gx_history.specs.Executions.{Standing, standing, standings, standing_under, executions, is_live, live_orders}
-use Rattle.gx_policy.specs.Lists.{last_such}
-use Rattle.gx_history.specs.Orders.{Order, orders, orders_added, orders_made, order_under, entered, replacing, is_token_used}
-use Rattle.gx_policy.specs.People.{role_in}
+use Rattle.gx_history.specs.Book.{rested}
+use Rattle.gx_history.specs.Executions.{Execution, done, executions}
+use Rattle.gx_history.specs.Live.{has_come, live, live_under, open_now, open_order}
+use Rattle.gx_history.specs.LiveOrders.{is_under}
+use Rattle.gx_history.specs.Orders.{is_dead, total, Order, orders, orders_added, orders_made, order_under, entered, replacing, is_token_used}
 use Rattle.gx_history.specs.Requests.{granted, asked, is_granted, is_order, new_token}
-use Rattle.gx_policy.specs.RuleNames.{rules_before}
 use Rattle.gx_history.specs.Rules.{forbids}
 use Rattle.gx_history.specs.Verdicts.{next, facts_now, Follows}
-use Rattle.gx_history.specs.LiveOrders.{kept}
 use Rattle.gx_history_laws.specs.Laws.{grants_order}
 use Rattle.gx_history_laws.proofs.Entering.{HasAccount, entered_has_account}
-use Rattle.gx_history_laws.proofs.Granting.{granted_passes_before}
-use Rattle.gx_history_laws.proofs.Order.{none_among}
+use Rattle.gx_history_laws.proofs.Granting.{is_no_bar}
 use Rattle.gx_history_laws.proofs.Owners.{found_last, nothing_found}
 
 -- names that are the same byte for byte are equal
@@ -78,26 +78,6 @@ found_any {X} p xs h = at (list_any p xs) refl
     at true e = refl
     at false e = let nothing : is_none (last_such p xs) ≡ true = ap (λ (ys : List X). is_none (last_or None ys)) (none_kept p xs e) in cc
 
-any_of_kept : {X : Type 0} (p q : X → Bool) (xs : List X) → list_any p (filter q xs) ≡ true → list_any p xs ≡ true
-any_of_kept p q [] h = h
-any_of_kept {X} p q (x ∷ xs) h = at (q x) h (any_of_kept p q xs)
-  where
-    or_more : (b c d : Bool) → (b || c) ≡ true → (c ≡ true → d ≡ true) → (b || d) ≡ true
-    or_more true c d k step = refl
-    or_more false c d k step = step k
-
-    any_more : (b d : Bool) → d ≡ true → (b || d) ≡ true
-    any_more true d k = refl
-    any_more false d k = k
-
-    at : (b : Bool) → list_any p (cond b (x ∷ filter q xs) (filter q xs)) ≡ true → (list_any p (filter q xs) ≡ true → list_any p xs ≡ true) → (p x || list_any p xs) ≡ true
-    at true k deeper = or_more (p x) (list_any p (filter q xs)) (list_any p xs) k deeper
-    at false k deeper = any_more (p x) (list_any p xs) (deeper k)
-
-any_of_mapped : {X Y : Type 0} (p : Y → Bool) (f : X → Y) (xs : List X) → list_any p (map f xs) ≡ list_any (λ x. p (f x)) xs
-any_of_mapped p f [] = refl
-any_of_mapped p f (x ∷ xs) = ap (λ (b : Bool). p (f x) || b) (any_of_mapped p f xs)
-
 pub all_pass : {X : Type 0} (p : X → Bool) (xs : List X) → AllByRecursion (λ (x : X). p x ≡ true) (filter p xs)
 all_pass p [] = tt
 all_pass {X} p (x ∷ xs) = at (p x) refl (all_pass p xs)
@@ -111,39 +91,31 @@ pub found_passes : {X : Type 0} (p : X → Bool) (xs : List X) (x : X) → last_
 found_passes {X} p xs x h = found_last (λ (y : X). p y ≡ true) None (filter p xs) x (nothing_found (λ (y : X). p y ≡ true) x) (all_pass p xs) h
 
 -- an order that is live under the token is an order under the token
+any_live : (made : List Execution) (history : List RecordData) (user : UserName) (token : Token) (os : List Order) → list_any (is_under user token) (filter_map (open_now made history) os) ≡ true
+    → list_any (λ (o : Order). same_user o.user user && same_token o.token token) os ≡ true
+any_live made history user token [] h = h
+any_live made history user token (o ∷ os) h = at (not (is_dead history o) && nat_lt (done made o) (total history o)) (same_user o.user user && same_token o.token token) refl h (any_live made history user token os)
+  where
+    rest : List LiveOrder
+    rest = filter_map (open_now made history) os
+
+    at : (b c : Bool) → (same_user o.user user && same_token o.token token) ≡ c → list_any (is_under user token) (cons_option (cond b (Some (open_order o (total history o) (done made o) (not (has_come (rested history) o.number)))) None) rest) ≡ true
+        → (list_any (is_under user token) rest ≡ true → list_any (λ (o : Order). same_user o.user user && same_token o.token token) os ≡ true) → (c || list_any (λ (o : Order). same_user o.user user && same_token o.token token) os) ≡ true
+    at b true e k deeper = refl
+    at true false e k deeper = deeper (ap (λ (c : Bool). c || list_any (is_under user token) rest) (sym e) ∙ k)
+    at false false e k deeper = deeper k
+
 pub under_known : (policy : PolicyData) (history : List RecordData) (user : UserName) (token : Token)
-    → is_none (standing_under (live_orders policy history) user token) ≡ false → is_none (order_under (orders policy history) user token) ≡ false
-unfolding live_orders standings
+    → is_none (live_under (live policy history) user token) ≡ false → is_none (order_under (orders policy history) user token) ≡ false
+unfolding live
 under_known policy history user token h =
-    let is_his : Standing → Bool = λ (s : Standing). same_user s.order.user user && same_token s.order.token token in
-    let made : Order → Standing = standing (executions policy history) history in
     any_found (λ (o : Order). same_user o.user user && same_token o.token token) (orders policy history)
-    (sym (any_of_mapped is_his made (orders policy history))
-    ∙ any_of_kept is_his is_live (map made (orders policy history)) (found_any is_his (filter is_live (map made (orders policy history))) h))
-
--- a granted Enter or Replace is of a token that was not used
-token_is_no_bar : (policy : PolicyData) (history : List RecordData) (a : Asked) (r : RecordData)
-    → next policy history (steps.Asked a) ≡ Some r → r.verdict ≡ verdicts.Granted → forbids I1 (facts_now policy history a) a.request ≡ false
-unfolding rules_before
-token_is_no_bar policy history a r e granted =
-    none_among (λ (name : RuleName). forbids name (facts_now policy history a) a.request) (L1 ∷ L2 ∷ L3 ∷ G1 ∷ G2 ∷ G3 ∷ []) I1 (drop 7 rules_before)
-    (granted_passes_before policy history a r e granted)
-
-pub name_is_no_bar : (policy : PolicyData) (history : List RecordData) (a : Asked) (r : RecordData)
-    → next policy history (steps.Asked a) ≡ Some r → r.verdict ≡ verdicts.Granted → forbids I2 (facts_now policy history a) a.request ≡ false
-unfolding rules_before
-name_is_no_bar policy history a r e granted =
-    none_among (λ (name : RuleName). forbids name (facts_now policy history a) a.request) (L1 ∷ L2 ∷ L3 ∷ G1 ∷ G2 ∷ G3 ∷ I1 ∷ []) I2 (drop 8 rules_before)
-    (granted_passes_before policy history a r e granted)
+    (any_live (executions policy history) history user token (orders policy history) (found_any (is_under user token) (filter_map (open_now (executions policy history) history) (orders policy history)) h))
 
 named_at : (policy : PolicyData) (history : List RecordData) (a : Asked) (m : ReplaceOrder) → a.request ≡ requests.Replace m
-    → (facts_now policy history a).named ≡ option_map (kept policy history) (standing_under (live_orders policy history) a.user m.existing_token)
+    → (facts_now policy history a).named ≡ live_under (live policy history) a.user m.existing_token
 unfolding facts
-named_at policy history a m e = ap (λ (q : Request). option_map (kept policy history) (live_named policy history a.user q)) e
-
-pub not_none : {X Y : Type 0} (f : X → Y) (o : Option X) → is_none (option_map f o) ≡ false → is_none o ≡ false
-not_none f None h = h
-not_none f (Some x) h = refl
+named_at policy history a m e = ap (live_named policy history a.user) e
 
 -- a granted Replace names an order
 replaced_is_known : (policy : PolicyData) (history : List RecordData) (a : Asked) (r : RecordData) (m : ReplaceOrder)
@@ -151,8 +123,7 @@ replaced_is_known : (policy : PolicyData) (history : List RecordData) (a : Asked
     → is_none (order_under (orders policy history) a.user m.existing_token) ≡ false
 replaced_is_known policy history a r m e granted asks =
     under_known policy history a.user m.existing_token
-    (not_none (kept policy history) (standing_under (live_orders policy history) a.user m.existing_token)
-    (sym (ap is_none (named_at policy history a m asks)) ∙ sym (ap (forbids I2 (facts_now policy history a)) asks) ∙ name_is_no_bar policy history a r e granted))
+    (sym (ap is_none (named_at policy history a m asks)) ∙ sym (ap (forbids I2 (facts_now policy history a)) asks) ∙ is_no_bar policy history a r e granted I2)
 
 pub record AddsNone (policy : PolicyData) (history : List RecordData) (r : RecordData) : Type 0 where
   pub adds : orders_added policy (orders policy history) r ≡ []
@@ -263,4 +234,4 @@ added_is_unused policy history r one follows =
     ap (λ (user : UserName). is_token_used history user one.o.token) one.his
     ∙ ap (λ (found : Option Token). option_map_or (is_token_used history one.a.user) found false) (sym one.under)
     ∙ ap (λ (b : Bool). b && option_map_or (is_token_used history one.a.user) (new_token one.a.request) false) (sym one.is_for_order)
-    ∙ token_is_no_bar policy history one.a r left one.grants
+    ∙ is_no_bar policy history one.a r left one.grants I1

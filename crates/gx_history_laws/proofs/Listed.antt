@@ -1,43 +1,34 @@
 -- Each order is in a stock of the policy.
-use Rattle.std.proofs.Common.{◌≡◌, true, false, List, [], ◌∷◌, refl, ◌∙◌, ap, sym, cond}
+use Rattle.std.proofs.Common.{◌≡◌, true, List, [], ◌∷◌, refl, ◌∙◌, ap, sym, cond}
 use Rattle.std.proofs.Math.Path.{subst}
-use Rattle.std.specs.Prelude.{Option, Some, None, drop, is_some, ◌&&◌}
+use Rattle.std.specs.Prelude.{Option, Some, None, is_some, ◌&&◌}
 use Rattle.std.specs.Option.{option_map_or}
 use Rattle.std.specs.List.{AllByRecursion}
 use Rattle.std.proofs.lemmas.Bool.{not-false}
-use Rattle.gx_units.specs.Names.{same_user, same_token}
 use Rattle.gx_units.specs.declared.names.AccountName.{AccountName}
+use Rattle.gx_units.specs.Names.{same_user, same_token}
 use Rattle.gx_ouch.specs.declared.inbound.EnterOrder.{EnterOrder}
 use Rattle.gx_ouch.specs.declared.inbound.ReplaceOrder.{ReplaceOrder}
 use Rattle.gx_policy.specs.declared.policy.PolicyData.{PolicyData}
+use Rattle.gx_policy.specs.declared.rule_name.RuleName.TheVariants.{P4}
+use Rattle.gx_policy.specs.People.{stock_named, account_of}
 use Rattle.gx_history.specs.declared.record.Asked.{Asked}
 use Rattle.gx_history.specs.declared.record.RecordData.{RecordData}
 use Rattle.gx_history.specs.declared.record.Request.{Request}
 use Rattle.gx_history.specs.declared.record.Request.TheVariants as requests
-use Rattle.gx_policy.specs.declared.rule_name.RuleName.{RuleName}
-use Rattle.gx_policy.specs.declared.rule_name.RuleName.TheVariants.{L1, L2, L3, G1, G2, G3, I1, I2, I3, P1, P2, P3, P4}
 use Rattle.gx_history.specs.declared.record.Step.{Step}
 use Rattle.gx_history.specs.declared.record.Step.TheVariants as steps
 use Rattle.gx_history.specs.declared.record.Verdict.{Verdict}
 use Rattle.gx_history.specs.declared.record.Verdict.TheVariants as verdicts
 use Rattle.gx_history.specs.Asking.{facts, lists_its_stock}
 use Rattle.gx_history.specs.Orders.{Order, orders, orders_added, orders_made, order_under, entered, replacing}
-use Rattle.gx_policy.specs.People.{stock_named, account_of}
 use Rattle.gx_history.specs.Requests.{granted, is_granted, asked}
-use Rattle.gx_policy.specs.RuleNames.{rules_before}
 use Rattle.gx_history.specs.Rules.{forbids}
 use Rattle.gx_history.specs.Verdicts.{next, facts_now, IsLegal, Follows}
-use Rattle.gx_history_laws.proofs.Granting.{granted_passes_before, legal_keeps}
+use Rattle.gx_history_laws.proofs.Granting.{is_no_bar, legal_keeps}
 use Rattle.gx_history_laws.proofs.NextOrders.{orders_next, orders_none}
-use Rattle.gx_history_laws.proofs.Order.{none_among, some_same}
+use Rattle.gx_history_laws.proofs.Order.{some_same}
 use Rattle.gx_history_laws.proofs.Owners.{all_both, last_such_is}
-
-stock_is_no_bar : (policy : PolicyData) (history : List RecordData) (a : Asked) (r : RecordData)
-    → next policy history (steps.Asked a) ≡ Some r → r.verdict ≡ verdicts.Granted → forbids P4 (facts_now policy history a) a.request ≡ false
-unfolding rules_before
-stock_is_no_bar policy history a r e granted =
-    none_among (λ (name : RuleName). forbids name (facts_now policy history a) a.request) (L1 ∷ L2 ∷ L3 ∷ G1 ∷ G2 ∷ G3 ∷ I1 ∷ I2 ∷ I3 ∷ P1 ∷ P2 ∷ P3 ∷ []) P4 (drop 13 rules_before)
-    (granted_passes_before policy history a r e granted)
 
 lists_stock : (policy : PolicyData) (history : List RecordData) (a : Asked) → (facts_now policy history a).stock_is_listed ≡ lists_its_stock policy a.request
 unfolding facts
@@ -49,7 +40,7 @@ pub entered_is_listed : (policy : PolicyData) (history : List RecordData) (a : A
 entered_is_listed policy history a r m e granted enters =
     sym (ap (lists_its_stock policy) enters)
     ∙ sym (lists_stock policy history a)
-    ∙ not-false (facts_now policy history a).stock_is_listed (sym (ap (forbids P4 (facts_now policy history a)) enters) ∙ stock_is_no_bar policy history a r e granted)
+    ∙ not-false (facts_now policy history a).stock_is_listed (sym (ap (forbids P4 (facts_now policy history a)) enters) ∙ is_no_bar policy history a r e granted P4)
 
 abbrev pub IsListed : PolicyData → Order → Type 0
 IsListed policy o = is_some (stock_named policy o.terms.stock) ≡ true

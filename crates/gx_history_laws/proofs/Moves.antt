@@ -2,16 +2,17 @@
 use Rattle.std.proofs.Common.{◌≡◌, ℕ, Bool, true, false, List, [], ◌∷◌, ◌++◌, refl, ◌∙◌, ap, sym, cond}
 use Rattle.std.specs.Prelude.{Option, Some, None, ◌||◌, ◌&&◌, option_and_then, unwrap_or}
 use Rattle.std.specs.Option.{option_map_or}
-use Rattle.gx_units.specs.Names.{same_account, same_user}
 use Rattle.gx_units.specs.declared.names.AccountName.{AccountName}
 use Rattle.gx_units.specs.declared.names.UserName.{UserName}
-use Rattle.gx_desk.specs.Names.{is_written}
+use Rattle.gx_units.specs.Names.{same_account, same_user}
 use Rattle.gx_desk.specs.declared.Action.{Action}
 use Rattle.gx_desk.specs.declared.Action.TheVariants as actions
 use Rattle.gx_desk.specs.declared.Command.{Command}
+use Rattle.gx_desk.specs.Names.{is_written}
 use Rattle.gx_policy.specs.declared.policy.PolicyData.{PolicyData}
 use Rattle.gx_policy.specs.Lists.{where_true}
 use Rattle.gx_policy.specs.People.{account_of, is_reader, role_in}
+use Rattle.gx_history.specs.declared.live_order.LiveOrder.{LiveOrder}
 use Rattle.gx_history.specs.declared.record.Asked.{Asked}
 use Rattle.gx_history.specs.declared.record.RecordData.{RecordData}
 use Rattle.gx_history.specs.declared.record.Request.{Request}
@@ -20,15 +21,15 @@ use Rattle.gx_history.specs.declared.record.Step.{Step}
 use Rattle.gx_history.specs.declared.record.Step.TheVariants as steps
 use Rattle.gx_history.specs.declared.record.Verdict.{Verdict}
 use Rattle.gx_history.specs.declared.record.Verdict.TheVariants as verdicts
-use Rattle.gx_history.specs.declared.live_order.LiveOrder.{LiveOrder}
-use Rattle.gx_history.specs.LiveOrders.{replacement_order}
 use Rattle.gx_history.specs.InForce.{changed, grant_or_revoke_of, is_close, is_closed, is_entitled, kill_after, kill_in_force, kill_or_lift_of, line_by, line_of, rules_in_force}
+use Rattle.gx_history.specs.Live.{live_under}
+use Rattle.gx_history.specs.LiveOrders.{replacement_order}
 use Rattle.gx_history.specs.Requests.{action_of, asked, is_granted, granted, granted_mark}
+use Rattle.gx_history.specs.Turns.{new_order}
+use Rattle.gx_history.specs.World.{World, world, Move, Nothing, PutsOn, Adds, Sizes, Replaces, Commands, commanded, move_asked, move_by, move_of, moved}
+use Rattle.gx_history_laws.proofs.Keeping.{others_not}
 use Rattle.gx_history_laws.proofs.KillsNext.{kill_in_force_next}
 use Rattle.gx_history_laws.proofs.NextInForce.{is_closed_next, is_entitled_next, line_of_next, rules_in_force_next, rules_with}
-use Rattle.gx_history_laws.proofs.Keeping.{others_not}
-use Rattle.gx_history.specs.Turns.{live_under, new_order}
-use Rattle.gx_history.specs.World.{World, world, Move, Nothing, PutsOn, Adds, Sizes, Replaces, Commands, commanded, move_asked, move_by, move_of, moved}
 
 -- of what a move does, what concerns lines and settings
 data Force : Type 0 where

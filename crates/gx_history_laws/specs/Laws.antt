@@ -2,30 +2,31 @@
 use Rattle.std.specs.Option.{option_map_or}
 use Rattle.std.specs.Prelude.{ℕ, ◌<◌, ◌^◌, option_map, ◌≡◌, ◌+◌, ◌≤◌, ◌||◌, unwrap_or, is_some, length, List, [], ◌∷◌, ◌++◌, map, Some, ◌↔◌, IsTrue, IsFalse, Bool, false, ◌&&◌, filter}
 use Rattle.std.specs.List.{list_any, slice_get, AllByRecursion}
-use Rattle.gx_units.specs.Names.{same_user, same_token}
 use Rattle.gx_units.specs.declared.names.AccountName.{AccountName}
 use Rattle.gx_units.specs.declared.names.Token.{Token}
 use Rattle.gx_units.specs.declared.names.UserName.{UserName}
+use Rattle.gx_units.specs.Names.{same_user, same_token}
 use Rattle.gx_desk.specs.declared.Action.{Action}
 use Rattle.gx_policy.specs.declared.policy.Account.{Account}
 use Rattle.gx_policy.specs.declared.policy.PolicyData.{PolicyData}
+use Rattle.gx_policy.specs.declared.rule_name.RuleName.{RuleName}
+use Rattle.gx_policy.specs.Lists.{are_distinct}
+use Rattle.gx_policy.specs.People.{account_of, stock_named}
+use Rattle.gx_policy.specs.Soundness.{is_sound}
+use Rattle.gx_history.specs.declared.live_order.LiveOrder.{LiveOrder}
 use Rattle.gx_history.specs.declared.record.Asked.{Asked}
 use Rattle.gx_history.specs.declared.record.RecordData.{RecordData}
-use Rattle.gx_policy.specs.declared.rule_name.RuleName.{RuleName}
 use Rattle.gx_history.specs.declared.record.Step.{Step}
 use Rattle.gx_history.specs.declared.record.Step.TheVariants as steps
 use Rattle.gx_history.specs.declared.record.Verdict.TheVariants as verdicts
-use Rattle.gx_history.specs.Executions.{Execution, Standing, live_orders, open_shares}
 use Rattle.gx_history.specs.InForce.{is_closed, kill_after, kill_in_force, kill_or_lift_of, line_of, login_or_logout_of, record_closes}
-use Rattle.gx_history.specs.Orders.{Order, orders, ends_account, is_token_used, record_uses, total}
-use Rattle.gx_history.specs.Requests.{granted, granted_action, granted_mark, is_order}
-use Rattle.gx_policy.specs.Lists.{are_distinct}
+use Rattle.gx_history.specs.Live.{live}
 use Rattle.gx_history.specs.Masks.{has_account, mask_by}
-use Rattle.gx_policy.specs.People.{account_of, stock_named}
-use Rattle.gx_history.specs.Streams.{stream, reports_of}
+use Rattle.gx_history.specs.Orders.{Order, orders, ends_account, is_token_used, record_uses}
+use Rattle.gx_history.specs.Requests.{granted, granted_action, granted_mark, is_order}
 use Rattle.gx_history.specs.Rules.{applies, written_order, IsFirstForbidding}
 use Rattle.gx_history.specs.Showing.{is_askable, is_showable}
-use Rattle.gx_policy.specs.Soundness.{is_sound}
+use Rattle.gx_history.specs.Streams.{stream, reports_of}
 use Rattle.gx_history.specs.Verdicts.{verdict, facts_now, rules_now, next, last_moment, moment_of, run, day_limit, Follows, IsLegal}
 
 -- a request leaves one record: the next number, the moment, the request and its verdict
@@ -68,15 +69,15 @@ abbrev pub NumbersArePlaces : Type 0
 NumbersArePlaces = (policy : PolicyData) (history : List RecordData) (r : RecordData)
     → IsLegal policy (history ++ r ∷ []) → r.number ≡ length history + 1
 
--- an order never has more open than its total
-abbrev pub OpenIsWithinTotal : Type 0
-OpenIsWithinTotal = (made : List Execution) (history : List RecordData) (o : Order) → open_shares made history o ≤ total history o
+-- a live order has executed less than its size
+abbrev pub LiveHaveOpen : Type 0
+LiveHaveOpen = (policy : PolicyData) (history : List RecordData) → AllByRecursion (λ (o : LiveOrder). o.done < o.total) (live policy history)
 
 -- after a granted Kill or Close Day none of the orders that it is for is live, resting or not
 abbrev pub EndedAreNotLive : Type 0
 EndedAreNotLive = (policy : PolicyData) (history : List RecordData) (r : RecordData) (action : Action)
     → IsLegal policy (history ++ r ∷ []) → granted_action r ≡ Some action
-    → IsFalse (list_any (λ (s : Standing). ends_account s.order.account action) (live_orders policy (history ++ r ∷ [])))
+    → IsFalse (list_any (λ (o : LiveOrder). ends_account o.account action) (live policy (history ++ r ∷ [])))
 
 -- the record grants an Enter or a Replace
 abbrev pub grants_order : RecordData → Bool

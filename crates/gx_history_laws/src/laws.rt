@@ -1,6 +1,6 @@
 //! Laws of the definitions, each as what a function without a body ensures.
 
-ghost use Rattle.gx_history_laws.specs.Laws.{RequestsLeaveRecords, GrantedWhereNoneForbids, DeniedByTheFirst, RequestsAreShown, LegalGoesOn, RunsAreLegal, LegalAreRuns, NumbersArePlaces, OrdersAreGrants, OrderNumbersAreWithin, TokensDiffer, AccountsAreTheUsers, StocksAreListed, OpenIsWithinTotal, EndedAreNotLive, TokensGrow, LinesGoOn, KillsGoOn, DaysEnd, MomentsGoOn, StreamsGrow};
+ghost use Rattle.gx_history_laws.specs.Laws.{RequestsLeaveRecords, GrantedWhereNoneForbids, DeniedByTheFirst, RequestsAreShown, LegalGoesOn, RunsAreLegal, LegalAreRuns, NumbersArePlaces, OrdersAreGrants, OrderNumbersAreWithin, TokensDiffer, AccountsAreTheUsers, StocksAreListed, LiveHaveOpen, EndedAreNotLive, TokensGrow, LinesGoOn, KillsGoOn, DaysEnd, MomentsGoOn, StreamsGrow};
 ghost use Rattle.gx_history_laws.specs.Laws.{MasksAreExact, MasksAreWithin};
 
 /// A request leaves a record of its verdict: granted where no rule forbids, else denied by the first that does.
@@ -31,7 +31,7 @@ pub fn orders_are_granted_requests()
 
 /// Open shares are a part of the total, and a Kill or the end of the day leaves none.
 pub fn orders_end()
-    ensures within { OpenIsWithinTotal }
+    ensures within { LiveHaveOpen }
     ensures ended { EndedAreNotLive }
 {}
 

@@ -26,30 +26,28 @@ use Rattle.gx_history.specs.declared.record.Step.TheVariants as steps
 use Rattle.gx_history.specs.declared.record.Verdict.{Verdict}
 use Rattle.gx_history.specs.declared.record.Verdict.TheVariants as verdicts
 use Rattle.gx_history.specs.declared.report.Message.{Message}
-use Rattle.gx_history.specs.Effects.{TakesEffect}
 use Rattle.gx_history.specs.InForce.{rules_in_force}
-use Rattle.gx_history.specs.Orders.{entered}
 use Rattle.gx_policy.specs.People.{account_of, account_of_role, role_in}
+use Rattle.gx_policy.specs.declared.rule_name.RuleName.TheVariants.{G3}
 use Rattle.gx_history.specs.Requests.{action_of, asked, granted, granted_action, is_granted, is_judged, is_unreadable}
-use Rattle.gx_history.specs.Streams.{accepted, reported, reports_of, reports_of_denial, stream, to_user}
+use Rattle.gx_history.specs.Streams.{reported, reports_of, reports_of_denial, stream, to_user}
 use Rattle.gx_history_laws.proofs.Adding.{user_is_itself}
-use Rattle.gx_history_laws.proofs.Granting.{asked_is_judged, verdict_of_next}
+use Rattle.gx_history_laws.proofs.Granting.{asked_is_judged, verdict_of_next, is_no_bar}
 use Rattle.gx_history_laws.proofs.NextInForce.{rules_in_force_next, rules_with}
 use Rattle.gx_history_laws.proofs.NextReports.{stream_next}
 use Rattle.gx_history_laws.proofs.Numbers.{number_left}
 use Rattle.gx_history_laws.proofs.Runs.{step_left}
-use Rattle.gx_effects.proofs.Effects.{is_told}
-use Rattle.gx_effects.proofs.Lines.{login_takes_effect, logout_takes_effect}
-use Rattle.gx_effects.proofs.Taking.{takes_effect}
-use Rattle.gx_effects.proofs.Moving.{unreadable_is_denied}
+use Rattle.gx_effects.proofs.ByKind.{denials_tell_who_asked, enters_come_last, logins_put_on, logouts_put_off}
 use Rattle.gx_day.specs.DayData.{at_moment, with_line}
 use Rattle.gx_day.specs.InForce.{day_asked, day_in_force}
 use Rattle.gx_day.proofs.Going.{day_next}
-use Rattle.gx_orders.specs.Changes.{denied_token, entering, keeps_orders, marking, waiting_order}
+use Rattle.gx_orders.specs.Changes.{denied_token, entering, keeps_orders, marking}
 use Rattle.gx_orders.specs.InForce.{orders_in_force}
 use Rattle.gx_orders.specs.Laws.{CanEnter}
 use Rattle.gx_orders.specs.LiveOrders.{AreBelow, OrdersData, is_used}
 use Rattle.gx_history.specs.declared.live_order.LiveOrder.{LiveOrder}
+use Rattle.gx_history.specs.World.{World, accepted_of}
+use Rattle.gx_history.specs.Turns.{new_order}
 use Rattle.gx_orders.proofs.Granted.{denials_keep, enters_new}
 use Rattle.gx_orders.proofs.Turned.{enters_more, others_keep}
 use Rattle.gx_orders.proofs.Tokens.{denied_is_new}
@@ -67,7 +65,6 @@ use Rattle.gx_ledger.specs.StandsFor.{Accepts}
 use Rattle.gx_keepers.specs.declared.keepers.Keepers.{Keepers}
 use Rattle.gx_keepers.specs.Keepers.{AreInForce, AreInForceBut, AreSentTo, HavePlaces, Takes, mask_for, with_told}
 use Rattle.gx_keepers.specs.Ledgers.{StandsForDay}
-use Rattle.gx_keepers.specs.Messages.{accepted_message}
 use Rattle.gx_keepers.proofs.Figuring.{denial_figured, enter_figured, quiet_figured}
 
 granted_is : (r : RecordData) (a : Asked) → r.verdict ≡ verdicts.Granted → r.step ≡ steps.Asked a → granted r ≡ Some a
@@ -148,7 +145,7 @@ pub denial_tells : (policy : PolicyData) (history : List RecordData) (a : Asked)
     → Takes policy history a r k → r.verdict ≡ verdicts.Denied rule → option_to_list found ≡ reports_of_denial policy r rule a.request
     → DenialTells policy history a r (option_to_list found)
 denial_tells policy history a r rule k found t denied is user =
-    (is_told policy history a r rule t.left denied).told user
+    ap (λ (w : World). w.streams user) (denials_tell_who_asked policy history a r rule t.left denied)
     ∙ ap (λ (told : List Message). stream policy history user ++ map (reported r) (to_user a.user user told)) (sym is)
 
 pub no_message : (b : Bool) → cond {A = List Message} b [] [] ≡ []
@@ -230,14 +227,8 @@ enters_unused policy history a r m k t grants enters =
 -- its user is told
 pub enter_tells : (policy : PolicyData) (history : List RecordData) (a : Asked) (r : RecordData) (m : EnterOrder) (account : AccountName) (k : Keepers)
     → Takes policy history a r k → r.verdict ≡ verdicts.Granted → a.request ≡ requests.Enter m → account_of policy a.user ≡ Some account
-    → TellsOne policy history (history ++ r ∷ []) r a.user (accepted_message (waiting_order policy r a.user account m) ∷ [])
-enter_tells policy history a r m account k t grants enters his user =
-    let is : TakesEffect policy history (history ++ r ∷ []) r a.user m = takes_effect policy history a r m t.legal t.left enters grants in
-    is.told user
-    ∙ ap (λ (x : AccountName). stream policy history user ++ map (reported r) (to_user a.user user (accepted (entered policy r a.user x m)))) (one_account (sym is.is_his ∙ his))
-  where
-    one_account : {x y : AccountName} → Some x ≡ Some y → x ≡ y
-    one_account e = cc
+    → TellsOne policy history (history ++ r ∷ []) r a.user (accepted_of (new_order policy r a.user account m))
+enter_tells policy history a r m account k t grants enters his user = ap (λ (w : World). w.streams user) (enters_come_last policy history a r m account t.legal t.left enters grants his)
 
 pub enter_place : (policy : PolicyData) (history : List RecordData) (a : Asked) (r : RecordData) (m : EnterOrder) (account : AccountName) (k : Keepers)
     → Takes policy history a r k → HavePlaces policy history r k.streams → r.verdict ≡ verdicts.Granted → a.request ≡ requests.Enter m → account_of policy a.user ≡ Some account
@@ -248,19 +239,19 @@ enter_place policy history a r m account k t places grants enters his =
 -- a granted Enter
 pub enter_goes_on : (policy : PolicyData) (history : List RecordData) (a : Asked) (r : RecordData) (m : EnterOrder) (account : AccountName) (before k : Keepers) (order : LiveOrder) (message : Message)
     → Takes policy history a r before → r.verdict ≡ verdicts.Granted → a.request ≡ requests.Enter m → account_of policy a.user ≡ Some account
-    → order ≡ waiting_order policy r a.user account m → message ≡ accepted_message order
+    → order ≡ new_order policy r a.user account m → message ∷ [] ≡ accepted_of order
     → k.people ≡ before.people → k.rules ≡ before.rules → k.day ≡ before.day
     → k.orders ≡ entering order before.orders → k.book ≡ before.book → Accepts order r.moment false before.ledger k.ledger → k.streams ≡ with_told a.user r.moment (Some message) before.streams
     → AreInForceBut policy history r k
 enter_goes_on policy history a r m account before k order message t grants enters his order_is message_is people_are rules_are day_is orders_are book_is accepts streams_are =
     by_grant policy history a r before k (requests.Enter m) t.in_force grants (step_left policy history (steps.Asked a) r t.left) enters people_are rules_are day_is
-    (orders_are ∙ ap (λ (o : LiveOrder). entering o before.orders) order_is ∙ ap (entering (waiting_order policy r a.user account m)) t.in_force.orders
+    (orders_are ∙ ap (λ (o : LiveOrder). entering o before.orders) order_is ∙ ap (entering (new_order policy r a.user account m)) t.in_force.orders
     ∙ sym (enters_more policy history a r m account t.legal t.left enters grants his))
     (book_stays policy history a r before k t grants (ap keeps_book enters) book_is)
     (enter_figured policy history a r m account before order k.ledger t grants enters his order_is accepts)
-    (ap shown (streams_are ∙ ap (λ (x : Message). with_told a.user r.moment (Some x) before.streams) (message_is ∙ ap accepted_message order_is))
-    ∙ stays_by_one policy history (history ++ r ∷ []) r before.streams a.user (accepted_message (waiting_order policy r a.user account m)) t.in_force.streams
-    (enter_tells policy history a r m account before t grants enters his))
+    (ap shown streams_are
+    ∙ stays_by_one policy history (history ++ r ∷ []) r before.streams a.user message t.in_force.streams
+    (subst (TellsOne policy history (history ++ r ∷ []) r a.user) (sym (message_is ∙ ap accepted_of order_is)) (enter_tells policy history a r m account before t grants enters his)))
     (still_sent policy before.people k.people before.streams.readers k.streams.readers people_are (ap (λ (s : AllStreams). s.readers) streams_are) t.in_force.sent)
 
 -- a granted Login
@@ -273,7 +264,7 @@ login_goes_on policy history a r m before k t grants asks people_are rules_are d
     (orders_are ∙ t.in_force.orders ∙ sym (others_keep policy history a r t.legal t.left grants (ap keeps_orders asks)))
     (book_stays policy history a r before k t grants (ap keeps_book asks) book_is)
     (quiet_figured policy history a r (requests.Login m) before k.ledger t grants asks refl ledger_is)
-    (ap shown streams_are ∙ stays_by_none policy history (history ++ r ∷ []) before.streams t.in_force.streams (login_takes_effect policy history a r m t.left asks grants).told_nothing)
+    (ap shown streams_are ∙ stays_by_none policy history (history ++ r ∷ []) before.streams t.in_force.streams (λ user. ap (λ (w : World). w.streams user) (logins_put_on m policy history a r t.left asks grants)))
     (still_sent policy before.people k.people before.streams.readers k.streams.readers people_are (ap (λ (s : AllStreams). s.readers) streams_are) t.in_force.sent)
 
 -- a granted Logout
@@ -286,7 +277,7 @@ logout_goes_on policy history a r before k t grants asks people_are rules_are da
     (orders_are ∙ t.in_force.orders ∙ sym (others_keep policy history a r t.legal t.left grants (ap keeps_orders asks)))
     (book_stays policy history a r before k t grants (ap keeps_book asks) book_is)
     (quiet_figured policy history a r requests.Logout before k.ledger t grants asks refl ledger_is)
-    (ap shown streams_are ∙ stays_by_none policy history (history ++ r ∷ []) before.streams t.in_force.streams (logout_takes_effect policy history a r t.left asks grants).told_nothing)
+    (ap shown streams_are ∙ stays_by_none policy history (history ++ r ∷ []) before.streams t.in_force.streams (λ user. ap (λ (w : World). w.streams user) (logouts_put_off policy history a r t.left asks grants)))
     (still_sent policy before.people k.people before.streams.readers k.streams.readers people_are (ap (λ (s : AllStreams). s.readers) streams_are) t.in_force.sent)
 
 -- the account that a user trades for, as people say
@@ -312,7 +303,7 @@ no_other_request policy history a r k t grants no_login no_logout no_enter no_re
     by : (q : Request) → a.request ≡ q → ⊥
     by (requests.Login m) asks = no_login m asks
     by requests.Logout asks = no_logout asks
-    by (requests.Unreadable m) asks = let denied : true ≡ false = sym (ap is_unreadable asks) ∙ unreadable_is_denied policy history a r t.left grants in cc
+    by (requests.Unreadable m) asks = let denied : true ≡ false = sym (ap is_unreadable asks) ∙ is_no_bar policy history a r t.left grants G3 in cc
     by (requests.Enter m) asks = no_enter m asks
     by (requests.Replace m) asks = no_replace m asks
     by (requests.Cancel m) asks = no_cancel m asks

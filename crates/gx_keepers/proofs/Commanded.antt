@@ -2,7 +2,7 @@
 use Rattle.std.proofs.Common.{◌≡◌, ℕ, ◌+◌, ◌<◌, ◌≤◌, arith, true, false, not, Bool, List, [], ◌∷◌, ◌++◌, length, length-append, refl, ◌∙◌, ap, sym, cond, map}
 use Rattle.std.proofs.Math.Path.{subst}
 use Rattle.std.proofs.lemmas.List.{append_assoc, append_cancel_left, map-append}
-use Rattle.std.specs.Prelude.{Option, Some, None, is_some, option_and_then, option_map, ◌&&◌, ◌||◌}
+use Rattle.std.specs.Prelude.{Option, Some, None, is_some, option_and_then, option_map, ◌||◌}
 use Rattle.std.specs.Option.{option_map_or}
 use Rattle.std.specs.List.{AllByRecursion, filter, list_any}
 use Rattle.gx_units.specs.Names.{same_user}
@@ -20,17 +20,15 @@ use Rattle.gx_history.specs.declared.record.RecordData.{RecordData}
 use Rattle.gx_history.specs.declared.record.Request.TheVariants as requests
 use Rattle.gx_history.specs.declared.record.Step.TheVariants as steps
 use Rattle.gx_history.specs.declared.record.Verdict.TheVariants as verdicts
-use Rattle.gx_history.specs.declared.report.Message.{Message}
 use Rattle.gx_history.specs.declared.report.Report.{Report}
 use Rattle.gx_history.specs.Asking.{knows_limit, knows_names, rule_in_force}
 use Rattle.gx_history.specs.InForce.{changed, limit_of, rules_in_force}
 use Rattle.gx_policy.specs.Lists.{are_distinct}
-use Rattle.gx_history.specs.Orders.{ends_account}
 use Rattle.gx_policy.specs.People.{account_named, is_trader, role_in, user_in}
 use Rattle.gx_history.specs.Readers.{reader_in}
 use Rattle.gx_history.specs.Requests.{action_of}
 use Rattle.gx_policy.specs.Soundness.{is_sound}
-use Rattle.gx_history.specs.Streams.{answer, day_end, ended, granted_code, lift_code, reported, reports_of, stream, to_user}
+use Rattle.gx_history.specs.Streams.{answer, day_end, granted_code, lift_code, reported, reports_of, stream, to_user, ended_of}
 use Rattle.gx_history.specs.Verdicts.{IsLegal, next}
 use Rattle.gx_history_laws.proofs.Adding.{user_is, user_is_itself}
 use Rattle.gx_history_laws.proofs.Judging.{both}
@@ -43,11 +41,11 @@ use Rattle.gx_day.specs.InForce.{day_commanded, day_in_force}
 use Rattle.gx_day.proofs.Answering.{command_is_known, known_kill_is_kept}
 use Rattle.gx_day.proofs.Going.{commanded_goes_on}
 use Rattle.gx_history.specs.declared.live_order.LiveOrder.{LiveOrder}
-use Rattle.gx_orders.specs.Changes.{ended_message, is_lasting, keeps_orders, with_live}
+use Rattle.gx_history.specs.Live.{live}
+use Rattle.gx_orders.specs.Changes.{is_lasting, keeps_orders, with_live}
 use Rattle.gx_orders.specs.InForce.{orders_in_force}
-use Rattle.gx_orders.specs.LiveOrders.{OrdersData, is_of_user}
+use Rattle.gx_orders.specs.LiveOrders.{OrdersData}
 use Rattle.gx_orders.proofs.Turned.{closes_end, kills_end, others_keep}
-use Rattle.gx_orders.proofs.Telling.{ends_are_told}
 use Rattle.gx_book.specs.Books.{StockOrders}
 use Rattle.gx_market.specs.Changes.{ended_by}
 use Rattle.gx_market.proofs.ByKind as booked
@@ -55,16 +53,15 @@ use Rattle.gx_people.specs.Entitled.{given, has_room, people_in_force}
 use Rattle.gx_people.proofs.Room.{readers_have_room}
 use Rattle.gx_streams.specs.Kept.{UserList, places_in}
 use Rattle.gx_streams.specs.Streams.{AllStreams, ReaderMask}
-use Rattle.gx_streams.specs.Telling.{each_told, owed_to, shown, with_all_owed, with_owed}
-use Rattle.gx_streams.proofs.Owing.{owed_both}
+use Rattle.gx_streams.specs.Telling.{each_told, owed_to, shown, with_all_owed, with_owed, owed_for, owed_for_ended, owed_message}
+use Rattle.gx_streams.proofs.Owing.{owed_both, ended_are_owed}
 use Rattle.gx_streams.proofs.Places.{owed_taken}
 use Rattle.gx_streams.proofs.Telling.{GoesOn, all_owed_shown, more_told}
 use Rattle.gx_ledger.specs.Following.{ClosesAll}
 use Rattle.gx_keepers.specs.declared.keepers.Keepers.{Keepers}
-use Rattle.gx_keepers.specs.Ends.{HaveOwedPlaces, code_by, is_ended, live_left, owed_by_answer, owed_by_close, owed_by_command, owed_by_day_end, owed_by_day_ends, owed_by_end, owed_by_ends, trades}
+use Rattle.gx_keepers.specs.Ends.{HaveOwedPlaces, code_by, is_ended, live_left, owed_by_answer, owed_by_close, owed_by_command, owed_by_day_end, owed_by_day_ends, owed_by_end, owed_by_ends, trades, day_end_message}
 use Rattle.gx_keepers.specs.Keepers.{AreInForceBut, AreSentTo, HavePlaces, Takes}
 use Rattle.gx_keepers.specs.Ledgers.{ended_orders}
-use Rattle.gx_keepers.specs.Messages.{day_end_message}
 use Rattle.gx_keepers.specs.Settings.{HasRoom, HasSetting, sent_on}
 use Rattle.gx_keepers.proofs.Carrying.{by_grant}
 use Rattle.gx_keepers.proofs.Figuring.{command_figured, none_end}
@@ -72,24 +69,13 @@ use Rattle.gx_keepers.proofs.Sending.{owed_masks, sent_after, sent_told, shown_b
 
 -- ---- what is owed to one user
 
--- of the orders that a command ends, by the orders that are kept
-owed_is : (action : Action) (moment : ℕ) (user : UserName) (live : List LiveOrder)
-    → owed_to (owed_by_ends action moment live) user
-    ≡ map (λ (message : Message). record { timestamp = moment; message = message })
-    (map ended_message (filter (λ (o : LiveOrder). is_of_user user o && ends_account o.account action) live))
-owed_is action moment user [] = refl
-owed_is action moment user (o ∷ os) =
-    let more : List LiveOrder = filter (is_ended action) os in
-    let theirs : List LiveOrder = filter (λ (x : LiveOrder). is_of_user user x && ends_account x.account action) os in
-    let shown_by : List LiveOrder → List Report = λ (xs : List LiveOrder). map (λ (message : Message). record { timestamp = moment; message = message }) (map ended_message xs) in
-    let owed_by : List (UserName × Report) → List Report = λ (xs : List (UserName × Report)). map (λ (x : UserName × Report). x.1) xs in
-    let for_him : List (UserName × Report) = filter (λ (x : UserName × Report). same_user x.0 user) (map (owed_by_end moment) more) in
-    let rest : owed_by for_him ≡ shown_by theirs = owed_is action moment user os in
-    elim (ends_account o.account action) as (λ b. owed_to (map (owed_by_end moment) (cond b (o ∷ more) more)) user ≡ shown_by (cond (same_user o.user user && b) (o ∷ theirs) theirs)) [
-      | true ↦ elim (same_user o.user user) as (λ u. owed_by (cond u (owed_by_end moment o ∷ for_him) for_him) ≡ shown_by (cond (u && true) (o ∷ theirs) theirs))
-          [ true ↦ ap (λ (rs : List Report). record { timestamp = moment; message = ended_message o } ∷ rs) rest | false ↦ rest ]
-      | false ↦ elim (same_user o.user user) as (λ u. owed_by for_him ≡ shown_by (cond (u && false) (o ∷ theirs) theirs)) [ true ↦ rest | false ↦ rest ]
-    ]
+-- of the orders that a command ends
+ends_are : (r : RecordData) (action : Action) (live : List LiveOrder) → map (owed_message r) (owed_for_ended live action) ≡ owed_by_ends action r.moment live
+ends_are r action live = by (filter (is_ended action) live)
+  where
+    by : (os : List LiveOrder) → map (owed_message r) (map owed_for os) ≡ map (owed_by_end r.moment) os
+    by [] = refl
+    by (o ∷ os) = ap (λ (rest : List (UserName × Report)). owed_by_end r.moment o ∷ rest) (by os)
 
 -- another has this name
 abbrev IsAnother : UserName → User → Type 0
@@ -187,7 +173,7 @@ code_left policy history r c = granted_code policy (history ++ r ∷ []) c.actio
 -- what its record owes
 pub command_owes : (policy : PolicyData) (history : List RecordData) (a : Asked) (r : RecordData) (c : Command) (k : Keepers) (user : UserName)
     → Takes policy history a r k → r.verdict ≡ verdicts.Granted → a.request ≡ requests.Command c
-    → reports_of policy user (history, r) ≡ map (reported r) (ended policy history c.action user ++ day_end policy c.action user ++ to_user a.user user (answer r c (code_left policy history r c)))
+    → reports_of policy user (history, r) ≡ map (reported r) (ended_of (live policy history) c.action user ++ day_end policy c.action user ++ to_user a.user user (answer r c (code_left policy history r c)))
 command_owes policy history a r c k user t granted asks =
     append_cancel_left (stream policy history user) _ _
     (sym (stream_next policy history r user) ∙ told_by_command policy history r a c c.action user (grants policy history a r c k t granted asks) asks refl)
@@ -197,17 +183,16 @@ owed_now : (policy : PolicyData) (history : List RecordData) (a : Asked) (r : Re
     → Takes policy history a r k → r.verdict ≡ verdicts.Granted → a.request ≡ requests.Command c → is_sound policy ≡ true
     → reports_of policy user (history, r) ≡ owed_to (owed_by_command policy r a.user c (code_left policy history r c) k.orders.live) user
 owed_now policy history a r c k user t granted asks sound =
-    let live : List LiveOrder = (orders_in_force policy history).live in
-    let ends : List (UserName × Report) = owed_by_ends c.action r.moment live in
+    let ends : List (UserName × Report) = owed_by_ends c.action r.moment (live policy history) in
     let close : List (UserName × Report) = owed_by_close c.action r.moment policy.users in
     let done : List (UserName × Report) = owed_by_answer r a.user c (code_left policy history r c) ∷ [] in
-    let ends_are : map (reported r) (ended policy history c.action user) ≡ owed_to ends user =
-    ap (map (reported r)) (ends_are_told policy history c.action user) ∙ sym (owed_is c.action r.moment user live) in
+    let told : map (reported r) (ended_of (live policy history) c.action user) ≡ owed_to ends user =
+    ended_are_owed (live policy history) r c.action user ∙ ap (λ (os : List (UserName × Report)). owed_to os user) (ends_are r c.action (live policy history)) in
     command_owes policy history a r c k user t granted asks
-    ∙ map-append (reported r) (ended policy history c.action user ++ day_end policy c.action user) (to_user a.user user (answer r c (code_left policy history r c)))
-    ∙ ap (λ (rs : List Report). rs ++ map (reported r) (to_user a.user user (answer r c (code_left policy history r c)))) (map-append (reported r) (ended policy history c.action user) (day_end policy c.action user))
-    ∙ append_assoc (map (reported r) (ended policy history c.action user)) (map (reported r) (day_end policy c.action user)) (map (reported r) (to_user a.user user (answer r c (code_left policy history r c))))
-    ∙ ap (λ (rs : List Report). rs ++ (map (reported r) (day_end policy c.action user) ++ map (reported r) (to_user a.user user (answer r c (code_left policy history r c))))) ends_are
+    ∙ map-append (reported r) (ended_of (live policy history) c.action user ++ day_end policy c.action user) (to_user a.user user (answer r c (code_left policy history r c)))
+    ∙ ap (λ (rs : List Report). rs ++ map (reported r) (to_user a.user user (answer r c (code_left policy history r c)))) (map-append (reported r) (ended_of (live policy history) c.action user) (day_end policy c.action user))
+    ∙ append_assoc (map (reported r) (ended_of (live policy history) c.action user)) (map (reported r) (day_end policy c.action user)) (map (reported r) (to_user a.user user (answer r c (code_left policy history r c))))
+    ∙ ap (λ (rs : List Report). rs ++ (map (reported r) (day_end policy c.action user) ++ map (reported r) (to_user a.user user (answer r c (code_left policy history r c))))) told
     ∙ ap (λ (rs : List Report). owed_to ends user ++ (rs ++ map (reported r) (to_user a.user user (answer r c (code_left policy history r c))))) (sym (close_is policy r c.action user sound))
     ∙ ap (λ (rs : List Report). owed_to ends user ++ (owed_to close user ++ rs)) (sym (answer_is r a.user user c (code_left policy history r c)))
     ∙ ap (λ (rs : List Report). owed_to ends user ++ rs) (sym (owed_both user close done))

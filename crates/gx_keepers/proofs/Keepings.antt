@@ -1,9 +1,8 @@
 -- Places that are kept for what a record tells, and behind it.
 use Rattle.std.proofs.Common.{◌≡◌, ℕ, ◌+◌, ◌<◌, ◌≤◌, get_or, take, arith, true, false, not, Bool, List, [], ◌∷◌, ◌++◌, length, length-append, refl, ◌∙◌, ap, sym, cond, map, if◌then◌else◌}
 use Rattle.std.proofs.Math.Path.{subst}
-use Rattle.std.proofs.lemmas.List.{append_cancel_left, length-map, take_more}
+use Rattle.std.proofs.lemmas.List.{append_cancel_left, take_more}
 use Rattle.std.specs.Prelude.{Option, Some, None, is_some, ◌&&◌}
-use Rattle.std.specs.List.{filter}
 use Rattle.gx_units.specs.Names.{same_user}
 use Rattle.gx_units.specs.declared.names.UserName.{UserName}
 use Rattle.gx_policy.specs.declared.policy.PolicyData.{PolicyData}
@@ -14,7 +13,6 @@ use Rattle.gx_history.specs.declared.record.Step.TheVariants as steps
 use Rattle.gx_history.specs.declared.record.Verdict.{Verdict}
 use Rattle.gx_history.specs.declared.record.Verdict.TheVariants as verdicts
 use Rattle.gx_history.specs.declared.report.Message.{Message}
-use Rattle.gx_history.specs.Executions.{Standing, live_orders}
 use Rattle.gx_policy.specs.People.{is_officer, is_reader, role_in, user_in}
 use Rattle.gx_history.specs.Requests.{is_judged}
 use Rattle.gx_history.specs.Streams.{reported, reports_of, stream}
@@ -26,9 +24,8 @@ use Rattle.gx_history_laws.proofs.NextReports.{legal_before, stream_next}
 use Rattle.gx_history_laws.proofs.Numbers.{all_weaker}
 use Rattle.gx_history_laws.proofs.Pushing.{all_next}
 use Rattle.gx_history.specs.declared.live_order.LiveOrder.{LiveOrder}
-use Rattle.gx_history.specs.LiveOrders.{kept}
-use Rattle.gx_orders.specs.LiveOrders.{OrdersData, is_of_user}
-use Rattle.gx_effects.proofs.Live.{filter_kept, live_is_kept}
+use Rattle.gx_history.specs.Live.{live}
+use Rattle.gx_orders.specs.LiveOrders.{OrdersData}
 use Rattle.gx_people.proofs.Keeping.{officers_stay}
 use Rattle.gx_places.specs.Places.{concerns_many, enough_places, has_kept_places, most_kills, orders_held, report_places}
 use Rattle.gx_places.proofs.Asked.{enough_is_more, kept_places_are_enough, matches_want_no_more, others_want_no_more, so_many_are_enough}
@@ -76,9 +73,7 @@ enough_is : (policy : PolicyData) (history : List RecordData) (k : Keepers) (use
     → enough_of k.orders.live k.people policy user ≡ enough_places policy history user
 enough_is policy history k user in_force =
     let orders : count_of k.orders.live user ≡ orders_held policy history user =
-    ap (λ (d : OrdersData). count_of d.live user) in_force.orders
-    ∙ ap length (ap (filter (is_of_user user)) (live_is_kept policy history) ∙ filter_kept (is_of_user user) (kept policy history) (live_orders policy history))
-    ∙ length-map (filter (λ (s : Standing). same_user s.order.user user) (live_orders policy history)) (kept policy history) in
+    ap (λ (d : OrdersData). count_of d.live user) in_force.orders in
     let kills : cond (is_officer (role_in k.people user)) (length policy.accounts) 0 ≡ most_kills policy user =
     ap (λ (people : List User). cond (is_officer (role_in people user)) (length policy.accounts) 0) in_force.people
     ∙ ap (λ (b : Bool). cond b (length policy.accounts) 0) (officers_stay policy history user) in
@@ -270,8 +265,7 @@ one_finds policy history r k streams receiver message tells has user = record {
 -- so few orders are live
 pub few_live : (policy : PolicyData) (history : List RecordData) (k : Keepers) → IsLegal policy history → AreInForce policy history k → length k.orders.live ≤ day_limit
 few_live policy history k legal in_force =
-    let same : length k.orders.live ≡ length (live_orders policy history) =
-    ap (λ (d : OrdersData). length d.live) in_force.orders ∙ ap length (live_is_kept policy history) ∙ length-map (live_orders policy history) (kept policy history) in
+    let same : length k.orders.live ≡ length (live policy history) = ap (λ (d : OrdersData). length d.live) in_force.orders in
     omega (arith, same, live_are_few policy history legal)
 
 -- where nobody has fewer places, those that are kept are there still: a matching step leaves no more to be kept

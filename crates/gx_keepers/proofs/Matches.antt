@@ -1,7 +1,7 @@
 -- What a matching step makes of the keepers.
 use Rattle.std.proofs.Common.{inl, ◌≡◌, ℕ, ◌-◌, ◌<◌, arith, Bool, true, false, not, zero, suc, ◌+◌, cond, get_or, if◌then◌else◌, List, [], ◌∷◌, ◌++◌, refl, ◌∙◌, ap, sym, map}
 use Rattle.std.proofs.Math.Path.{subst}
-use Rattle.std.proofs.lemmas.List.{append-nil, append_cancel_left}
+use Rattle.std.proofs.lemmas.List.{append-nil}
 use Rattle.std.specs.Prelude.{Option, Some, None, is_some, length, find, position, unwrap_or, option_and_then, option_map, option_to_list, ◌&&◌}
 use Rattle.std.specs.List.{AllByRecursion, flat_map, position_from, slice_get}
 use Rattle.std.specs.Option.{option_map_or}
@@ -24,37 +24,35 @@ use Rattle.gx_history.specs.declared.record.Step.TheVariants as steps
 use Rattle.gx_history.specs.declared.record.Verdict.{Verdict}
 use Rattle.gx_history.specs.declared.record.Verdict.TheVariants as verdicts
 use Rattle.gx_history.specs.declared.report.Message.{Message}
-use Rattle.gx_history.specs.Book.{is_buy, is_buy_order}
-use Rattle.gx_history.specs.Executions.{Execution, Standing, executions, sides}
+use Rattle.gx_history.specs.Book.{is_buy}
+use Rattle.gx_history.specs.Executions.{Execution, sides}
 use Rattle.gx_history.specs.InForce.{is_entitled}
 use Rattle.gx_history.specs.MayMove.{MayExpire}
-use Rattle.gx_history.specs.Matched.{FillsOrders, maker_side, taker_side}
 use Rattle.gx_policy.specs.People.{account_of, account_of_role, is_reader, role_in, user_in}
 use Rattle.gx_history.specs.Requests.{is_judged}
 use Rattle.gx_policy.specs.Soundness.{is_sound}
-use Rattle.gx_history.specs.Streams.{reported, stream, to_user}
-use Rattle.gx_history.specs.Turns.{live}
+use Rattle.gx_history.specs.Streams.{reported, stream, to_user, canceled_of, expired_of}
+use Rattle.gx_history.specs.Live.{live}
 use Rattle.gx_history.specs.Verdicts.{IsLegal}
-use Rattle.gx_history.specs.World.{World, expired_of, move_by, moved, world}
+use Rattle.gx_history.specs.World.{World, move_by, moved, world}
 use Rattle.gx_history_laws.proofs.Masks.{same_mask}
 use Rattle.gx_history_laws.proofs.Names.{account_is, accounts_few}
-use Rattle.gx_history_laws.proofs.NextOrders.{executions_next}
 use Rattle.gx_history_laws.proofs.Order.{some_same}
 use Rattle.gx_history_laws.proofs.Owners.{IsHisAccounts}
 use Rattle.gx_history_laws.proofs.Runs.{step_left}
 use Rattle.gx_effects.proofs.Accounts.{accounts_are_known}
-use Rattle.gx_effects.proofs.Fills.{fill_takes_effect, same_fill}
 use Rattle.gx_effects.proofs.Moving.{may_by}
-use Rattle.gx_effects.proofs.Resting.{RestsThere, all_resting, first_lives}
-use Rattle.gx_effects.proofs.Orderly.{IsOrderly, legal_is_orderly}
-use Rattle.gx_effects.proofs.Settling.{not_judged}
+use Rattle.gx_effects.proofs.Resting.{first_lives}
+use Rattle.gx_effects.proofs.Orderly.{legal_is_orderly}
 use Rattle.gx_effects.proofs.Ungranted.{match_grants_nothing}
 use Rattle.gx_effects.proofs.World.{world_next}
-use Rattle.gx_effects.proofs.WorldKept.{side_is_kept, waiting_is_kept}
+use Rattle.gx_effects.proofs.Matches.{not_judged}
+use Rattle.gx_effects.proofs.Fills.{IsFill, both_sides, is_fill, maker_side, sides_are, taker_side}
+use Rattle.gx_effects.proofs.Naming.{IsOfKnown}
 use Rattle.gx_book.specs.Books.{StockOrders, resting_in}
 use Rattle.gx_book.specs.Queue.{IsLatest}
 use Rattle.gx_history.specs.declared.live_order.LiveOrder.{LiveOrder}
-use Rattle.gx_history.specs.LiveOrders.{kept}
+use Rattle.gx_history.specs.LiveOrders.{shares_open}
 use Rattle.gx_orders.specs.Changes.{with_live}
 use Rattle.gx_orders.specs.InForce.{orders_in_force}
 use Rattle.gx_orders.specs.Laws.{CanFill}
@@ -72,7 +70,7 @@ use Rattle.gx_streams.specs.declared.fill.ToldFill.{ToldFill}
 use Rattle.gx_streams.specs.Fills.{liquidity_of, side_of}
 use Rattle.gx_streams.specs.Kept.{places_in}
 use Rattle.gx_streams.specs.Laws.{TellsOne}
-use Rattle.gx_streams.specs.Sending.{AreSent, IsMadeBy, IsSide, is_fill}
+use Rattle.gx_streams.specs.Sending.{AreSent, IsMadeBy, IsSide, is_fill as makes_fill}
 use Rattle.gx_streams.specs.Streams.{AllStreams, is_told, with_fill}
 use Rattle.gx_streams.specs.Telling.{shown, told_after}
 use Rattle.gx_streams.proofs.Sending.{sides_are_his, stays_by_fill}
@@ -84,7 +82,6 @@ use Rattle.gx_keepers.specs.declared.keepers.Keepers.{Keepers}
 use Rattle.gx_keepers.specs.Keepers.{AreInForce, AreInForceBut, HasEnough, HaveAllPlaces, HavePlaces, KnowTheSame, with_told}
 use Rattle.gx_keepers.specs.Ledgers.{StandsForDay}
 use Rattle.gx_keepers.specs.Matching.{TakesMatch, place_of, told_side}
-use Rattle.gx_keepers.specs.Messages.{canceled_message}
 use Rattle.gx_keepers.proofs.Carrying.{by_no_grant, has_place}
 use Rattle.gx_keepers.proofs.Figuring.{end_figured, fill_figured, legal_after, rest_figured, waits_first}
 use Rattle.gx_keepers.proofs.Keepings.{Makes, all_are_placed, known_told, match_fits, one_finds}
@@ -169,24 +166,24 @@ place_is accounts name there = by (position test accounts) refl (ap is_some (pos
         let p = position-Some test accounts i no_account is in
         ap at is ∙ ap (option_map (λ (a : Account). a.name)) (slice_there accounts i no_account p.0) ∙ ap (λ (n : AccountName). Some n) (account_is (get_or accounts i no_account).name name p.1)
 
--- an order's side, as it is told, is this side of the fill that the record makes
-side_told : (policy : PolicyData) (history : List RecordData) (r : RecordData) (f : Fill) (s : Standing) (o : LiveOrder) (liquidity : Liquidity) (party : Party) (made : ToldFill)
-    → is_sound policy ≡ true → o ≡ kept policy history s → account_of policy s.order.user ≡ Some s.order.account
+-- a live order's side, as it is told, is this side of the fill that the record makes
+side_told : (policy : PolicyData) (history : List RecordData) (r : RecordData) (f : Fill) (o lives : LiveOrder) (of : IsOfKnown policy history lives) (liquidity : Liquidity) (party : Party) (made : ToldFill)
+    → is_sound policy ≡ true → o ≡ lives → account_of policy of.order.user ≡ Some of.order.account
     → side_of made party ≡ told_side policy o → made.match_number ≡ r.number → made.shares ≡ f.shares → made.price ≡ f.price → liquidity_of party ≡ liquidity
-    → IsSide policy r (record { fill = f; liquidity = liquidity; order = s.order }) made party
-side_told policy history r f s o liquidity party made sound is his side_is number_is shares_are price_is liquid =
-    let all : side_of made party ≡ told_side policy (kept policy history s) = side_is ∙ ap (told_side policy) is in
+    → IsSide policy r (record { fill = f; liquidity = liquidity; order = of.order }) made party
+side_told policy history r f o lives of liquidity party made sound is his side_is number_is shares_are price_is liquid =
+    let all = side_is ∙ ap (told_side policy) (is ∙ sym of.is_it) in
     record {
       user = ap (λ (x : FillSide). x.user) all;
       account = ap (λ (x : FillSide). x.account) all;
       side = ap (λ (x : FillSide). x.side) all;
       executed = λ i. record { token = (all i).token; shares = shares_are i; price = price_is i; liquidity = liquid i; match_number = number_is i };
       place = ap (λ (x : FillSide). option_map (λ (a : Account). a.name) (slice_get policy.accounts x.account_place)) all
-          ∙ place_is policy.accounts s.order.account (accounts_are_known policy s.order.user s.order.account sound his);
-      reads_not = reads_not (role_in policy.users s.order.user) his;
+          ∙ place_is policy.accounts of.order.account (accounts_are_known policy of.order.user of.order.account sound his);
+      reads_not = reads_not (role_in policy.users of.order.user) his;
     }
   where
-    reads_not : (role : Option Role) → option_and_then account_of_role role ≡ Some s.order.account → is_reader role ≡ false
+    reads_not : (role : Option Role) → option_and_then account_of_role role ≡ Some of.order.account → is_reader role ≡ false
     reads_not None e = cc
     reads_not (Some (roles.Trader account)) e = refl
     reads_not (Some (roles.Officer powers scope)) e = cc
@@ -194,75 +191,49 @@ side_told policy history r f s o liquidity party made sound is his side_is numbe
 
 -- both orders of a fill, as they are kept, and whose they are
 pub record FillOrders (policy : PolicyData) (history : List RecordData) (r : RecordData) (f : Fill) (first maker : LiveOrder) : Type 0 where
-  pub taking : Standing
-  pub resting : Standing
-  pub taker_is : first ≡ kept policy history taking
-  pub maker_is : maker ≡ kept policy history resting
-  pub sides_are : sides policy history r.verdict ≡ taker_side f taking.order ∷ maker_side f resting.order ∷ []
-  pub taker_his : account_of policy taking.order.user ≡ Some taking.order.account
-  pub maker_his : account_of policy resting.order.user ≡ Some resting.order.account
+  pub is : IsFill policy history r f
+  pub taker_is : first ≡ is.may.taker
+  pub maker_is : maker ≡ is.may.maker
+  pub taker_his : account_of policy is.taker_waits.known.of.order.user ≡ Some is.taker_waits.known.of.order.account
+  pub maker_his : account_of policy is.maker_rests.known.of.order.user ≡ Some is.maker_rests.known.of.order.account
 
 pub fill_orders : (policy : PolicyData) (history : List RecordData) (first : LiveOrder) (r : RecordData) (k : Keepers) (f : Fill) (maker : LiveOrder)
     → TakesMatch policy history first r k → r.verdict ≡ verdicts.Filled f → order_numbered k.orders.live f.maker ≡ Some maker
     → FillOrders policy history r f first maker
-fill_orders policy history first r k f maker t fills found = of (fill_takes_effect policy history t.handed r f orderly t.left fills)
-  where
-    orderly : IsOrderly policy history
-    orderly = legal_is_orderly policy history t.legal
-
-    of : FillsOrders policy history (history ++ r ∷ []) r f → FillOrders policy history r f first maker
-    of is = record {
-      taking = is.taker;
-      resting = is.maker;
-      taker_is = sym (is_first policy history (kept policy history is.taker) (map (kept policy history) is.waiting) first (waiting_is_kept policy history ∙ ap (map (kept policy history)) is.comes_first) (waits_first policy history first r k t));
-      maker_is = maker_is;
-      sides_are = sides_are;
+fill_orders policy history first r k f maker t fills found =
+    let fill : IsFill policy history r f = is_fill policy history t.handed r f (legal_is_orderly policy history t.legal) t.left fills in
+    let his : AllByRecursion (λ (e : Execution). IsHisAccounts policy e.order) (both_sides f fill.taker_waits.known.of.order fill.maker_rests.known.of.order) =
+    subst (AllByRecursion (λ (e : Execution). IsHisAccounts policy e.order)) (ap (sides policy history) (sym fills) ∙ sides_are policy history r f fill) (sides_are_his policy history f) in
+    record {
+      is = fill;
+      taker_is = sym (is_first policy history fill.may.taker fill.may.waiting first fill.may.comes_first (waits_first policy history first r k t));
+      maker_is = some_same
+          (sym found
+          ∙ ap (λ (d : OrdersData). order_numbered d.live f.maker) t.in_force.orders
+          ∙ ap (order_numbered (live policy history)) fill.of_maker
+          ∙ fill.maker_rests.known.is_found);
       taker_his = his.0;
       maker_his = (his.1).0;
     }
-      where
-        other : Bool
-        other = not (is_buy_order is.taker.order)
-
-        best : RestsThere policy history is.taker.order.terms.stock other (kept policy history is.maker)
-        best =
-            (subst (AllByRecursion (RestsThere policy history is.taker.order.terms.stock other))
-            (side_is_kept policy history is.taker.order.terms.stock other orderly ∙ ap (map (kept policy history)) is.is_best) (all_resting policy history is.taker.order.terms.stock other t.legal)).0
-
-        of_maker : f.maker ≡ is.maker.order.number
-        of_maker = ap (λ (x : Fill). x.maker) (same_fill f _ (sym fills ∙ is.is_theirs))
-
-        maker_is : maker ≡ kept policy history is.maker
-        maker_is = some_same
-            (sym found
-            ∙ ap (λ (d : OrdersData). order_numbered d.live f.maker) t.in_force.orders
-            ∙ ap (order_numbered (live policy history)) of_maker
-            ∙ best.found)
-
-        sides_are : sides policy history r.verdict ≡ taker_side f is.taker.order ∷ maker_side f is.maker.order ∷ []
-        sides_are = append_cancel_left (executions policy history) _ _ (sym (executions_next policy history r) ∙ is.executions_more)
-
-        his : AllByRecursion (λ (e : Execution). IsHisAccounts policy e.order) (taker_side f is.taker.order ∷ maker_side f is.maker.order ∷ [])
-        his = subst (AllByRecursion (λ (e : Execution). IsHisAccounts policy e.order)) (ap (sides policy history) (sym fills) ∙ sides_are) (sides_are_his policy history f)
 
 -- both users are told report by report
-owner_told : (policy : PolicyData) (history : List RecordData) (k : Keepers) (s : Standing) (o : LiveOrder) (side : FillSide) → AreInForce policy history k
-    → o ≡ kept policy history s → account_of policy s.order.user ≡ Some s.order.account → side ≡ told_side policy o → is_told k.streams side.user ≡ true
-owner_told policy history k s o side kept_is is his side_is =
-    ap (λ (x : FillSide). is_told k.streams x.user) (side_is ∙ ap (told_side policy) is)
-    ∙ known_told policy history k kept_is s.order.user ∙ trader_told s.order.account (user_in policy.users s.order.user) his
+owner_told : (policy : PolicyData) (history : List RecordData) (k : Keepers) (o lives : LiveOrder) (of : IsOfKnown policy history lives) (side : FillSide) → AreInForce policy history k
+    → o ≡ lives → account_of policy of.order.user ≡ Some of.order.account → side ≡ told_side policy o → is_told k.streams side.user ≡ true
+owner_told policy history k o lives of side kept_is is his side_is =
+    ap (λ (x : FillSide). is_told k.streams x.user) (side_is ∙ ap (told_side policy) (is ∙ sym of.is_it))
+    ∙ known_told policy history k kept_is of.order.user ∙ trader_told of.order.account (user_in policy.users of.order.user) his
 
 pub taker_told : (policy : PolicyData) (history : List RecordData) (first : LiveOrder) (r : RecordData) (k : Keepers) (f : Fill) (maker : LiveOrder) (side : FillSide)
     → TakesMatch policy history first r k → r.verdict ≡ verdicts.Filled f → order_numbered k.orders.live f.maker ≡ Some maker → side ≡ told_side policy first → is_told k.streams side.user ≡ true
 taker_told policy history first r k f maker side t fills found is =
     let both = fill_orders policy history first r k f maker t fills found in
-    owner_told policy history k both.taking first side t.in_force both.taker_is both.taker_his is
+    owner_told policy history k first both.is.may.taker both.is.taker_waits.known.of side t.in_force both.taker_is both.taker_his is
 
 pub maker_told : (policy : PolicyData) (history : List RecordData) (first : LiveOrder) (r : RecordData) (k : Keepers) (f : Fill) (maker : LiveOrder) (side : FillSide)
     → TakesMatch policy history first r k → r.verdict ≡ verdicts.Filled f → order_numbered k.orders.live f.maker ≡ Some maker → side ≡ told_side policy maker → is_told k.streams side.user ≡ true
 maker_told policy history first r k f maker side t fills found is =
     let both = fill_orders policy history first r k f maker t fills found in
-    owner_told policy history k both.resting maker side t.in_force both.maker_is both.maker_his is
+    owner_told policy history k maker both.is.may.maker both.is.maker_rests.known.of side t.in_force both.maker_is both.maker_his is
 
 -- who is sent what among people is who is entitled
 sent_by_records : (policy : PolicyData) (history : List RecordData) (k : Keepers) → is_sound policy ≡ true → AreInForce policy history k → AreSent policy history k.streams
@@ -299,13 +270,13 @@ fill_goes_on policy history first r before k f maker left taken kept_side made t
     is_made : IsMadeBy policy history r made
     is_made = record {
       made = f;
-      taker = taker_side f both.taking.order;
-      maker = maker_side f both.resting.order;
+      taker = taker_side f both.is.taker_waits.known.of.order;
+      maker = maker_side f both.is.maker_rests.known.of.order;
       fills = fills;
-      sides_are = both.sides_are;
-      takers = side_told policy history r f both.taking first liquidities.Removed parties.Taker made sound both.taker_is both.taker_his
+      sides_are = sides_are policy history r f both.is;
+      takers = side_told policy history r f first both.is.may.taker both.is.taker_waits.known.of liquidities.Removed parties.Taker made sound both.taker_is both.taker_his
           (ap (λ (x : ToldFill). x.taker) made_is ∙ taken_is) (ap (λ (x : ToldFill). x.match_number) made_is) (ap (λ (x : ToldFill). x.shares) made_is) (ap (λ (x : ToldFill). x.price) made_is) refl;
-      makers = side_told policy history r f both.resting maker liquidities.Added parties.Maker made sound both.maker_is both.maker_his
+      makers = side_told policy history r f maker both.is.may.maker both.is.maker_rests.known.of liquidities.Added parties.Maker made sound both.maker_is both.maker_his
           (ap (λ (x : ToldFill). x.maker) made_is ∙ kept_is) (ap (λ (x : ToldFill). x.match_number) made_is) (ap (λ (x : ToldFill). x.shares) made_is) (ap (λ (x : ToldFill). x.price) made_is) refl;
       moment = ap (λ (x : ToldFill). x.moment) made_is;
     }
@@ -344,29 +315,29 @@ rest_goes_on policy history first r before k number t rests people_are rules_are
 -- ---- an order that ends
 
 -- what its user is told
-abbrev pub end_message : LiveOrder → Message
-end_message o = canceled_message o (o.total - o.done) cancels.ImmediateOrCancel
+abbrev pub told_of_end : LiveOrder → List Message
+told_of_end o = canceled_of cancels.ImmediateOrCancel (shares_open o) o
 
 pub end_tells : (policy : PolicyData) (history : List RecordData) (first : LiveOrder) (r : RecordData) (k : Keepers) (number : ℕ)
-    → TakesMatch policy history first r k → r.verdict ≡ verdicts.Expired number → TellsOne policy history (history ++ r ∷ []) r first.user (end_message first ∷ [])
+    → TakesMatch policy history first r k → r.verdict ≡ verdicts.Expired number → TellsOne policy history (history ++ r ∷ []) r first.user (told_of_end first)
 end_tells policy history first r k number t ends user = told (may_by policy history (steps.Matching t.handed) r (verdicts.Expired number) t.legal t.left ends)
   where
-    told : MayExpire (world policy history) r number → stream policy (history ++ r ∷ []) user ≡ stream policy history user ++ map (reported r) (to_user first.user user (end_message first ∷ []))
+    told : MayExpire (world policy history) r number → stream policy (history ++ r ∷ []) user ≡ stream policy history user ++ map (reported r) (to_user first.user user (told_of_end first))
     told is =
         told_by policy history first r k (verdicts.Expired number) user t ends
         ∙ ap (λ (n : ℕ). stream policy history user ++ map (reported r) (expired_of (live policy history) n user)) is.has_number
-        ∙ ap (λ (found : Option LiveOrder). stream policy history user ++ map (reported r) (flat_map (λ (o : LiveOrder). to_user o.user user (end_message o ∷ [])) (option_to_list found)))
+        ∙ ap (λ (found : Option LiveOrder). stream policy history user ++ map (reported r) (flat_map (λ (o : LiveOrder). to_user o.user user (told_of_end o)) (option_to_list found)))
         (first_lives policy history is.first is.waiting t.legal is.comes_first).0.found
-        ∙ ap (λ (ms : List Message). stream policy history user ++ map (reported r) ms) (append-nil (to_user is.first.user user (end_message is.first ∷ [])))
-        ∙ ap (λ (x : LiveOrder). stream policy history user ++ map (reported r) (to_user x.user user (end_message x ∷ []))) (is_first policy history is.first is.waiting first is.comes_first (waits_first policy history first r k t))
+        ∙ ap (λ (ms : List Message). stream policy history user ++ map (reported r) ms) (append-nil (to_user is.first.user user (told_of_end is.first)))
+        ∙ ap (λ (x : LiveOrder). stream policy history user ++ map (reported r) (to_user x.user user (told_of_end x))) (is_first policy history is.first is.waiting first is.comes_first (waits_first policy history first r k t))
 
 pub end_has_place : (policy : PolicyData) (history : List RecordData) (first : LiveOrder) (r : RecordData) (k : Keepers) (number : ℕ)
     → TakesMatch policy history first r k → HavePlaces policy history r k.streams → r.verdict ≡ verdicts.Expired number → 0 < places_in k.streams.told first.user
 end_has_place policy history first r k number t places ends =
-    has_place policy history r k.streams first.user (end_message first) places (end_tells policy history first r k number t ends)
+    has_place policy history r k.streams first.user _ places (end_tells policy history first r k number t ends)
 
 pub end_goes_on : (policy : PolicyData) (history : List RecordData) (first : LiveOrder) (r : RecordData) (before k : Keepers) (number : ℕ) (message : Message)
-    → TakesMatch policy history first r before → r.verdict ≡ verdicts.Expired number → message ≡ end_message first
+    → TakesMatch policy history first r before → r.verdict ≡ verdicts.Expired number → message ∷ [] ≡ told_of_end first
     → k.people ≡ before.people → k.rules ≡ before.rules → k.day ≡ before.day
     → k.orders ≡ with_live (without number before.orders.live) before.orders → k.book ≡ before.book → Closes first before.ledger k.ledger → k.streams ≡ with_told first.user r.moment (Some message) before.streams
     → AreInForceBut policy history r k
@@ -375,8 +346,9 @@ end_goes_on policy history first r before k number message t ends is people_are 
     (orders_are ∙ ap (λ (d : OrdersData). with_live (without number d.live) d) t.in_force.orders ∙ sym (ends_one policy history t.handed r number t.legal t.left ends))
     (book_is ∙ t.in_force.book ∙ sym (expiries_keep policy history t.handed r number t.legal t.left ends))
     (end_figured policy history first r before number k.ledger t ends closes)
-    (ap shown (streams_are ∙ ap (λ (m : Message). with_told first.user r.moment (Some m) before.streams) is)
-    ∙ stays_by_one policy history (history ++ r ∷ []) r before.streams first.user (end_message first) t.in_force.streams (end_tells policy history first r before number t ends))
+    (ap shown streams_are
+    ∙ stays_by_one policy history (history ++ r ∷ []) r before.streams first.user message t.in_force.streams
+    (subst (TellsOne policy history (history ++ r ∷ []) r first.user) (sym is) (end_tells policy history first r before number t ends)))
     (ap (λ (s : AllStreams). s.readers) streams_are)
 
 -- its user has his place
@@ -385,10 +357,10 @@ pub end_fits : (policy : PolicyData) (history : List RecordData) (first : LiveOr
     → HaveAllPlaces policy history r streams
 end_fits policy history first r k number streams t ends m has =
     match_fits policy history t.handed r k streams t.legal t.left m
-    (one_finds policy history r k streams first.user (end_message first) (end_tells policy history first r k number t ends) has)
+    (one_finds policy history r k streams first.user _ (end_tells policy history first r k number t ends) has)
 
 -- whoever has all places has one for each report
 pub end_is_placed : (policy : PolicyData) (history : List RecordData) (first : LiveOrder) (r : RecordData) (k : Keepers) (number : ℕ) (streams : AllStreams)
     → TakesMatch policy history first r k → r.verdict ≡ verdicts.Expired number → KnowTheSame k.streams streams → HaveAllPlaces policy history r streams → HavePlaces policy history r streams
 end_is_placed policy history first r k number streams t ends same have =
-    all_are_placed policy history r streams (λ user. same user ∙ known_told policy history k t.in_force user) (match_is_legal policy history first r k t) (ap is_fill ends) have
+    all_are_placed policy history r streams (λ user. same user ∙ known_told policy history k t.in_force user) (match_is_legal policy history first r k t) (ap makes_fill ends) have

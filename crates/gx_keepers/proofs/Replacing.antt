@@ -12,7 +12,7 @@ use Rattle.gx_history.specs.declared.record.Request.TheVariants as requests
 use Rattle.gx_history.specs.declared.record.Step.TheVariants as steps
 use Rattle.gx_history.specs.declared.record.Verdict.TheVariants as verdicts
 use Rattle.gx_history.specs.declared.report.Message.{Message}
-use Rattle.gx_history.specs.Streams.{reported, stream, to_user}
+use Rattle.gx_history.specs.Streams.{reported, stream, to_user, replaced_of}
 use Rattle.gx_history.specs.World.{World, Nothing, moved, world}
 use Rattle.gx_history.specs.World as moves
 use Rattle.gx_history_laws.proofs.Granting.{verdict_of_next}
@@ -21,10 +21,11 @@ use Rattle.gx_history_laws.proofs.Runs.{step_left}
 use Rattle.gx_effects.proofs.ByKind.{granted_world}
 use Rattle.gx_history.specs.declared.live_order.LiveOrder.{LiveOrder}
 use Rattle.gx_history.specs.LiveOrders.{replacement_order}
+use Rattle.gx_history.specs.Live.{live_under}
 use Rattle.gx_orders.specs.Changes.{entering, with_live}
 use Rattle.gx_orders.specs.InForce.{orders_in_force}
 use Rattle.gx_orders.specs.Laws.{CanReplace}
-use Rattle.gx_orders.specs.LiveOrders.{AreBelow, OrdersData, is_used, order_under, without}
+use Rattle.gx_orders.specs.LiveOrders.{AreBelow, OrdersData, is_used, without}
 use Rattle.gx_orders.proofs.Cutting.{replaces_new}
 use Rattle.gx_orders.proofs.Turned.{replaces_one}
 use Rattle.gx_market.specs.Changes.{taken_out}
@@ -37,7 +38,6 @@ use Rattle.gx_streams.proofs.Telling.{stays_by_one}
 use Rattle.gx_ledger.specs.Following.{Replaces}
 use Rattle.gx_keepers.specs.declared.keepers.Keepers.{Keepers}
 use Rattle.gx_keepers.specs.Keepers.{AreInForceBut, HavePlaces, Takes, with_told}
-use Rattle.gx_keepers.specs.Messages.{replaced_message}
 use Rattle.gx_keepers.proofs.Carrying.{by_grant, has_place, still_sent}
 use Rattle.gx_keepers.proofs.Figuring.{is_his, replace_figured, under_kept}
 
@@ -48,13 +48,13 @@ can_replace policy history a r m k t grants asks = replaces_new policy history a
 
 -- it names a live order
 pub old_is_there : (policy : PolicyData) (history : List RecordData) (a : Asked) (r : RecordData) (m : ReplaceOrder) (k : Keepers) (found : Option LiveOrder)
-    → Takes policy history a r k → r.verdict ≡ verdicts.Granted → a.request ≡ requests.Replace m → found ≡ order_under k.orders.live a.user m.existing_token → is_some found ≡ true
+    → Takes policy history a r k → r.verdict ≡ verdicts.Granted → a.request ≡ requests.Replace m → found ≡ live_under k.orders.live a.user m.existing_token → is_some found ≡ true
 old_is_there policy history a r m k found t grants asks is =
     ap is_some (sym (under_kept policy history a r k found m.existing_token t (sym is))) ∙ (can_replace policy history a r m k t grants asks).names_one
 
 -- whose chain has executed less than the new size
 pub old_has_less : (policy : PolicyData) (history : List RecordData) (a : Asked) (r : RecordData) (m : ReplaceOrder) (k : Keepers) (o : LiveOrder)
-    → Takes policy history a r k → r.verdict ≡ verdicts.Granted → a.request ≡ requests.Replace m → order_under k.orders.live a.user m.existing_token ≡ Some o → o.done < m.shares
+    → Takes policy history a r k → r.verdict ≡ verdicts.Granted → a.request ≡ requests.Replace m → live_under k.orders.live a.user m.existing_token ≡ Some o → o.done < m.shares
 old_has_less policy history a r m k o t grants asks found =
     subst (λ (x : Option LiveOrder). IfSome x (λ (p : LiveOrder). p.done < m.shares)) (under_kept policy history a r k (Some o) m.existing_token t found) (can_replace policy history a r m k t grants asks).has_shares
 
@@ -67,7 +67,7 @@ replaces_last policy history a r m k t grants asks =
 
 -- and the new token was not used
 pub replaces_unused : (policy : PolicyData) (history : List RecordData) (a : Asked) (r : RecordData) (m : ReplaceOrder) (k : Keepers) (o : LiveOrder)
-    → Takes policy history a r k → r.verdict ≡ verdicts.Granted → a.request ≡ requests.Replace m → order_under k.orders.live a.user m.existing_token ≡ Some o
+    → Takes policy history a r k → r.verdict ≡ verdicts.Granted → a.request ≡ requests.Replace m → live_under k.orders.live a.user m.existing_token ≡ Some o
     → is_used k.orders.used o.user m.replacement_token ≡ false
 replaces_unused policy history a r m k o t grants asks found =
     ap (λ (user : UserName). is_used k.orders.used user m.replacement_token) (is_his a.user m.existing_token k.orders.live o found)
@@ -75,27 +75,27 @@ replaces_unused policy history a r m k o t grants asks found =
     ∙ (can_replace policy history a r m k t grants asks).is_new.is_unused
 
 -- what its user is told
-abbrev pub told_of_replace : RecordData → ReplaceOrder → LiveOrder → Message
-told_of_replace r m o = replaced_message (replacement_order r m o) o.token
+abbrev pub told_of_replace : RecordData → ReplaceOrder → LiveOrder → List Message
+told_of_replace r m o = replaced_of o (replacement_order r m o)
 
 pub replace_tells : (policy : PolicyData) (history : List RecordData) (a : Asked) (r : RecordData) (m : ReplaceOrder) (k : Keepers) (o : LiveOrder)
-    → Takes policy history a r k → r.verdict ≡ verdicts.Granted → a.request ≡ requests.Replace m → order_under k.orders.live a.user m.existing_token ≡ Some o
-    → TellsOne policy history (history ++ r ∷ []) r a.user (told_of_replace r m o ∷ [])
+    → Takes policy history a r k → r.verdict ≡ verdicts.Granted → a.request ≡ requests.Replace m → live_under k.orders.live a.user m.existing_token ≡ Some o
+    → TellsOne policy history (history ++ r ∷ []) r a.user (told_of_replace r m o)
 replace_tells policy history a r m k o t grants asks found user =
     ap (λ (w : World). w.streams user) (granted_world policy history a r (requests.Replace m) t.legal t.left asks grants)
     ∙ ap (λ (named : Option LiveOrder). (moved policy r (option_map_or (λ (old : LiveOrder). moves.Replaces old (replacement_order r m old)) named Nothing) (world policy history)).streams user) (under_kept policy history a r k (Some o) m.existing_token t found)
-    ∙ ap (λ (his : UserName). stream policy history user ++ map (reported r) (to_user his user (told_of_replace r m o ∷ []))) (is_his a.user m.existing_token k.orders.live o found)
+    ∙ ap (λ (his : UserName). stream policy history user ++ map (reported r) (to_user his user (told_of_replace r m o))) (is_his a.user m.existing_token k.orders.live o found)
 
 pub replace_has_place : (policy : PolicyData) (history : List RecordData) (a : Asked) (r : RecordData) (m : ReplaceOrder) (k : Keepers) (o : LiveOrder)
     → Takes policy history a r k → HavePlaces policy history r k.streams → r.verdict ≡ verdicts.Granted → a.request ≡ requests.Replace m
-    → order_under k.orders.live a.user m.existing_token ≡ Some o → 0 < places_in k.streams.told a.user
+    → live_under k.orders.live a.user m.existing_token ≡ Some o → 0 < places_in k.streams.told a.user
 replace_has_place policy history a r m k o t places grants asks found =
-    has_place policy history r k.streams a.user (told_of_replace r m o) places (replace_tells policy history a r m k o t grants asks found)
+    has_place policy history r k.streams a.user _ places (replace_tells policy history a r m k o t grants asks found)
 
 -- a granted Replace
 pub replace_goes_on : (policy : PolicyData) (history : List RecordData) (a : Asked) (r : RecordData) (m : ReplaceOrder) (before k : Keepers) (o new : LiveOrder) (message : Message)
-    → Takes policy history a r before → r.verdict ≡ verdicts.Granted → a.request ≡ requests.Replace m → order_under before.orders.live a.user m.existing_token ≡ Some o
-    → new ≡ replacement_order r m o → message ≡ replaced_message new o.token
+    → Takes policy history a r before → r.verdict ≡ verdicts.Granted → a.request ≡ requests.Replace m → live_under before.orders.live a.user m.existing_token ≡ Some o
+    → new ≡ replacement_order r m o → message ∷ [] ≡ replaced_of o new
     → k.people ≡ before.people → k.rules ≡ before.rules → k.day ≡ before.day
     → k.orders ≡ with_live (without o.number (before.orders.live ++ new ∷ [])) (entering new before.orders) → k.book ≡ taken_out o before.book
     → Replaces o new r.moment before.ledger k.ledger → k.streams ≡ with_told a.user r.moment (Some message) before.streams
@@ -108,7 +108,7 @@ replace_goes_on policy history a r m before k o new message t grants asks found 
     (book_is ∙ ap (taken_out o) t.in_force.book
     ∙ sym (replaces_take policy history a r m o t.legal t.left asks grants (under_kept policy history a r before (Some o) m.existing_token t found)))
     (replace_figured policy history a r m before o new k.ledger t grants asks found new_is replaces)
-    (ap shown (streams_are
-    ∙ ap (λ (x : Message). with_told a.user r.moment (Some x) before.streams) (message_is ∙ ap (λ (x : LiveOrder). replaced_message x o.token) new_is))
-    ∙ stays_by_one policy history (history ++ r ∷ []) r before.streams a.user (told_of_replace r m o) t.in_force.streams (replace_tells policy history a r m before o t grants asks found))
+    (ap shown streams_are
+    ∙ stays_by_one policy history (history ++ r ∷ []) r before.streams a.user message t.in_force.streams
+    (subst (TellsOne policy history (history ++ r ∷ []) r a.user) (sym (message_is ∙ ap (replaced_of o) new_is)) (replace_tells policy history a r m before o t grants asks found)))
     (still_sent policy before.people k.people before.streams.readers k.streams.readers people_are (ap (λ (s : AllStreams). s.readers) streams_are) t.in_force.sent)

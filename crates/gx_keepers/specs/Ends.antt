@@ -2,6 +2,9 @@
 use Rattle.std.specs.Prelude.{ℕ, ◌≤◌, Bool, List, [], ◌∷◌, ◌++◌, Some, length, map}
 use Rattle.std.specs.List.{filter}
 use Rattle.gx_units.specs.declared.names.UserName.{UserName}
+use Rattle.gx_ouch.specs.declared.letters.EventCode.TheVariants as events
+use Rattle.gx_ouch.specs.declared.outbound.Outbound.TheVariants as outbounds
+use Rattle.gx_desk.specs.Names.{command_type}
 use Rattle.gx_desk.specs.declared.Action.{Action}
 use Rattle.gx_desk.specs.declared.Action.TheVariants as actions
 use Rattle.gx_desk.specs.declared.AnswerCode.{AnswerCode}
@@ -10,19 +13,19 @@ use Rattle.gx_desk.specs.declared.Command.{Command}
 use Rattle.gx_policy.specs.declared.policy.PolicyData.{PolicyData}
 use Rattle.gx_policy.specs.declared.policy.User.{User}
 use Rattle.gx_history.specs.declared.record.RecordData.{RecordData}
+use Rattle.gx_history.specs.declared.report.Message.{Message}
+use Rattle.gx_history.specs.declared.report.Message.TheVariants as messages
 use Rattle.gx_history.specs.declared.report.Report.{Report}
 use Rattle.gx_history.specs.Orders.{ends_account}
 use Rattle.gx_policy.specs.People.{is_trader}
 use Rattle.gx_history.specs.Streams.{lift_code}
 use Rattle.gx_day.specs.DayData.{DayData, killed_in}
 use Rattle.gx_history.specs.declared.live_order.LiveOrder.{LiveOrder}
-use Rattle.gx_orders.specs.Changes.{ended_message}
 use Rattle.gx_orders.specs.LiveOrders.{of_others}
 use Rattle.gx_streams.specs.Kept.{places_in}
 use Rattle.gx_streams.specs.Streams.{AllStreams}
-use Rattle.gx_streams.specs.Telling.{owed_to, with_all_owed}
+use Rattle.gx_streams.specs.Telling.{owed_for, owed_to, with_all_owed}
 use Rattle.gx_keepers.specs.declared.next_record.NextRecord.{NextRecord}
-use Rattle.gx_keepers.specs.Messages.{answer_message, day_end_message}
 
 -- the command ends the order
 abbrev pub is_ended : Action → LiveOrder → Bool
@@ -36,7 +39,7 @@ live_left other live = live
 
 -- the report that the order has ended, for its user
 abbrev pub owed_by_end : ℕ → LiveOrder → UserName × Report
-owed_by_end moment o = (o.user, record { timestamp = moment; message = ended_message o })
+owed_by_end moment o = (o.user, record { timestamp = moment; message = (owed_for o).1 })
 
 -- for each live order that the command ends, by number
 abbrev pub owed_by_ends : Action → ℕ → List LiveOrder → List (UserName × Report)
@@ -45,6 +48,10 @@ owed_by_ends action moment live = map (owed_by_end moment) (filter (is_ended act
 -- the user trades for an account
 abbrev pub trades : User → Bool
 trades u = is_trader (Some u.role)
+
+-- System Event: the day has ended
+abbrev pub day_end_message : Message
+day_end_message = messages.Order (outbounds.SystemEvent events.EndOfDay)
 
 -- the end of the day, for the user
 abbrev pub owed_by_day_end : ℕ → User → UserName × Report
@@ -63,6 +70,10 @@ owed_by_close other moment users = []
 abbrev pub code_by : DayData → Action → AnswerCode
 code_by day (actions.Lift account) = lift_code (killed_in day account)
 code_by day other = codes.Done
+
+-- Answer: what becomes of an officer's command, with the number of its record
+abbrev pub answer_message : RecordData → Command → AnswerCode → Message
+answer_message r c code = messages.Answer (record { tag = c.tag; command_type = command_type c.action; code = code; record_number = r.number })
 
 -- the answer, for the officer
 abbrev pub owed_by_answer : RecordData → UserName → Command → AnswerCode → UserName × Report

@@ -5,14 +5,14 @@ use Rattle.gx_desk.specs.declared.Action.{Action}
 use Rattle.gx_policy.specs.declared.policy.PolicyData.{PolicyData}
 use Rattle.gx_history.specs.declared.record.RecordData.{RecordData}
 use Rattle.gx_history.specs.declared.live_order.LiveOrder.{LiveOrder}
-use Rattle.gx_positions.specs.Changing.{live_positions}
+use Rattle.gx_history.specs.Figures.{positions}
 use Rattle.gx_ledger.specs.Keeping.{Kept}
 use Rattle.gx_ledger.specs.StandsFor.{StandsFor}
 use Rattle.gx_keepers.specs.Ends.{is_ended}
 
 -- it has the figures of the live orders, the fills and the grants of the day
 abbrev pub StandsForDay : PolicyData → Kept → List RecordData → Type 0
-StandsForDay policy kept history = StandsFor policy kept (live_positions policy history)
+StandsForDay policy kept history = StandsFor policy kept (positions policy history)
 
 -- the live orders that the command ends, by number
 abbrev pub ended_orders : Action → List LiveOrder → List LiveOrder

@@ -2,5 +2,4 @@ pub mod Ends
 pub mod Keepers
 pub mod Ledgers
 pub mod Matching
-pub mod Messages
 pub mod Settings

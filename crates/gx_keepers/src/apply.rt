@@ -6,8 +6,8 @@
 ghost use Rattle.std.specs.Prelude.{◌≡◌, IsOk, OnOk, OnErr};
 ghost use Rattle.gx_history.specs.declared.record.Request.TheVariants as requests;
 ghost use Rattle.gx_history.specs.declared.record.Verdict.TheVariants as verdicts;
+ghost use Rattle.gx_history.specs.Turns.{new_order};
 ghost use Rattle.gx_market.specs.Changes.{cut_from};
-ghost use Rattle.gx_orders.specs.Changes.{waiting_order};
 ghost use Rattle.gx_keepers.specs.Keepers.{AreAfter, AreAfterBut, AreBefore, IsNext};
 ghost use Rattle.gx_keepers.specs.Keepers.{IsPlaced, IsSure, KeepPlacesAfter};
 ghost use Rattle.gx_keepers.specs.Keepers.{KeepPlacesBefore, KeepRoom};
@@ -58,7 +58,7 @@ fn order_of(
     account: AccountName,
     m: &EnterOrder,
 ) -> LiveOrder
-    ensures { result ≡ waiting_order policy.now entry.now user account m.now }
+    ensures { result ≡ new_order policy.now entry.now user account m.now }
 {
     LiveOrder {
         number: entry.number,
@@ -174,7 +174,7 @@ fn apply_replace(
     take_out(&mut keepers.book, &old);
     keepers.ledger.close(&old);
     keepers.ledger.accept(&new, next.left.moment, true);
-    let message = replaced(&new, old.token);
+    let message = replaced(&old, &new);
     tell(&mut keepers.streams, user, next.left.moment, Some(message));
     Ok(())
 }

@@ -1,15 +1,15 @@
 //! What users are told: the messages of OUCH, from orders, fills and denials, and the answers to
 //! officers.
 
-ghost use Rattle.std.specs.Prelude.{◌≡◌, ◌<◌, option_copied, find, option_to_list, IfSome};
+ghost use Rattle.std.specs.Prelude.{◌≡◌, ◌<◌, [], ◌∷◌, option_copied, find, option_to_list, IfSome};
 ghost use Rattle.gx_units.specs.Names.{same_rule};
 ghost use Rattle.gx_history.specs.Reasons.{denial_code, kind_reason, reject_reason};
-ghost use Rattle.gx_history.specs.Streams.{rejected, reports_of_denial};
-ghost use Rattle.gx_orders.specs.Changes.{ended_message};
+ghost use Rattle.gx_history.specs.Streams.{canceled_of, rejected, replaced_of, reports_of_denial};
+ghost use Rattle.gx_history.specs.World.{accepted_of};
 ghost use Rattle.gx_streams.specs.Kept.{places_in};
 ghost use Rattle.gx_keepers.specs.Keepers.{with_told};
-ghost use Rattle.gx_keepers.specs.Messages.{accepted_message, answer_message, canceled_message};
-ghost use Rattle.gx_keepers.specs.Messages.{day_end_message, replaced_message};
+ghost use Rattle.gx_streams.specs.Telling.{owed_for};
+ghost use Rattle.gx_keepers.specs.Ends.{answer_message, day_end_message};
 
 use gx_desk::{Answer, AnswerCode, Command};
 use gx_history::live_order::LiveOrder;
@@ -22,7 +22,7 @@ use gx_ouch::{
 };
 use gx_policy::{FileRule, Policy, RuleKind, RuleName};
 use gx_streams::streams::Streams;
-use gx_units::{Moment, RuleId, Token, UserName};
+use gx_units::{Moment, RuleId, UserName};
 
 fn find_rule<'a>(rules: &'a [FileRule], name: RuleId) -> Option<&'a FileRule>
     ensures { option_copied result ≡ find (λ r. same_rule r.name name) rules.now }
@@ -146,7 +146,7 @@ pub fn day_end() -> Message
 
 /// Accepted: to who asked for the order.
 pub fn accepted(order: &LiveOrder) -> Message
-    ensures { result ≡ accepted_message order.now }
+    ensures { result ∷ [] ≡ accepted_of order.now }
 {
     Message::Order(Outbound::Accepted(Accepted {
         token: order.token,
@@ -155,24 +155,24 @@ pub fn accepted(order: &LiveOrder) -> Message
     }))
 }
 
-/// Replaced: to who asked for the order in the place of the one under the previous token.
-pub fn replaced(order: &LiveOrder, previous: Token) -> Message
-    ensures { result ≡ replaced_message order.now previous }
+/// Replaced: to who asked for the new order in the place of the old one.
+pub fn replaced(old: &LiveOrder, new: &LiveOrder) -> Message
+    ensures { result ∷ [] ≡ replaced_of old.now new.now }
 {
     Message::Order(Outbound::Replaced(Replaced {
-        token: order.token,
+        token: new.token,
         terms: OrderTerms {
-            shares: order.open(),
-            ..order.terms
+            shares: new.open(),
+            ..new.terms
         },
-        order_reference: order.number,
-        previous_token: previous,
+        order_reference: new.number,
+        previous_token: old.token,
     }))
 }
 
 /// Canceled: to the user of an order that has so many shares less, and why.
 pub fn canceled(order: &LiveOrder, decrement: u32, reason: CancelReason) -> Message
-    ensures { result ≡ canceled_message order.now decrement reason }
+    ensures { result ∷ [] ≡ canceled_of reason decrement order.now }
 {
     Message::Order(Outbound::Canceled(Canceled {
         token: order.token,
@@ -184,7 +184,7 @@ pub fn canceled(order: &LiveOrder, decrement: u32, reason: CancelReason) -> Mess
 /// Canceled: to the user of an order that an officer's command ends, with the shares that were
 /// open.
 pub fn ended(order: &LiveOrder) -> Message
-    ensures { result ≡ ended_message order.now }
+    ensures { result ≡ (owed_for order.now).1 }
 {
     canceled(order, order.open(), CancelReason::Supervisory)
 }

@@ -1,8 +1,10 @@
 -- What is left once all connections are gone: nobody is logged in.
-use Rattle.std.specs.Prelude.{◌≡◌, ◌≢◌, ℕ, ◌<◌, List, ◌++◌, Some}
+use Rattle.std.specs.Prelude.{◌≡◌, ◌≢◌, ℕ, ◌<◌, IsFalse, length, List, ◌++◌, Some, None}
 use Rattle.std.specs.List.{AllByRecursion}
+use Rattle.gx_units.specs.Names.{same_user}
 use Rattle.gx_units.specs.declared.names.UserName.{UserName}
 use Rattle.gx_units.specs.Spelling.{folded_user}
+use Rattle.gx_policy.specs.declared.policy.PolicyData.{PolicyData}
 use Rattle.gx_policy.specs.declared.policy.User.{User}
 use Rattle.gx_history.specs.declared.record.Asked.{Asked}
 use Rattle.gx_history.specs.declared.record.RecordData.{RecordData}
@@ -10,6 +12,8 @@ use Rattle.gx_history.specs.declared.record.Request.TheVariants as requests
 use Rattle.gx_history.specs.declared.record.Step.TheVariants as steps
 use Rattle.gx_history.specs.declared.record.Verdict.TheVariants as verdicts
 use Rattle.gx_history.specs.InForce.{line_of}
+use Rattle.gx_history.specs.Verdicts.{last_moment}
+use Rattle.gx_history.specs.World.{world}
 use Rattle.gx_answers.specs.Gates.{GateData}
 
 -- a granted Logout that was handed in at this moment
@@ -25,6 +29,12 @@ pub record AddsLogouts (handed : ℕ) (before after : List RecordData) : Type 0 
   pub added : List RecordData
   pub logouts : AllByRecursion (IsGrantedLogout handed) added
   pub grown : after ≡ before ++ added
+
+-- the user is on no line now, and each other as before; but for the number of records and their moment nothing else has changed
+pub record LeavesLine (policy : PolicyData) (before after : List RecordData) (user : UserName) : Type 0 where
+  pub line_now : line_of after user ≡ None
+  pub lines_kept : (other : UserName) → IsFalse (same_user user other) → line_of after other ≡ line_of before other
+  pub rest_kept : world policy after ≡ record (world policy before) { count = length after; moment = last_moment after; lines = line_of after }
 
 -- the user is logged in on none of the lines, which begin at 1
 abbrev pub IsOff : List RecordData → UserName → Type 0

@@ -1,12 +1,11 @@
 //! Logouts of all who are logged in, where no connection is left.
 
-ghost use Rattle.std.specs.Prelude.{◌≡◌, ◌<◌, ◌≤◌, length, Some, None};
+ghost use Rattle.std.specs.Prelude.{◌≡◌, ◌<◌, ◌≤◌, length, Some};
 ghost use Rattle.gx_units.specs.declared.names.UserName.{UserName};
 ghost use Rattle.gx_units.specs.Spelling.{folded_user};
-ghost use Rattle.gx_history.specs.Effects.{ChangesLine};
 ghost use Rattle.gx_history.specs.InForce.{line_of};
 ghost use Rattle.gx_history.specs.Verdicts.{IsLegal};
-ghost use Rattle.gx_leaving.specs.Logouts.{AddsLogouts, IsOff, NobodyIsOn};
+ghost use Rattle.gx_leaving.specs.Logouts.{AddsLogouts, IsOff, LeavesLine, NobodyIsOn};
 
 use gx_answers::AccessGate;
 use gx_history::record::{Asked, Request};
@@ -21,10 +20,11 @@ fn leave_line<G: AccessGate>(gate: &mut G, line: u16, user: UserName, moment: Mo
     requires on { line_of (G.seen gate.old).records (folded_user user) ≡ Some line }
     ensures policy { (G.seen gate.new).policy ≡ (G.seen gate.old).policy }
     ensures added { AddsLogouts moment (G.seen gate.old).records (G.seen gate.new).records }
-    ensures left { ChangesLine (G.seen gate.old).policy
+    ensures left { LeavesLine (G.seen gate.old).policy
         (G.seen gate.old).records (G.seen gate.new).records
-        (folded_user user) None }
+        (folded_user user) }
 {
+    gate.is_legal();
     // It is granted, and so never refused.
     let _ = gate.step(Asked {
         line,

@@ -24,18 +24,16 @@ use Rattle.gx_policy.specs.declared.policy.RuleKind.TheVariants as kinds
 use Rattle.gx_policy.specs.declared.policy.Scope.{Scope}
 use Rattle.gx_policy.specs.declared.policy.Stock.{Stock}
 use Rattle.gx_history.specs.declared.record.Request.{Request}
-use Rattle.gx_history.specs.declared.record.Request.TheVariants as requests
-use Rattle.gx_history.specs.Book.{is_buy}
-use Rattle.gx_history.specs.Executions.{Execution, Standing, standing_numbered}
-use Rattle.gx_history.specs.Figures.{Positions, counts_account, figures, is_on, kind_figures, net_done, no_figures, on_side, open_value, other_side, reference, side_asked, side_done, side_live, stock_asked}
-use Rattle.gx_history.specs.Orders.{Order}
+use Rattle.gx_history.specs.Executions.{Execution}
+use Rattle.gx_history.specs.Book.{is_on}
+use Rattle.gx_history.specs.Figures.{Positions, counts_account, figures, kind_figures, net_done, no_figures, on_side, other_side, reference, side_asked, side_done, side_live, stock_asked}
 use Rattle.gx_policy.specs.People.{account_named, covers, stock_named}
 use Rattle.gx_history.specs.Rules.{figured, figured_from}
 use Rattle.gx_history.specs.Verdicts.{with_figures}
 use Rattle.gx_history_laws.proofs.Names.{account_is, same_account_flip, stock_is}
 use Rattle.gx_history_laws.proofs.Numbers.{all_weaker}
 use Rattle.gx_positions.specs.Sound.{AreSound, IsListed}
-use Rattle.gx_positions.proofs.Sums.{as_shares, done_are, open_are, open_of, sum_where}
+use Rattle.gx_positions.proofs.Sums.{done_are, is_chosen, none_of, shares_of, sum_of_none}
 use Rattle.gx_ledger.specs.declared.group.Group.{Group}
 use Rattle.gx_ledger.specs.declared.sides.SideSums.{SideSums}
 use Rattle.gx_ledger.specs.declared.sides.StockSums.{StockSums}
@@ -43,10 +41,10 @@ use Rattle.gx_ledger.specs.declared.tally.Asks.{Asks}
 use Rattle.gx_ledger.specs.declared.tally.Asks.TheVariants as asks
 use Rattle.gx_ledger.specs.declared.tally.Tally.{Tally}
 use Rattle.gx_ledger.specs.declared.tally.Wanted.{Wanted}
-use Rattle.gx_ledger.specs.Keeping.{Kept, account_names, account_place, price_of, reference_for, side_wanted, stock_wanted}
+use Rattle.gx_ledger.specs.Keeping.{Kept, account_names, account_place, price_of, reference_for}
 use Rattle.gx_ledger.specs.Running.{capped_signed, net_of, no_sides, on_its_side, sides_at}
-use Rattle.gx_ledger.specs.StandsFor.{GivesFigures, IsMadeIn, IsHeldIfAny, StandsFor, both_sides, group_of, members_of, side_sums_of, sides_of, tally_of, total_of}
-use Rattle.gx_ledger.specs.Tallies.{asks_of, count_of, figures_among, figures_of_group, live_in, net_in, place_in, tally_figures, value_open}
+use Rattle.gx_ledger.specs.StandsFor.{GivesFigures, IsMadeIn, StandsFor, both_sides, group_of, members_of, side_sums_of, sides_of, tally_of, total_of}
+use Rattle.gx_ledger.specs.Tallies.{asks_of, count_of, figures_among, figures_of_group, live_in, net_in, place_in, tally_figures}
 use Rattle.gx_ledger.specs.Told.{figures_at}
 use Rattle.gx_ledger.proofs.Counted.{alike_is, recent_counted}
 use Rattle.gx_ledger.proofs.Counting.{map_twice, place-cons}
@@ -120,32 +118,23 @@ value_answers {V} policy value none stock other = ap (λ found. unwrap_or found 
     by None h = sym (other (ap is_some h))
     by (Some s) h = refl
 
--- a sum over none
-none_of : {X : Type 0} (p : X → Bool) (m : X → ℕ) (xs : List X) → AllByRecursion (λ (x : X). p x ≡ false) xs → sum_where p m xs ≡ 0
-none_of p m [] h = refl
-none_of p m (x ∷ xs) h =
-    let here = ap (λ b. cond b (m x) 0) h.0 in
-    let rest = none_of p m xs h.1 in
-    omega (arith, here, rest)
-
 module _ (policy : PolicyData) (held : Positions) (among : AccountName → Bool) (sound : AreSound policy held) (all_made : AllByRecursion (IsMadeIn policy) held.executions) where
   -- an order in a listed stock is in no other
-  elsewhere : (side : StockSide) (o : Order) → is_some (stock_named policy side.stock) ≡ false → is_some (stock_named policy o.terms.stock) ≡ true → on_side among side o ≡ false
-  elsewhere side o other listed = by (among o.account) (same_stock o.terms.stock side.stock) refl (is_on side.buys o.terms.side)
+  elsewhere : (side : StockSide) (account : AccountName) (terms : OrderTerms) → is_some (stock_named policy side.stock) ≡ false → is_some (stock_named policy terms.stock) ≡ true → on_side among side account terms ≡ false
+  elsewhere side account terms other listed = by (among account) (same_stock terms.stock side.stock) refl (is_on side.buys terms.side)
     where
-      by : (a b : Bool) → same_stock o.terms.stock side.stock ≡ b → (c : Bool) → (a && b && c) ≡ false
-      by a true h c = absurd (true≢false (sym listed ∙ ap (λ name. is_some (stock_named policy name)) (stock_is o.terms.stock side.stock h) ∙ other))
+      by : (a b : Bool) → same_stock terms.stock side.stock ≡ b → (c : Bool) → (a && b && c) ≡ false
+      by a true h c = absurd (true≢false (sym listed ∙ ap (λ name. is_some (stock_named policy name)) (stock_is terms.stock side.stock h) ∙ other))
       by true false h c = refl
       by false false h c = refl
 
   none_there : (stock : Symbol) (buys : Bool) → is_some (stock_named policy stock) ≡ false → side_sums_of held among stock buys ≡ record { live = 0; done = 0 }
   none_there stock buys other = λ i. record {
-    live = (open_are held.standings (on_side among side)
-        ∙ none_of (λ (s : Standing). on_side among side s.order) (open_of as_shares) held.standings
-        (all_weaker (IsListed policy) (λ (s : Standing). on_side among side s.order ≡ false) (λ s. elsewhere side s.order other) held.standings sound.all_listed)) i;
+    live = none_of (shares_of (on_side among side)) held.live
+        (all_weaker (IsListed policy) (λ (o : LiveOrder). is_chosen (on_side among side) o ≡ false) (λ o. elsewhere side o.account o.terms other) held.live sound.all_listed) i;
     done = (done_are held.executions (on_side among side)
-        ∙ none_of (λ (e : Execution). on_side among side e.order) (λ (e : Execution). e.fill.shares) held.executions
-        (all_weaker (IsMadeIn policy) (λ (e : Execution). on_side among side e.order ≡ false) (λ e. elsewhere side e.order other) held.executions all_made)) i;
+        ∙ sum_of_none (λ (e : Execution). on_side among side e.order.account e.order.terms) (λ (e : Execution). e.fill.shares) held.executions
+        (all_weaker (IsMadeIn policy) (λ (e : Execution). on_side among side e.order.account e.order.terms ≡ false) (λ e. elsewhere side e.order.account e.order.terms other) held.executions all_made)) i;
   }
     where
       side : StockSide
@@ -184,23 +173,21 @@ module _ (policy : PolicyData) (held : Positions) (among : AccountName → Bool)
       ∙ net_fits (side_done held.executions among side) (side_done held.executions among (other_side side)) (done_fits side) (done_fits (other_side side))
 
   -- what is open there
-  live_answers : (side : Option StockSide) → option_map_or (live_in kept_sides) side 0 ≡ option_map_or (side_live held.standings among) side 0
+  live_answers : (side : Option StockSide) → option_map_or (live_in kept_sides) side 0 ≡ option_map_or (side_live held.live among) side 0
   live_answers None = refl
   live_answers (Some side) = ap (λ (s : SideSums). s.live) (side_answers side.stock side.buys)
 
 -- for one request
-module _ (policy : PolicyData) (held : Positions) (account : AccountName) (q : Request) (replaced : Option LiveOrder) (r : Option Standing) (moment : ℕ) (sound : AreSound policy held) (all_made : AllByRecursion (IsMadeIn policy) held.executions)
-    (known : is_some (account_named policy account) ≡ true)
-    (open_is : option_map_or shares_open replaced 0 ≡ option_map_or (λ (s : Standing). s.open_shares) r 0)
-    (value_is : option_map_or value_open replaced 0 ≡ option_map_or open_value r 0) where
+module _ (policy : PolicyData) (held : Positions) (account : AccountName) (q : Request) (replaced : Option LiveOrder) (moment : ℕ) (sound : AreSound policy held) (all_made : AllByRecursion (IsMadeIn policy) held.executions)
+    (known : is_some (account_named policy account) ≡ true) where
   abbrev asking : Wanted
   asking = record {
     account = account;
     place = account_place (account_names policy.accounts) account;
     request = q;
     replaced = replaced;
-    side = side_asked q r;
-    reference = option_map_or (reference policy held.executions) (stock_asked q r) 0;
+    side = side_asked q replaced;
+    reference = option_map_or (reference policy held.executions) (stock_asked q replaced) 0;
     moment = moment;
   }
 
@@ -212,7 +199,7 @@ module _ (policy : PolicyData) (held : Positions) (account : AccountName) (q : R
     abbrev theirs : Count → AccountName → Bool
     theirs count = counts_account count scope account
 
-    kind_answers : (kind : RuleKind) → figures_among (asks_of kind) asking (group (asks_of kind) (count_of kind)) ≡ kind_figures policy held theirs q r moment kind
+    kind_answers : (kind : RuleKind) → figures_among (asks_of kind) asking (group (asks_of kind) (count_of kind)) ≡ kind_figures policy held theirs q replaced moment kind
     kind_answers (kinds.Halt stocks) = refl
     kind_answers (kinds.Restricted stocks) = refl
     kind_answers kinds.NoShort = refl
@@ -223,16 +210,14 @@ module _ (policy : PolicyData) (held : Positions) (account : AccountName) (q : R
     kind_answers (kinds.Collar limit) = refl
     kind_answers (kinds.GrossShares limit count) =
         ap (λ (g : Option Group). option_map_or (figures_of_group asks.Shares asking) g no_figures) (group_found policy held asks.Shares account scope count known inside)
-        ∙ ap (λ n. record no_figures { live_shares = (total_of held (theirs count)).sums.live_shares; done_shares = (total_of held (theirs count)).sums.done_shares; replaced_shares = n }) open_is
     kind_answers (kinds.GrossValue limit count) =
         ap (λ (g : Option Group). option_map_or (figures_of_group asks.Values asking) g no_figures) (group_found policy held asks.Values account scope count known inside)
-        ∙ ap (λ n. record no_figures { live_value = (total_of held (theirs count)).sums.live_value; done_value = (total_of held (theirs count)).sums.done_value; replaced_value = n }) value_is
     kind_answers (kinds.NetShares limit count) =
         ap (λ (g : Option Group). option_map_or (figures_of_group asks.Sides asking) g no_figures) (group_found policy held asks.Sides account scope count known inside)
         ∙ (λ i. record no_figures {
-          net_done = net_answers policy held (theirs count) sound all_made (side_asked q r) i;
-          side_live = live_answers policy held (theirs count) sound all_made (side_asked q r) i;
-          replaced_shares = open_is i;
+          net_done = net_answers policy held (theirs count) sound all_made (side_asked q replaced) i;
+          side_live = live_answers policy held (theirs count) sound all_made (side_asked q replaced) i;
+          replaced_shares = option_map_or shares_open replaced 0;
         })
     kind_answers (kinds.Rate rate count) =
         ap (λ (g : Option Group). option_map_or (figures_of_group (asks.Recent rate) asking) g no_figures) (group_found policy held (asks.Recent rate) account scope count known inside)
@@ -242,59 +227,18 @@ module _ (policy : PolicyData) (held : Positions) (account : AccountName) (q : R
         ∙ ap (λ n. record no_figures { equal_recent = n }) (alike_is repeat.span held.grants (theirs count) q)
 
   -- the figures of one rule
-  rule_answers : (number : Option ℕ) → r ≡ option_and_then (standing_numbered held.standings) number → (rule : FileRule)
-      → tally_figures asking (tally_of policy.stocks (account_names policy.accounts) (total_of held) rule) ≡ figures policy held account q number moment rule
+  rule_answers : (rule : FileRule) → tally_figures asking (tally_of policy.stocks (account_names policy.accounts) (total_of held) rule) ≡ figures policy held account q replaced moment rule
   unfolding figures
-  rule_answers number is rule =
-      by (covers rule.scope account) refl
-      ∙ ap (λ found. cond (covers rule.scope account) (kind_figures policy held (λ count. counts_account count rule.scope account) q found moment rule.kind) no_figures) is
+  rule_answers rule = by (covers rule.scope account) refl
     where
       by : (b : Bool) → covers rule.scope account ≡ b
           → cond b (figures_among (asks_of rule.kind) asking (option_and_then (slice_get (map (λ (among : AccountName → Bool). group_of policy.stocks (asks_of rule.kind) (total_of held among)) (members_of (count_of rule.kind) rule.scope (account_names policy.accounts)))) (place_in (count_of rule.kind) asking.place))) no_figures
-          ≡ cond b (kind_figures policy held (λ count. counts_account count rule.scope account) q r moment rule.kind) no_figures
+          ≡ cond b (kind_figures policy held (λ count. counts_account count rule.scope account) q replaced moment rule.kind) no_figures
       by true inside = kind_answers rule.scope inside rule.kind
       by false inside = refl
 
 price_answers : (policy : PolicyData) (k : Kept) (held : Positions) → StandsFor policy k held → (stock : Symbol) → price_of k.prices stock ≡ reference policy held.executions stock
 price_answers policy k held stands stock = ap (λ prices. price_of prices stock) stands.prices ∙ value_answers policy (reference policy held.executions) 0 stock (stands.unlisted stock)
-
--- the order that is named, and the standing of its number
-record Agrees (q : Request) (replaced : Option LiveOrder) (r : Option Standing) : Type 0 where
-  open_is : option_map_or shares_open replaced 0 ≡ option_map_or (λ (s : Standing). s.open_shares) r 0
-  value_is : option_map_or value_open replaced 0 ≡ option_map_or open_value r 0
-  stock_is : stock_wanted q replaced ≡ stock_asked q r
-  side_is : side_wanted q replaced ≡ side_asked q r
-
-same_stock_asked : (q : Request) (replaced : Option LiveOrder) (r : Option Standing) → option_map (λ (o : LiveOrder). o.terms.stock) replaced ≡ option_map (λ (s : Standing). s.order.terms.stock) r → stock_wanted q replaced ≡ stock_asked q r
-same_stock_asked (requests.Enter m) replaced r same = refl
-same_stock_asked (requests.Replace m) replaced r same = same
-same_stock_asked (requests.Cancel m) replaced r same = same
-same_stock_asked (requests.Login m) replaced r same = same
-same_stock_asked requests.Logout replaced r same = same
-same_stock_asked (requests.Unreadable m) replaced r same = same
-same_stock_asked (requests.Command m) replaced r same = same
-
-same_side_asked : (q : Request) (replaced : Option LiveOrder) (r : Option Standing)
-    → option_map {U = StockSide} (λ (o : LiveOrder). record { stock = o.terms.stock; buys = is_buy o.terms.side }) replaced ≡ option_map {U = StockSide} (λ (s : Standing). record { stock = s.order.terms.stock; buys = is_buy s.order.terms.side }) r
-    → side_wanted q replaced ≡ side_asked q r
-same_side_asked (requests.Enter m) replaced r same = refl
-same_side_asked (requests.Replace m) replaced r same = same
-same_side_asked (requests.Cancel m) replaced r same = same
-same_side_asked (requests.Login m) replaced r same = same
-same_side_asked requests.Logout replaced r same = same
-same_side_asked (requests.Unreadable m) replaced r same = same
-same_side_asked (requests.Command m) replaced r same = same
-
-agree : (held : Positions) (q : Request) (replaced : Option LiveOrder) → IsHeldIfAny held replaced → Agrees q replaced (option_and_then (standing_numbered held.standings) (option_map (λ (o : LiveOrder). o.number) replaced))
-agree held q None named = record { open_is = refl; value_is = refl; stock_is = same_stock_asked q None None refl; side_is = same_side_asked q None None refl }
-agree held q (Some o) named =
-    record {
-      open_is = sym (ap (λ found. option_map_or (λ (s : Standing). s.open_shares) found 0) named.is_found ∙ named.open_shares);
-      value_is = sym (ap (λ found. option_map_or open_value found 0) named.is_found ∙ (λ i. value (named.open_shares i) (named.terms i).price));
-      stock_is = same_stock_asked q (Some o) (standing_numbered held.standings o.number) (sym (ap (option_map (λ (s : Standing). s.order.terms.stock)) named.is_found ∙ ap (λ (t : OrderTerms). Some t.stock) named.terms));
-      side_is = same_side_asked q (Some o) (standing_numbered held.standings o.number)
-          (sym (ap (option_map {U = StockSide} (λ (s : Standing). record { stock = s.order.terms.stock; buys = is_buy s.order.terms.side })) named.is_found ∙ (λ i. Some (record { stock = (named.terms i).stock; buys = is_buy (named.terms i).side }))));
-    }
 
 same_price : (f g : Symbol → ℕ) → ((stock : Symbol) → f stock ≡ g stock) → (o : Option Symbol) → option_map_or f o 0 ≡ option_map_or g o 0
 same_price f g same None = refl
@@ -321,24 +265,19 @@ pub figures_answer : (k : Kept) (account : AccountName) (q : Request) (replaced 
         place = account_place k.accounts account;
         request = q;
         replaced = replaced;
-        side = side_wanted q replaced;
+        side = side_asked q replaced;
         reference = reference_for k.prices q replaced;
         moment = moment;
       };
     })
-figures_answer k account q replaced moment policy held stands sound known named =
-    let number : Option ℕ = option_map (λ (o : LiveOrder). o.number) replaced in
-    let r : Option Standing = option_and_then (standing_numbered held.standings) number in
-    let agrees : Agrees q replaced r = agree held q replaced named in
+figures_answer k account q replaced moment policy held stands sound known =
     let names : List AccountName = account_names policy.accounts in
-    let price : reference_for k.prices q replaced ≡ option_map_or (reference policy held.executions) (stock_asked q r) 0 =
-    same_price (price_of k.prices) (reference policy held.executions) (price_answers policy k held stands) (stock_wanted q replaced)
-    ∙ ap (λ o. option_map_or (reference policy held.executions) o 0) agrees.stock_is
-    in
+    let price : reference_for k.prices q replaced ≡ option_map_or (reference policy held.executions) (stock_asked q replaced) 0 =
+    same_price (price_of k.prices) (reference policy held.executions) (price_answers policy k held stands) (stock_asked q replaced) in
     let tallies : k.tallies ≡ map (tally_of policy.stocks names (total_of held)) policy.rules = stands.tallies ∙ ap (λ accounts. map (tally_of policy.stocks accounts (total_of held)) policy.rules) stands.accounts in
     (λ i. figured (figures_at (record {
       tallies = tallies i;
-      wanted = record { account = account; place = account_place (stands.accounts i) account; request = q; replaced = replaced; side = agrees.side_is i; reference = price i; moment = moment };
+      wanted = record { account = account; place = account_place (stands.accounts i) account; request = q; replaced = replaced; side = side_asked q replaced; reference = price i; moment = moment };
     })) policy.rules)
-    ∙ told_by_rule (tally_figures (asking policy held account q replaced r moment sound stands.all_made known agrees.open_is agrees.value_is)) (tally_of policy.stocks names (total_of held)) (figures policy held account q number moment)
-    (rule_answers policy held account q replaced r moment sound stands.all_made known agrees.open_is agrees.value_is number refl) policy.rules
+    ∙ told_by_rule (tally_figures (asking policy held account q replaced moment sound stands.all_made known)) (tally_of policy.stocks names (total_of held)) (figures policy held account q replaced moment)
+    (rule_answers policy held account q replaced moment sound stands.all_made known) policy.rules

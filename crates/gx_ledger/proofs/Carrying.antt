@@ -1,13 +1,20 @@
--- How a ledger goes on standing for orders, fills and grants.
-use Rattle.std.proofs.Common.{◌≡◌, ℕ, ◌+◌, ◌-◌, ◌≤◌, Bool, map, ◌∙◌, arith}
+-- How a ledger goes on standing for live orders, fills and grants.
+use Rattle.std.proofs.Common.{◌≡◌, ℕ, ◌-◌, Bool, [], map, refl, sym, ◌∙◌, arith}
+use Rattle.std.proofs.Math.Path.{subst}
+use Rattle.std.specs.List.{AllByRecursion}
 use Rattle.gx_units.specs.declared.names.AccountName.{AccountName}
 use Rattle.gx_history.specs.declared.live_order.LiveOrder.{LiveOrder}
 use Rattle.gx_policy.specs.declared.policy.PolicyData.{PolicyData}
+use Rattle.gx_history.specs.Figures.{Positions}
 use Rattle.gx_history.specs.LiveOrders.{shares_open}
+use Rattle.gx_history.specs.Turns.{Ends, Sizes, Turn, new_in}
+use Rattle.gx_positions.specs.Changing.{executed_by, positions_with}
+use Rattle.gx_positions.specs.Sound.{AreSound}
+use Rattle.gx_positions.proofs.Sums.{Loses, ended_loses, left_by, sized_loses}
 use Rattle.gx_ledger.specs.Keeping.{Kept, comes, kept_noted, leaves}
-use Rattle.gx_ledger.specs.StandsFor.{Accepts, Closes, Cuts, tally_of, total_of}
+use Rattle.gx_ledger.specs.StandsFor.{Accepts, Closes, Cuts, StandsFor, tally_of, total_of}
 use Rattle.gx_ledger.proofs.Counting.{Totals, kept_follows}
-use Rattle.gx_ledger.proofs.Totals.{accepted_total, left_total}
+use Rattle.gx_ledger.proofs.Totals.{accepted_total, left_total, none_comes, order_added, same_total, with_order}
 
 -- the tallies are those of other totals, where these agree
 pub tallies_same : (policy : PolicyData) (k : Kept) (first second : Totals) → ((among : AccountName → Bool) → first among ≡ second among)
@@ -15,40 +22,54 @@ pub tallies_same : (policy : PolicyData) (k : Kept) (first second : Totals) → 
 tallies_same policy k first second same = λ i. map (tally_of policy.stocks k.accounts (λ among. same among i)) policy.rules
 
 pub accept_carries : (o : LiveOrder) (moment : ℕ) (replacement : Bool) (k : Kept) → Accepts o moment replacement k (kept_noted (comes o moment replacement) k)
-accept_carries o moment replacement k s is policy held stands sound may after = record {
+accept_carries o moment replacement k grant is policy held stands sound may after =
+    let sound_with : AreSound policy (with_order o grant held) = subst (AreSound policy) (order_added held o grant) after in
+    subst (StandsFor policy (kept_noted (comes o moment replacement) k)) (sym (order_added held o grant)) (record {
+      accounts = stands.accounts;
+      accounts_differ = stands.accounts_differ;
+      prices = stands.prices;
+      unlisted = stands.unlisted;
+      all_made = stands.all_made;
+      tallies =
+          kept_follows policy k (total_of held) (comes o moment replacement) stands.accounts_differ stands.tallies
+          ∙ tallies_same policy k _ _ (accepted_total held o moment replacement grant is sound_with.fit);
+    })
+
+-- a turn that leaves each order what it has open needs no call
+pub stays_for : (policy : PolicyData) (k : Kept) (held : Positions) (turn : Turn) → new_in turn ≡ [] → executed_by turn held.grants ≡ [] → AllByRecursion (λ (o : LiveOrder). left_by turn o ≡ shares_open o) held.live
+    → StandsFor policy k held → StandsFor policy k (positions_with turn [] held)
+stays_for policy k held turn none idle same stands = subst (StandsFor policy k) (sym (none_comes turn held none idle)) (record {
   accounts = stands.accounts;
   accounts_differ = stands.accounts_differ;
   prices = stands.prices;
   unlisted = stands.unlisted;
   all_made = stands.all_made;
-  tallies =
-      kept_follows policy k (total_of held) (comes o moment replacement) stands.accounts_differ stands.tallies
-      ∙ tallies_same policy k _ _ (accepted_total held o moment replacement s is after.fit);
-}
+  tallies = stands.tallies ∙ tallies_same policy k _ _ (same_total held turn same);
+})
+
+-- one order loses open shares
+loss_carries : (o : LiveOrder) (lost : ℕ) (k : Kept) (policy : PolicyData) (held : Positions) (turn : Turn) (number : ℕ) → StandsFor policy k held → AreSound policy held → Loses turn number held.live o lost
+    → new_in turn ≡ [] → executed_by turn held.grants ≡ [] → StandsFor policy (kept_noted (leaves o lost) k) (positions_with turn [] held)
+loss_carries o lost k policy held turn number stands sound loses none idle =
+    subst (StandsFor policy (kept_noted (leaves o lost) k)) (sym (none_comes turn held none idle)) (record {
+      accounts = stands.accounts;
+      accounts_differ = stands.accounts_differ;
+      prices = stands.prices;
+      unlisted = stands.unlisted;
+      all_made = stands.all_made;
+      tallies =
+          kept_follows policy k (total_of held) (leaves o lost) stands.accounts_differ stands.tallies
+          ∙ tallies_same policy k _ _ (left_total held turn number o lost sound.numbers_differ loses);
+    })
 
 pub cut_carries : (o : LiveOrder) (shares : ℕ) (k : Kept) → Cuts o shares k (kept_noted (leaves o shares) k)
-cut_carries o shares k policy held stands sound has after = record {
-  accounts = stands.accounts;
-  accounts_differ = stands.accounts_differ;
-  prices = stands.prices;
-  unlisted = stands.unlisted;
-  all_made = stands.all_made;
-  tallies =
-      kept_follows policy k (total_of held) (leaves o shares) stands.accounts_differ stands.tallies
-      ∙ tallies_same policy k _ _ (left_total held o shares (shares_open o - shares) sound.numbers_differ has.is_held (rest has.enough));
-}
+cut_carries o shares k size policy held stands sound cut after = loss_carries o shares k policy held (Sizes o.number size) o.number stands sound loses refl refl
   where
-    rest : shares ≤ shares_open o → (shares_open o - shares) + shares ≡ shares_open o
-    rest enough = omega (arith, enough)
+    lost : shares_open o - (size - o.done) ≡ shares
+    lost = let whole = cut.is_less in omega (arith, whole)
+
+    loses : Loses (Sizes o.number size) o.number held.live o shares
+    loses = subst (Loses (Sizes o.number size) o.number held.live o) lost (sized_loses held o.number size o cut.is_held (let whole = cut.is_less in omega (arith, whole)))
 
 pub close_carries : (o : LiveOrder) (k : Kept) → Closes o k (kept_noted (leaves o (shares_open o)) k)
-close_carries o k policy held stands sound is after = record {
-  accounts = stands.accounts;
-  accounts_differ = stands.accounts_differ;
-  prices = stands.prices;
-  unlisted = stands.unlisted;
-  all_made = stands.all_made;
-  tallies =
-      kept_follows policy k (total_of held) (leaves o (shares_open o)) stands.accounts_differ stands.tallies
-      ∙ tallies_same policy k _ _ (left_total held o (shares_open o) 0 sound.numbers_differ is (omega arith));
-}
+close_carries o k policy held stands sound is after = loss_carries o (shares_open o) k policy held (Ends o.number) o.number stands sound (ended_loses held o.number o is) refl refl

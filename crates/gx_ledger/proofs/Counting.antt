@@ -18,7 +18,7 @@ use Rattle.gx_policy.specs.declared.policy.PolicyData.{PolicyData}
 use Rattle.gx_policy.specs.declared.policy.Scope.{Scope}
 use Rattle.gx_policy.specs.declared.policy.Stock.{Stock}
 use Rattle.gx_history.specs.Book.{is_buy}
-use Rattle.gx_history.specs.Figures.{is_on}
+use Rattle.gx_history.specs.Book.{is_on}
 use Rattle.gx_policy.specs.Lists.{are_distinct}
 use Rattle.gx_history.specs.LiveOrders.{shares_open}
 use Rattle.gx_policy.specs.People.{covers}

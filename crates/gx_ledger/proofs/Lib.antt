@@ -9,7 +9,7 @@ pub mod Opening
 pub mod Counted
 pub mod Answering
 pub mod Following
-pub mod Held
 pub mod Listing
 pub mod Likeness
 pub mod Halves
+pub mod CountedCells

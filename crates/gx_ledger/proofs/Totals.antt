@@ -1,7 +1,7 @@
 -- What counts of any accounts, once live orders, fills or grants changed.
 use Rattle.std.proofs.Common.{◌≡◌, ℕ, ◌+◌, ◌-◌, ◌<◌, ◌≤◌, ◌^◌, Bool, true, false, cond, ◌&&◌, not, List, [], ◌∷◌, ◌++◌, map, refl, sym, ap, ◌∙◌, arith}
 use Rattle.std.specs.Prelude.{Option, Some, None, is_none, is_some, nat_eq}
-use Rattle.std.specs.List.{IsDistinct, filter}
+use Rattle.std.specs.List.{AllByRecursion, IsDistinct, filter, filter_map}
 use Rattle.std.proofs.lemmas.List.{append-nil, map-append}
 use Rattle.std.proofs.lemmas.List.Elements.{filter-append}
 use Rattle.gx_units.specs.Money.{value}
@@ -11,19 +11,24 @@ use Rattle.gx_units.specs.declared.names.Symbol.{Symbol}
 use Rattle.gx_units.specs.declared.names.Token.{Token}
 use Rattle.gx_history.specs.declared.facts.StockSide.{StockSide}
 use Rattle.gx_history.specs.declared.live_order.LiveOrder.{LiveOrder}
-use Rattle.gx_history.specs.Executions.{Execution, Standing}
-use Rattle.gx_history.specs.Figures.{Positions, done_of_chosen, done_shares, done_value, is_on, live_shares, live_value, of_accounts, on_side, open_of_chosen, side_done, side_live}
+use Rattle.gx_ouch.specs.declared.outbound.OrderTerms.{OrderTerms}
+use Rattle.gx_history.specs.Executions.{Execution}
+use Rattle.gx_history.specs.Book.{is_on}
+use Rattle.gx_history.specs.Figures.{Positions, done_of_chosen, done_shares, done_value, live_shares, live_value, of_accounts, on_side, open_of_chosen, open_value, side_done, side_live}
 use Rattle.gx_history.specs.LiveOrders.{shares_open}
 use Rattle.gx_history.specs.Orders.{Order}
-use Rattle.gx_effects.specs.OneMore as ones
-use Rattle.gx_positions.specs.Changing.{positions_with}
-use Rattle.gx_positions.specs.Sound.{MayLeave, SumsFit, anyone, numbers_of}
-use Rattle.gx_positions.proofs.Sums.{as_shares, done_are, done_value_are, live_value_are, open_are, open_of, shares_added, shares_when_left, sum_where, value_added, value_when_left}
+use Rattle.gx_history.specs.Turns as turns
+use Rattle.gx_history.specs.Turns.{Turn, becomes, new_in}
+use Rattle.gx_effects.proofs.World.{all_stay}
+use Rattle.gx_positions.specs.Changing.{executed_by, positions_with}
+use Rattle.gx_positions.specs.Sound.{SumsFit, anyone, numbers_of}
+use Rattle.gx_positions.proofs.Sums.{IsOpenSum, Loses, added, done_are, done_value_are, is_chosen, left_by, lost_by, open_of, shares_of, stays_by, sum_where, value_of}
 use Rattle.gx_ledger.specs.declared.change.Change.{Change}
 use Rattle.gx_ledger.specs.Keeping.{comes, leaves}
-use Rattle.gx_ledger.specs.Running.{capped, changed_side, entered_as}
-use Rattle.gx_ledger.specs.StandsFor.{IsAccepted, IsHeld, entered_of, enters_of, moments_of, side_sums_of, total_of}
-use Rattle.gx_ledger.proofs.Counting.{changed_total, changes_side, sides_after, totals_after}
+use Rattle.gx_ledger.specs.Running.{capped, entered_as}
+use Rattle.gx_ledger.specs.declared.sides.SideSums.{SideSums}
+use Rattle.gx_ledger.specs.StandsFor.{IsAccepted, Total, entered_of, enters_of, moments_of, total_of}
+use Rattle.gx_ledger.proofs.Counting.{changed_total, changes_side, totals_after}
 
 -- a sum over some is at most that over all
 at_most_all : {X : Type 0} (p : X → Bool) (m : X → ℕ) (xs : List X) → sum_where p m xs ≤ sum_where (λ x. true) m xs
@@ -34,24 +39,23 @@ at_most_all p m (x ∷ xs) = by (p x) (at_most_all p m xs)
     by true deeper = omega (arith, deeper)
     by false deeper = omega (arith, deeper)
 
+at_most : {figure whole : List LiveOrder → ℕ} {chosen : AccountName → OrderTerms → Bool} {weight : ℕ → ℕ → ℕ} → IsOpenSum figure chosen weight → IsOpenSum whole (of_accounts anyone) weight → (os : List LiveOrder) → figure os ≤ whole os
+at_most {chosen = chosen} {weight = weight} is all os =
+    let few = at_most_all (is_chosen chosen) (open_of weight) os in
+    let some = is.is_sum os in
+    let every = all.is_sum os in
+    omega (arith, few, some, every)
+
 -- a sum over chosen orders is at most that over all
-open_fit : (ss : List Standing) (chosen : Order → Bool) → open_of_chosen ss chosen ≤ live_shares ss anyone
-open_fit ss chosen =
-    let few = at_most_all (λ (s : Standing). chosen s.order) (open_of as_shares) ss in
-    let some = open_are ss chosen in
-    let all = open_are ss (of_accounts anyone) in
-    omega (arith, few, some, all)
+open_fit : (os : List LiveOrder) (chosen : AccountName → OrderTerms → Bool) → open_of_chosen os chosen ≤ live_shares os anyone
+open_fit os chosen = at_most (shares_of chosen) (shares_of (of_accounts anyone)) os
 
-live_value_fit : (ss : List Standing) (among : AccountName → Bool) → live_value ss among ≤ live_value ss anyone
-live_value_fit ss among =
-    let few = at_most_all (λ (s : Standing). among s.order.account) (open_of value) ss in
-    let some = live_value_are ss among in
-    let all = live_value_are ss anyone in
-    omega (arith, few, some, all)
+live_value_fit : (os : List LiveOrder) (among : AccountName → Bool) → live_value os among ≤ live_value os anyone
+live_value_fit os among = at_most (value_of among) (value_of anyone) os
 
-pub done_fit : (made : List Execution) (chosen : Order → Bool) → done_of_chosen made chosen ≤ done_shares made anyone
+pub done_fit : (made : List Execution) (chosen : AccountName → OrderTerms → Bool) → done_of_chosen made chosen ≤ done_shares made anyone
 done_fit made chosen =
-    let few = at_most_all (λ (e : Execution). chosen e.order) (λ (e : Execution). e.fill.shares) made in
+    let few = at_most_all (λ (e : Execution). chosen e.order.account e.order.terms) (λ (e : Execution). e.fill.shares) made in
     let some = done_are made chosen in
     let all = done_are made (of_accounts anyone) in
     omega (arith, few, some, all)
@@ -63,15 +67,22 @@ done_value_fit made among =
     let all = done_value_are made anyone in
     omega (arith, few, some, all)
 
+-- so many fewer, where the test says so
+abbrev pub less : Bool → ℕ → ℕ → ℕ
+less b n before = cond b (before - n) before
+
+-- so many more, up to the cap
+abbrev pub more : Bool → ℕ → ℕ → ℕ
+more b n before = cond b (capped (before + n)) before
+
+falls : (b : Bool) (before after lost : ℕ) → after + cond b lost 0 ≡ before → less b lost before ≡ after
+falls true before after lost is = omega (arith, is)
+falls false before after lost is = omega (arith, is)
+
 -- a sum that fits is not cut
-uncut : (before more after whole : ℕ) → after ≡ before + more → after ≤ whole → whole < 2 ^ 128 → capped (before + more) ≡ after
-uncut before more after whole is most fits = omega (arith, is, most, fits)
-
-uncut_twice : (before more after whole : ℕ) → after ≡ before + (more + more) → after ≤ whole → whole < 2 ^ 128 → capped (capped (before + more) + more) ≡ after
-uncut_twice before more after whole is most fits = omega (arith, is, most, fits)
-
-no_rise : (before after : ℕ) → after ≡ before + 0 → before ≡ after
-no_rise before after is = omega (arith, is)
+rises : (b : Bool) (before after gain whole : ℕ) → after ≡ before + cond b gain 0 → after ≤ whole → whole < 2 ^ 128 → more b gain before ≡ after
+rises true before after gain whole is most fits = omega (arith, is, most, fits)
+rises false before after gain whole is most fits = omega (arith, is)
 
 -- tests one after another
 pub and_again : (a b c : Bool) → (a && b && c) ≡ (a && (b && c))
@@ -90,22 +101,34 @@ none_is : (o : Option Token) → is_none o ≡ not (is_some o)
 none_is None = refl
 none_is (Some t) = refl
 
+-- an order that is on the side of its terms
+pub on_its_own_side : (among : AccountName → Bool) (change : Change) (stock : Symbol) (buys : Bool)
+    → is_chosen (on_side among (record { stock = stock; buys = buys })) change.order ≡ (among change.order.account && changes_side change stock buys)
+on_its_own_side among change stock buys = and_again (among change.order.account) (same_stock change.order.terms.stock stock) (is_on buys change.order.terms.side)
+
+-- positions with one more order, which was granted so
+abbrev pub with_order : LiveOrder → Order → Positions → Positions
+with_order o grant held = record { live = held.live ++ o ∷ []; executions = held.executions; grants = held.grants ++ grant ∷ [] }
+
+pub order_added : (held : Positions) (o : LiveOrder) (grant : Order) → positions_with (turns.Adds o) (grant ∷ []) held ≡ with_order o grant held
+order_added held o grant = λ i. record { live = all_stay held.live i ++ o ∷ []; executions = append-nil held.executions i; grants = held.grants ++ grant ∷ [] }
+
 -- of one more order
-module _ (held : Positions) (o : LiveOrder) (moment : ℕ) (replacement : Bool) (s : Standing) (is : IsAccepted o moment replacement s) (fit : SumsFit (positions_with (ones.Adds s) held)) (among : AccountName → Bool) where
-  abbrev more : Positions
-  more = positions_with (ones.Adds s) held
+module _ (held : Positions) (o : LiveOrder) (moment : ℕ) (replacement : Bool) (grant : Order) (is : IsAccepted o moment replacement grant) (fit : SumsFit (with_order o grant held)) (among : AccountName → Bool) where
+  abbrev with_it : Positions
+  with_it = with_order o grant held
 
   abbrev coming : Change
   coming = comes o moment replacement
 
-  same_entered : entered_of s.order ≡ entered_as o
-  same_entered = λ i. record { side = (is.terms i).side; shares = (is.terms i).shares; stock = (is.terms i).stock; price = (is.terms i).price }
+  same_entered : entered_of grant ≡ entered_as o
+  same_entered = ap (λ (terms : OrderTerms). record { side = terms.side; shares = terms.shares; stock = terms.stock; price = terms.price }) is.is_of.terms
 
-  enters_are : (b : Bool) → among s.order.account ≡ b → enters_of more.grants among ≡ cond b (cond replacement (enters_of held.grants among) (enters_of held.grants among ++ entered_as o ∷ [])) (enters_of held.grants among)
-  enters_are b h =
-      chosen_more entered_of (λ (o : Order). among o.account && is_none o.previous_token) held.grants s.order
-      ∙ (λ i. cond (h i && (none_is s.order.previous_token ∙ ap not is.replacement) i) (enters_of held.grants among ++ same_entered i ∷ []) (enters_of held.grants among))
-      ∙ by b replacement
+  enters_are : enters_of with_it.grants among ≡ cond (among o.account) (cond replacement (enters_of held.grants among) (enters_of held.grants among ++ entered_as o ∷ [])) (enters_of held.grants among)
+  enters_are =
+      chosen_more entered_of (λ (x : Order). among x.account && is_none x.previous_token) held.grants grant
+      ∙ (λ i. cond (among (is.is_of.account i) && (none_is grant.previous_token ∙ ap not is.replacement) i) (enters_of held.grants among ++ same_entered i ∷ []) (enters_of held.grants among))
+      ∙ by (among o.account) replacement
     where
       by : (b r : Bool) → cond (b && not r) (enters_of held.grants among ++ entered_as o ∷ []) (enters_of held.grants among)
           ≡ cond b (cond r (enters_of held.grants among) (enters_of held.grants among ++ entered_as o ∷ [])) (enters_of held.grants among)
@@ -113,149 +136,113 @@ module _ (held : Positions) (o : LiveOrder) (moment : ℕ) (replacement : Bool) 
       by true false = refl
       by false r = refl
 
-  moments_are : (b : Bool) → among s.order.account ≡ b → moments_of more.grants among ≡ cond b (moments_of held.grants among ++ moment ∷ []) (moments_of held.grants among)
-  moments_are b h =
-      chosen_more (λ (o : Order). o.moment) (λ (o : Order). among o.account) held.grants s.order
-      ∙ (λ i. cond (h i) (moments_of held.grants among ++ is.moment i ∷ []) (moments_of held.grants among))
+  moments_are : moments_of with_it.grants among ≡ cond (among o.account) (moments_of held.grants among ++ moment ∷ []) (moments_of held.grants among)
+  moments_are =
+      chosen_more (λ (x : Order). x.moment) (λ (x : Order). among x.account) held.grants grant
+      ∙ (λ i. cond (among (is.is_of.account i)) (moments_of held.grants among ++ is.moment i ∷ []) (moments_of held.grants among))
 
-  pub accepted_total : totals_after coming (total_of held) among ≡ total_of more among
-  accepted_total = by (among o.account) (ap among is.account)
+  -- what counts then, field by field
+  comes_so : (b : Bool) (t : Total) → cond b (changed_total coming t) t ≡ record {
+    sums = record { live_shares = more b (shares_open o) t.sums.live_shares; live_value = more b (open_value o) t.sums.live_value; done_shares = t.sums.done_shares; done_value = t.sums.done_value };
+    moments = cond b (t.moments ++ moment ∷ []) t.moments;
+    enters = cond b (cond replacement t.enters (t.enters ++ entered_as o ∷ [])) t.enters;
+    sides = λ stock buys. record { live = more (b && changes_side coming stock buys) (shares_open o) (t.sides stock buys).live; done = (t.sides stock buys).done };
+  }
+  comes_so false t = refl
+  comes_so true t = λ i. record (changed_total coming t) { sides = λ stock buys. side (changes_side coming stock buys) (t.sides stock buys) i }
     where
-      shares : (b : Bool) → among s.order.account ≡ b → live_shares more.standings among ≡ live_shares held.standings among + cond b (shares_open o) 0
-      shares b h = shares_added (of_accounts among) held.standings s ∙ (λ i. live_shares held.standings among + cond (h i) (is.open_shares i) 0)
+      side : (c : Bool) (s : SideSums) → cond c (record { live = capped (s.live + shares_open o); done = s.done }) s ≡ record { live = more c (shares_open o) s.live; done = s.done }
+      side true s = refl
+      side false s = refl
 
-      values : (b : Bool) → among s.order.account ≡ b → live_value more.standings among ≡ live_value held.standings among + cond b (value (shares_open o) o.terms.price) 0
-      values b h = value_added among held.standings s ∙ (λ i. live_value held.standings among + cond (h i) (value (is.open_shares i) (is.terms i).price) 0)
-
-      -- an order that is there, of these accounts or not
-      is_there : (b : Bool) → among s.order.account ≡ b → (stock : Symbol) (buys : Bool) → on_side among (record { stock = stock; buys = buys }) s.order ≡ (b && changes_side coming stock buys)
-      is_there b h stock buys = (λ i. h i && same_stock (is.terms i).stock stock && is_on buys (is.terms i).side) ∙ and_again b (same_stock o.terms.stock stock) (is_on buys o.terms.side)
-
-      side_added : (b : Bool) → among s.order.account ≡ b → (stock : Symbol) (buys : Bool)
-          → side_live more.standings among (record { stock = stock; buys = buys }) ≡ side_live held.standings among (record { stock = stock; buys = buys }) + cond (b && changes_side coming stock buys) (shares_open o) 0
-      side_added b h stock buys =
-          let side : StockSide = record { stock = stock; buys = buys } in
-          shares_added (on_side among side) held.standings s ∙ (λ i. side_live held.standings among side + cond (is_there b h stock buys i) (is.open_shares i) 0)
-
-      sides_true : among s.order.account ≡ true → (stock : Symbol) (buys : Bool) → sides_after coming (side_sums_of held among) stock buys ≡ side_sums_of more among stock buys
-      sides_true h stock buys = at (changes_side coming stock buys) (side_added true h stock buys)
-        where
-          side : StockSide
-          side = record { stock = stock; buys = buys }
-
-          at : (c : Bool) → side_live more.standings among side ≡ side_live held.standings among side + cond c (shares_open o) 0
-              → cond c (changed_side o coming.kind (side_sums_of held among stock buys)) (side_sums_of held among stock buys) ≡ side_sums_of more among stock buys
-          at true e = λ i. record {
-            live = uncut (side_live held.standings among side) (shares_open o) (side_live more.standings among side) (live_shares more.standings anyone) e (open_fit more.standings (on_side among side)) fit.live_shares i;
-            done = side_done held.executions among side;
-          }
-          at false e = λ i. record { live = no_rise (side_live held.standings among side) (side_live more.standings among side) e i; done = side_done held.executions among side }
-
-      sides_false : among s.order.account ≡ false → (stock : Symbol) (buys : Bool) → side_sums_of held among stock buys ≡ side_sums_of more among stock buys
-      sides_false h stock buys =
-          let side : StockSide = record { stock = stock; buys = buys } in
-          λ i. record { live = no_rise (side_live held.standings among side) (side_live more.standings among side) (side_added false h stock buys) i; done = side_done held.executions among side }
-
-      by : (b : Bool) → among s.order.account ≡ b → cond b (changed_total coming (total_of held among)) (total_of held among) ≡ total_of more among
-      by true h = λ i. record {
+  pub accepted_total : totals_after coming (total_of held) among ≡ total_of with_it among
+  accepted_total =
+      comes_so (among o.account) (total_of held among)
+      ∙ (λ i. record {
         sums = record {
-          live_shares = uncut (live_shares held.standings among) (shares_open o) (live_shares more.standings among) (live_shares more.standings anyone) (shares true h) (open_fit more.standings (of_accounts among)) fit.live_shares i;
-          live_value = uncut (live_value held.standings among) (value (shares_open o) o.terms.price) (live_value more.standings among) (live_value more.standings anyone) (values true h) (live_value_fit more.standings among) fit.live_value i;
+          live_shares = rises (among o.account) (live_shares held.live among) (live_shares with_it.live among) (shares_open o) (live_shares with_it.live anyone) (added (shares_of (of_accounts among)) held.live o) (open_fit with_it.live (of_accounts among)) fit.live_shares i;
+          live_value = rises (among o.account) (live_value held.live among) (live_value with_it.live among) (open_value o) (live_value with_it.live anyone) (added (value_of among) held.live o) (live_value_fit with_it.live among) fit.live_value i;
           done_shares = done_shares held.executions among;
           done_value = done_value held.executions among;
         };
-        moments = sym (moments_are true h) i;
-        enters = sym (enters_are true h) i;
-        sides = λ stock buys. sides_true h stock buys i;
-      }
-      by false h = λ i. record {
-        sums = record {
-          live_shares = no_rise (live_shares held.standings among) (live_shares more.standings among) (shares false h) i;
-          live_value = no_rise (live_value held.standings among) (live_value more.standings among) (values false h) i;
-          done_shares = done_shares held.executions among;
-          done_value = done_value held.executions among;
-        };
-        moments = sym (moments_are false h) i;
-        enters = sym (enters_are false h) i;
-        sides = λ stock buys. sides_false h stock buys i;
-      }
+        moments = sym moments_are i;
+        enters = sym enters_are i;
+        sides = λ stock buys. record { live = live_then stock buys i; done = side_done held.executions among (record { stock = stock; buys = buys }) };
+      })
+    where
+      live_then : (stock : Symbol) (buys : Bool)
+          → more (among o.account && changes_side coming stock buys) (shares_open o) (side_live held.live among (record { stock = stock; buys = buys })) ≡ side_live with_it.live among (record { stock = stock; buys = buys })
+      live_then stock buys =
+          let side : StockSide = record { stock = stock; buys = buys } in
+          rises (among o.account && changes_side coming stock buys) (side_live held.live among side) (side_live with_it.live among side) (shares_open o) (live_shares with_it.live anyone)
+          (added (shares_of (on_side among side)) held.live o ∙ ap (λ c. side_live held.live among side + cond c (shares_open o) 0) (on_its_own_side among coming stock buys))
+          (open_fit with_it.live (on_side among side)) fit.live_shares
 
-fall_by : (before after less : ℕ) → after + less ≡ before → before - less ≡ after
-fall_by before after less is = omega (arith, is)
+-- positions with some of the live orders left so
+abbrev pub left_so : Turn → Positions → Positions
+left_so turn held = record { live = filter_map (becomes turn) held.live; executions = held.executions; grants = held.grants }
 
-no_fall : (before after : ℕ) → after + 0 ≡ before → before ≡ after
-no_fall before after is = omega (arith, is)
+pub none_comes : (turn : Turn) (held : Positions) → new_in turn ≡ [] → executed_by turn held.grants ≡ [] → positions_with turn [] held ≡ left_so turn held
+none_comes turn held none idle = λ i. record {
+  live = (ap (λ (more : List LiveOrder). filter_map (becomes turn) held.live ++ more) none ∙ append-nil (filter_map (becomes turn) held.live)) i;
+  executions = (ap (λ (es : List Execution). held.executions ++ es) idle ∙ append-nil held.executions) i;
+  grants = append-nil held.grants i;
+}
+
+-- where each order has as much open as before
+pub same_total : (held : Positions) (turn : Turn) → AllByRecursion (λ (o : LiveOrder). left_by turn o ≡ shares_open o) held.live → (among : AccountName → Bool) → total_of held among ≡ total_of (left_so turn held) among
+same_total held turn same among = λ i. record {
+  sums = record {
+    live_shares = sym (stays_by (shares_of (of_accounts among)) turn held.live same) i;
+    live_value = sym (stays_by (value_of among) turn held.live same) i;
+    done_shares = done_shares held.executions among;
+    done_value = done_value held.executions among;
+  };
+  moments = moments_of held.grants among;
+  enters = enters_of held.grants among;
+  sides = λ stock buys. record { live = sym (stays_by (shares_of (on_side among (record { stock = stock; buys = buys }))) turn held.live same) i; done = side_done held.executions among (record { stock = stock; buys = buys }) };
+}
+
+-- what counts where an order of the accounts loses open shares, field by field
+abbrev pub with_left : Bool → LiveOrder → ℕ → Total → Total
+with_left b o lost t = record {
+  sums = record { live_shares = less b lost t.sums.live_shares; live_value = less b (value lost o.terms.price) t.sums.live_value; done_shares = t.sums.done_shares; done_value = t.sums.done_value };
+  moments = t.moments;
+  enters = t.enters;
+  sides = λ stock buys. record { live = less (b && changes_side (leaves o lost) stock buys) lost (t.sides stock buys).live; done = (t.sides stock buys).done };
+}
+
+pub leaves_so : (b : Bool) (o : LiveOrder) (lost : ℕ) (t : Total) → cond b (changed_total (leaves o lost) t) t ≡ with_left b o lost t
+leaves_so false o lost t = refl
+leaves_so true o lost t = λ i. record (changed_total (leaves o lost) t) { sides = λ stock buys. side (changes_side (leaves o lost) stock buys) (t.sides stock buys) i }
+  where
+    side : (c : Bool) (s : SideSums) → cond c (record { live = s.live - lost; done = s.done }) s ≡ record { live = less c lost s.live; done = s.done }
+    side true s = refl
+    side false s = refl
 
 -- of one order that loses open shares
-pub left_total : (held : Positions) (o : LiveOrder) (shares left : ℕ) → IsDistinct nat_eq (numbers_of held.standings) → (is : IsHeld held o) → left + shares ≡ shares_open o → (among : AccountName → Bool)
-    → totals_after (leaves o shares) (total_of held) among ≡ total_of (positions_with (ones.Leaves o.number left) held) among
-left_total held o shares left differ is less among = by (among o.account) (ap among is.account)
+pub left_total : (held : Positions) (turn : Turn) (number : ℕ) (o : LiveOrder) (lost : ℕ) → IsDistinct nat_eq (numbers_of held.live) → Loses turn number held.live o lost
+    → (among : AccountName → Bool) → totals_after (leaves o lost) (total_of held) among ≡ total_of (left_so turn held) among
+left_total held turn number o lost differ loses among =
+    leaves_so (among o.account) o lost (total_of held among)
+    ∙ (λ i. record {
+      sums = record {
+        live_shares = falls (among o.account) (live_shares held.live among) (live_shares left among) lost (lost_by (shares_of (of_accounts among)) turn number held.live o lost differ loses) i;
+        live_value = falls (among o.account) (live_value held.live among) (live_value left among) (value lost o.terms.price) (lost_by (value_of among) turn number held.live o lost differ loses) i;
+        done_shares = done_shares held.executions among;
+        done_value = done_value held.executions among;
+      };
+      moments = moments_of held.grants among;
+      enters = enters_of held.grants among;
+      sides = λ stock buys. record { live = live_then stock buys i; done = side_done held.executions among (record { stock = stock; buys = buys }) };
+    })
   where
-    s : Standing
-    s = is.standing
+    left : List LiveOrder
+    left = filter_map (becomes turn) held.live
 
-    may : MayLeave held o.number left
-    may = record { standing = s; is_found = is.is_found; is_less = omega (arith, less, is.open_shares) }
-
-    lost : s.open_shares - left ≡ shares
-    lost = omega (arith, less, is.open_shares)
-
-    of_shares : (b : Bool) → among s.order.account ≡ b → live_shares (positions_with (ones.Leaves o.number left) held).standings among + cond b shares 0 ≡ live_shares held.standings among
-    of_shares b h = (λ i. live_shares (positions_with (ones.Leaves o.number left) held).standings among + cond (sym h i) (sym lost i) 0) ∙ shares_when_left (of_accounts among) held o.number left differ may
-
-    of_values : (b : Bool) → among s.order.account ≡ b → live_value (positions_with (ones.Leaves o.number left) held).standings among + cond b (value shares o.terms.price) 0 ≡ live_value held.standings among
-    of_values b h =
-        (λ i. live_value (positions_with (ones.Leaves o.number left) held).standings among + cond (sym h i) (value (sym lost i) (sym is.terms i).price) 0) ∙ value_when_left among held o.number left differ may
-
-    is_there : (b : Bool) → among s.order.account ≡ b → (stock : Symbol) (buys : Bool) → on_side among (record { stock = stock; buys = buys }) s.order ≡ (b && changes_side (leaves o shares) stock buys)
-    is_there b h stock buys = (λ i. h i && same_stock (is.terms i).stock stock && is_on buys (is.terms i).side) ∙ and_again b (same_stock o.terms.stock stock) (is_on buys o.terms.side)
-
-    after : Positions
-    after = positions_with (ones.Leaves o.number left) held
-
-    side_left : (b : Bool) → among s.order.account ≡ b → (stock : Symbol) (buys : Bool)
-        → side_live after.standings among (record { stock = stock; buys = buys }) + cond (b && changes_side (leaves o shares) stock buys) shares 0 ≡ side_live held.standings among (record { stock = stock; buys = buys })
-    side_left b h stock buys =
+    live_then : (stock : Symbol) (buys : Bool)
+        → less (among o.account && changes_side (leaves o lost) stock buys) lost (side_live held.live among (record { stock = stock; buys = buys })) ≡ side_live left among (record { stock = stock; buys = buys })
+    live_then stock buys =
         let side : StockSide = record { stock = stock; buys = buys } in
-        (λ i. side_live after.standings among side + cond (sym (is_there b h stock buys) i) (sym lost i) 0) ∙ shares_when_left (on_side among side) held o.number left differ may
-
-    sides_true : among s.order.account ≡ true → (stock : Symbol) (buys : Bool) → sides_after (leaves o shares) (side_sums_of held among) stock buys ≡ side_sums_of after among stock buys
-    sides_true h stock buys = at (changes_side (leaves o shares) stock buys) (side_left true h stock buys)
-      where
-        side : StockSide
-        side = record { stock = stock; buys = buys }
-
-        at : (c : Bool) → side_live after.standings among side + cond c shares 0 ≡ side_live held.standings among side
-            → cond c (changed_side o (leaves o shares).kind (side_sums_of held among stock buys)) (side_sums_of held among stock buys) ≡ side_sums_of after among stock buys
-        at true e = λ i. record { live = fall_by (side_live held.standings among side) (side_live after.standings among side) shares e i; done = side_done held.executions among side }
-        at false e = λ i. record { live = no_fall (side_live held.standings among side) (side_live after.standings among side) e i; done = side_done held.executions among side }
-
-    sides_false : among s.order.account ≡ false → (stock : Symbol) (buys : Bool) → side_sums_of held among stock buys ≡ side_sums_of after among stock buys
-    sides_false h stock buys =
-        let side : StockSide = record { stock = stock; buys = buys } in
-        λ i. record { live = no_fall (side_live held.standings among side) (side_live after.standings among side) (side_left false h stock buys) i; done = side_done held.executions among side }
-
-    by : (b : Bool) → among s.order.account ≡ b
-        → cond b (changed_total (leaves o shares) (total_of held among)) (total_of held among) ≡ total_of (positions_with (ones.Leaves o.number left) held) among
-    by true h = λ i. record {
-      sums = record {
-        live_shares = fall_by (live_shares held.standings among) _ shares (of_shares true h) i;
-        live_value = fall_by (live_value held.standings among) _ (value shares o.terms.price) (of_values true h) i;
-        done_shares = done_shares held.executions among;
-        done_value = done_value held.executions among;
-      };
-      moments = moments_of held.grants among;
-      enters = enters_of held.grants among;
-      sides = λ stock buys. sides_true h stock buys i;
-    }
-    by false h = λ i. record {
-      sums = record {
-        live_shares = no_fall (live_shares held.standings among) _ (of_shares false h) i;
-        live_value = no_fall (live_value held.standings among) _ (of_values false h) i;
-        done_shares = done_shares held.executions among;
-        done_value = done_value held.executions among;
-      };
-      moments = moments_of held.grants among;
-      enters = enters_of held.grants among;
-      sides = λ stock buys. sides_false h stock buys i;
-    }
+        falls (among o.account && changes_side (leaves o lost) stock buys) (side_live held.live among side) (side_live left among side) lost
+        (ap (λ c. side_live left among side + cond c lost 0) (sym (on_its_own_side among (leaves o lost) stock buys)) ∙ lost_by (shares_of (on_side among side)) turn number held.live o lost differ loses)

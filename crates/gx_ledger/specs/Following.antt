@@ -1,34 +1,29 @@
 -- How a ledger follows orders that end one after another, and an order that takes the place of another.
-use Rattle.std.specs.Prelude.{ℕ, ◌≡◌, true, nat_eq, List, [], ◌∷◌, ◌++◌, map, fold}
+use Rattle.std.specs.Prelude.{ℕ, ◌≡◌, true, nat_eq, List, [], ◌∷◌, ◌++◌, fold}
 use Rattle.std.specs.List.{filter, AllByRecursion, IsDistinct}
 use Rattle.gx_desk.specs.declared.Action.{Action}
-use Rattle.gx_history.specs.declared.live_order.LiveOrder.{LiveOrder}
 use Rattle.gx_policy.specs.declared.policy.PolicyData.{PolicyData}
-use Rattle.gx_history.specs.Executions.{Standing}
+use Rattle.gx_history.specs.declared.live_order.LiveOrder.{LiveOrder}
 use Rattle.gx_history.specs.Figures.{Positions}
-use Rattle.gx_history.specs.Orders.{ends_account}
-use Rattle.gx_effects.specs.OneMore as ones
+use Rattle.gx_history.specs.Orders.{Order, ends_account}
+use Rattle.gx_history.specs.Turns as turns
 use Rattle.gx_positions.specs.Changing.{positions_with}
 use Rattle.gx_positions.specs.Sound.{AreSound, MayReplace, numbers_of}
 use Rattle.gx_ledger.specs.Keeping.{Kept}
-use Rattle.gx_ledger.specs.StandsFor.{Accepts, Closes, IsAccepted, IsHeld, StandsFor}
+use Rattle.gx_ledger.specs.StandsFor.{Accepts, Carries, Closes, IsAccepted, IsHeld, StandsFor}
 
 -- the live orders, fills and grants, once one order has ended
 abbrev pub closed : Positions → LiveOrder → Positions
-closed held o = positions_with (ones.Leaves o.number 0) held
+closed held o = positions_with (turns.Ends o.number) [] held
 
 -- the live orders, fills and grants, once these orders have ended
 abbrev pub all_closed : List LiveOrder → Positions → Positions
 all_closed orders held = fold closed held orders
 
--- the numbers of these orders
-abbrev pub numbers : List LiveOrder → List ℕ
-numbers orders = map (λ (o : LiveOrder). o.number) orders
-
 -- each of these is a live order, and none stands there twice
 pub record AreHeld (held : Positions) (orders : List LiveOrder) : Type 0 where
   pub all_held : AllByRecursion (IsHeld held) orders
-  pub differ : IsDistinct nat_eq (numbers orders)
+  pub differ : IsDistinct nat_eq (numbers_of orders)
 
 -- these orders end, one after another
 abbrev pub ClosesAll : List LiveOrder → Kept → Kept → Type 0
@@ -45,19 +40,22 @@ OneMoreCloses = (orders : List LiveOrder) (o : LiveOrder) (old between new : Kep
     → ClosesAll (orders ++ o ∷ []) old new
 
 -- the live orders of the accounts that the action is for
-abbrev pub ended_by : Action → Positions → List Standing
-ended_by action held = filter (λ (s : Standing). ends_account s.order.account action) held.standings
+abbrev pub ended_by : Action → List LiveOrder → List LiveOrder
+ended_by action live = filter (λ (o : LiveOrder). ends_account o.account action) live
 
 -- to end them one after another is to end them all
 abbrev pub AllAreEnded : Type 0
-AllAreEnded = (policy : PolicyData) (held : Positions) (action : Action) (orders : List LiveOrder) → AreSound policy held
-    → numbers orders ≡ numbers_of (ended_by action held) → all_closed orders held ≡ positions_with (ones.EndsAll action) held
+AllAreEnded = (policy : PolicyData) (held : Positions) (action : Action) → AreSound policy held → all_closed (ended_by action held.live) held ≡ positions_with (turns.EndsAll action) [] held
+
+-- the order is live, and the new one may take its place
+pub record MakesPlace (policy : PolicyData) (held : Positions) (o new_order : LiveOrder) (grant : Order) : Type 0 where
+  pub is_held : IsHeld held o
+  pub may_replace : MayReplace policy held o.number new_order (grant ∷ [])
 
 -- an order that was granted at the moment comes in the place of another
 abbrev pub Replaces : (o new_order : LiveOrder) → ℕ → Kept → Kept → Type 0
-Replaces o new_order moment old new = (s : Standing) → IsAccepted new_order moment true s → (policy : PolicyData) (held : Positions) → StandsFor policy old held → AreSound policy held
-    → IsHeld held o → MayReplace policy held o.number s → AreSound policy (positions_with (ones.Replaces o.number s) held)
-    → StandsFor policy new (positions_with (ones.Replaces o.number s) held)
+Replaces o new_order moment old new = (grant : Order) → IsAccepted new_order moment true grant
+    → Carries old new (λ policy held. MakesPlace policy held o new_order grant) (turns.Replaces o.number new_order) (grant ∷ [])
 
 -- the old order ends, and then the new one comes
 abbrev pub EndedThenAccepted : Type 0

@@ -1,17 +1,15 @@
 -- What the ledger keeps, and what each change makes of it.
 use Rattle.std.specs.Option.{option_map_or}
-use Rattle.std.specs.Prelude.{ℕ, Bool, List, map, Option, Some, option_map, unwrap_or, position, if◌then◌else◌}
+use Rattle.std.specs.Prelude.{ℕ, Bool, List, map, Option, unwrap_or, position, if◌then◌else◌}
 use Rattle.std.specs.Map.{lookup}
 use Rattle.gx_units.specs.Names.{same_account, same_stock}
 use Rattle.gx_units.specs.declared.names.AccountName.{AccountName}
 use Rattle.gx_units.specs.declared.names.Symbol.{Symbol}
-use Rattle.gx_history.specs.declared.facts.StockSide.{StockSide}
 use Rattle.gx_history.specs.declared.live_order.LiveOrder.{LiveOrder}
 use Rattle.gx_policy.specs.declared.policy.Account.{Account}
 use Rattle.gx_policy.specs.declared.policy.Stock.{Stock}
 use Rattle.gx_history.specs.declared.record.Request.{Request}
-use Rattle.gx_history.specs.declared.record.Request.TheVariants as requests
-use Rattle.gx_history.specs.Book.{is_buy}
+use Rattle.gx_history.specs.Figures.{stock_asked}
 use Rattle.gx_ledger.specs.declared.change.Change.{Change}
 use Rattle.gx_ledger.specs.declared.change.ChangeKind.TheVariants as changes
 use Rattle.gx_ledger.specs.declared.tally.Tally.{Tally}
@@ -78,16 +76,6 @@ kept_executed o shares price k = kept_noted (executes o shares price) (kept_note
 abbrev pub with_price : Symbol → ℕ → Kept → Kept
 with_price stock price k = record { accounts = k.accounts; prices = priced stock price k.prices; tallies = k.tallies }
 
--- the stock of an Enter, or of the order that would be replaced
-abbrev pub stock_wanted : Request → Option LiveOrder → Option Symbol
-stock_wanted (requests.Enter m) replaced = Some m.stock
-stock_wanted other replaced = option_map (λ (o : LiveOrder). o.terms.stock) replaced
-
--- the side of it that the Enter is for, or that the order is on
-abbrev pub side_wanted : Request → Option LiveOrder → Option StockSide
-side_wanted (requests.Enter m) replaced = Some (record { stock = m.stock; buys = is_buy m.side })
-side_wanted other replaced = option_map (λ (o : LiveOrder). record { stock = o.terms.stock; buys = is_buy o.terms.side }) replaced
-
--- the last price of that stock
+-- the last price of the stock of an Enter, or of the order that would be replaced
 abbrev pub reference_for : List (Symbol × ℕ) → Request → Option LiveOrder → ℕ
-reference_for prices q replaced = option_map_or (price_of prices) (stock_wanted q replaced) 0
+reference_for prices q replaced = option_map_or (price_of prices) (stock_asked q replaced) 0

@@ -1,3 +1,4 @@
+pub mod Cells
 pub mod Running
 pub mod Tallies
 pub mod Counts

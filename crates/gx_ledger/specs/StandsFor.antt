@@ -1,5 +1,5 @@
 -- The relation between what a ledger keeps and the live orders, fills and grants that it stands for.
-use Rattle.std.specs.Prelude.{ℕ, ◌≡◌, ◌-◌, ◌≤◌, ◌&&◌, Bool, true, false, List, [], ◌∷◌, map, Option, Some, None, option_map, is_none, is_some, IsFalse, IsTrue}
+use Rattle.std.specs.Prelude.{ℕ, ◌≡◌, ◌+◌, ◌-◌, ◌&&◌, Bool, true, false, List, [], ◌∷◌, map, Option, Some, None, is_none, is_some, IsFalse, IsTrue}
 use Rattle.std.specs.List.{filter, AllByRecursion}
 use Rattle.circular_buffer.specs.Buffer.{Buffer, buffer}
 use Rattle.gx_units.specs.Names.{same_account}
@@ -14,17 +14,19 @@ use Rattle.gx_policy.specs.declared.policy.Scope.{Scope}
 use Rattle.gx_policy.specs.declared.policy.Stock.{Stock}
 use Rattle.gx_history.specs.declared.record.Fill.{Fill}
 use Rattle.gx_history.specs.declared.record.Request.{Request}
-use Rattle.gx_history.specs.Executions.{Execution, Standing, standing_numbered}
+use Rattle.gx_history.specs.Executions.{Execution}
 use Rattle.gx_history.specs.Figures.{Positions, figures, live_shares, live_value, done_shares, done_value, reference, side_done, side_live}
 use Rattle.gx_policy.specs.Lists.{are_distinct, last_few}
+use Rattle.gx_history.specs.Live.{live_numbered}
 use Rattle.gx_history.specs.LiveOrders.{shares_open}
 use Rattle.gx_history.specs.Orders.{Order}
 use Rattle.gx_policy.specs.People.{account_named, covers, stock_named}
 use Rattle.gx_history.specs.Rules.{figured}
 use Rattle.gx_history.specs.Verdicts.{with_figures}
-use Rattle.gx_effects.specs.OneMore as ones
+use Rattle.gx_history.specs.Turns as turns
+use Rattle.gx_history.specs.Turns.{Turn}
 use Rattle.gx_positions.specs.Changing.{positions_with}
-use Rattle.gx_positions.specs.Sound.{AreSound, MayCome, MayFill}
+use Rattle.gx_positions.specs.Sound.{AreSound, IsOf, MayCome, MayFill}
 use Rattle.gx_ledger.specs.declared.group.Entered.{Entered}
 use Rattle.gx_ledger.specs.declared.group.Group.{Group}
 use Rattle.gx_ledger.specs.declared.sides.SideSums.{SideSums}
@@ -39,8 +41,8 @@ use Rattle.gx_ledger.specs.Told.{Asking, figures_at}
 -- the sums over these accounts
 abbrev pub sums_of : Positions → (AccountName → Bool) → Sums
 sums_of held among = record {
-  live_shares = live_shares held.standings among;
-  live_value = live_value held.standings among;
+  live_shares = live_shares held.live among;
+  live_value = live_value held.live among;
   done_shares = done_shares held.executions among;
   done_value = done_value held.executions among;
 }
@@ -48,7 +50,7 @@ sums_of held among = record {
 -- the sums over these accounts on one side of a stock
 abbrev pub side_sums_of : Positions → (AccountName → Bool) → Symbol → Bool → SideSums
 side_sums_of held among stock buys = record {
-  live = side_live held.standings among (record { stock = stock; buys = buys });
+  live = side_live held.live among (record { stock = stock; buys = buys });
   done = side_done held.executions among (record { stock = stock; buys = buys });
 }
 
@@ -131,51 +133,40 @@ pub record StandsFor (policy : PolicyData) (k : Kept) (held : Positions) : Type 
   pub all_made : AllByRecursion (IsMadeIn policy) held.executions
   pub tallies : k.tallies ≡ map (tally_of policy.stocks k.accounts (total_of held)) policy.rules
 
--- the order is the one that was handed in, granted at this time to a Replace or to an Enter
-pub record IsAccepted (o : LiveOrder) (time : ℕ) (replaces : Bool) (s : Standing) : Type 0 where
-  pub number : s.order.number ≡ o.number
-  pub account : s.order.account ≡ o.account
-  pub terms : s.order.terms ≡ o.terms
-  pub open_shares : s.open_shares ≡ shares_open o
-  pub moment : s.order.moment ≡ time
+-- the order that was handed in was granted so, at this time, to a Replace or to an Enter
+pub record IsAccepted (o : LiveOrder) (time : ℕ) (replaces : Bool) (grant : Order) : Type 0 where
+  pub is_of : IsOf o grant
+  pub moment : grant.moment ≡ time
   -- a Replace names the token of the order that it replaces
-  pub replacement : is_some s.order.previous_token ≡ replaces
+  pub replacement : is_some grant.previous_token ≡ replaces
 
 -- a live order is the one that was handed in
-pub record IsHeld (held : Positions) (o : LiveOrder) : Type 0 where
-  pub standing : Standing
-  pub is_found : standing_numbered held.standings o.number ≡ Some standing
-  pub account : standing.order.account ≡ o.account
-  pub terms : standing.order.terms ≡ o.terms
-  pub open_shares : standing.open_shares ≡ shares_open o
+abbrev pub IsHeld : Positions → LiveOrder → Type 0
+IsHeld held o = live_numbered held.live o.number ≡ Some o
 
--- if an order is handed in, it is a live one
-abbrev pub IsHeldIfAny : Positions → Option LiveOrder → Type 0
-IsHeldIfAny held None = Unit {0}
-IsHeldIfAny held (Some o) = IsHeld held o
+-- Over all live orders, fills and grants that the old ledger stands for and that may be turned so, with these orders
+-- granted, the new one stands for what the turn makes of them.
+abbrev pub Carries : Kept → Kept → (PolicyData → Positions → Type 0) → Turn → List Order → Type 0
+Carries old new may turn granted = (policy : PolicyData) (held : Positions) → StandsFor policy old held → AreSound policy held → may policy held
+    → AreSound policy (positions_with turn granted held) → StandsFor policy new (positions_with turn granted held)
 
--- Over all orders, fills and grants that the old ledger stands for and that may change so, the new one stands for what
--- the change makes of them.
-abbrev pub Carries : Kept → Kept → (PolicyData → Positions → Type 0) → ones.Change → Type 0
-Carries old new may change = (policy : PolicyData) (held : Positions) → StandsFor policy old held → AreSound policy held → may policy held
-    → AreSound policy (positions_with change held) → StandsFor policy new (positions_with change held)
-
--- one more order: any that has what was handed in
+-- one more order, granted in whatever way that it can have been
 abbrev pub Accepts : LiveOrder → ℕ → Bool → Kept → Kept → Type 0
-Accepts o moment replacement old new = (s : Standing) → IsAccepted o moment replacement s → Carries old new (λ policy held. MayCome policy held s) (ones.Adds s)
+Accepts o moment replacement old new = (grant : Order) → IsAccepted o moment replacement grant
+    → Carries old new (λ policy held. MayCome policy held o (grant ∷ [])) (turns.Adds o) (grant ∷ [])
 
--- the live order has these shares open, at least
-pub record HasOpen (held : Positions) (o : LiveOrder) (shares : ℕ) : Type 0 where
+-- the order is live, and with this size it has so many fewer shares open
+pub record IsCut (held : Positions) (o : LiveOrder) (shares size : ℕ) : Type 0 where
   pub is_held : IsHeld held o
-  pub enough : shares ≤ shares_open o
+  pub is_less : (size - o.done) + shares ≡ shares_open o
 
 -- so many of a live order's open shares are open no more
 abbrev pub Cuts : LiveOrder → ℕ → Kept → Kept → Type 0
-Cuts o shares old new = Carries old new (λ policy held. HasOpen held o shares) (ones.Leaves o.number (shares_open o - shares))
+Cuts o shares old new = (size : ℕ) → Carries old new (λ policy held. IsCut held o shares size) (turns.Sizes o.number size) []
 
 -- a live order ends
 abbrev pub Closes : LiveOrder → Kept → Kept → Type 0
-Closes o old new = Carries old new (λ policy held. IsHeld held o) (ones.Leaves o.number 0)
+Closes o old new = Carries old new (λ policy held. IsHeld held o) (turns.Ends o.number) []
 
 -- both orders are live, and the fill between them may be
 pub record AreFilled (held : Positions) (taker maker : LiveOrder) (f : Fill) : Type 0 where
@@ -187,11 +178,11 @@ pub record AreFilled (held : Positions) (taker maker : LiveOrder) (f : Fill) : T
 abbrev pub Fills : LiveOrder → LiveOrder → ℕ → ℕ → Kept → Kept → Type 0
 Fills taker maker shares price old new =
     let f : Fill = record { taker = taker.number; maker = maker.number; shares = shares; price = price } in
-    Carries old new (λ policy held. AreFilled held taker maker f) (ones.Fills f)
+    Carries old new (λ policy held. AreFilled held taker maker f) (turns.Fills f) []
 
--- For an account of the policy, what is told are the figures of the policy's rules, over all orders, fills and grants that
--- the ledger stands for.
+-- For an account of the policy, what is told are the figures of the policy's rules, over all live orders, fills and grants
+-- that the ledger stands for.
 abbrev pub GivesFigures : Kept → AccountName → Request → Option LiveOrder → ℕ → Asking → Type 0
 GivesFigures k account q replaced moment asked = (policy : PolicyData) (held : Positions) → StandsFor policy k held → AreSound policy held
-    → IsTrue (is_some (account_named policy account)) → IsHeldIfAny held replaced
-    → figured (figures_at asked) policy.rules ≡ with_figures (figures policy held account q (option_map (λ (o : LiveOrder). o.number) replaced) moment) policy.rules
+    → IsTrue (is_some (account_named policy account))
+    → figured (figures_at asked) policy.rules ≡ with_figures (figures policy held account q replaced moment) policy.rules

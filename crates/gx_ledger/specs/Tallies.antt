@@ -1,11 +1,9 @@
 -- What each rule of the file counts, and the figures that it asks for.
 use Rattle.std.specs.Option.{option_map_or}
 use Rattle.std.specs.Prelude.{ℕ, zero, suc, ℤ, pos, not, List, [], ◌∷◌, map, slice_get, Option, Some, None, option_and_then, if◌then◌else◌}
-use Rattle.gx_units.specs.Money.{value}
 use Rattle.gx_units.specs.declared.names.Symbol.{Symbol}
 use Rattle.gx_history.specs.declared.facts.RuleFigures.{RuleFigures}
 use Rattle.gx_history.specs.declared.facts.StockSide.{StockSide}
-use Rattle.gx_history.specs.declared.live_order.LiveOrder.{LiveOrder}
 use Rattle.gx_policy.specs.declared.policy.Account.{Account}
 use Rattle.gx_policy.specs.declared.policy.Count.{Count}
 use Rattle.gx_policy.specs.declared.policy.Count.TheVariants as counts
@@ -13,7 +11,7 @@ use Rattle.gx_policy.specs.declared.policy.FileRule.{FileRule}
 use Rattle.gx_policy.specs.declared.policy.RuleKind.{RuleKind}
 use Rattle.gx_policy.specs.declared.policy.RuleKind.TheVariants as kinds
 use Rattle.gx_policy.specs.declared.policy.Stock.{Stock}
-use Rattle.gx_history.specs.Figures.{no_figures}
+use Rattle.gx_history.specs.Figures.{no_figures, open_value}
 use Rattle.gx_history.specs.LiveOrders.{shares_open}
 use Rattle.gx_policy.specs.People.{covers}
 use Rattle.gx_ledger.specs.declared.group.Group.{Group}
@@ -129,10 +127,6 @@ net_in sides side = net_of (on_its_side side.buys (sides_at sides side.stock)).d
 abbrev pub live_in : List (Symbol × StockSums) → StockSide → ℕ
 live_in sides side = (on_its_side side.buys (sides_at sides side.stock)).live
 
--- what is open of the order, at its price
-abbrev pub value_open : LiveOrder → ℕ
-value_open o = value (shares_open o) o.terms.price
-
 -- the figures of a group that the rule asks for
 abbrev pub figures_of_group : Asks → Wanted → Group → RuleFigures
 figures_of_group asks.Shares w g =
@@ -145,7 +139,7 @@ figures_of_group asks.Values w g =
     record no_figures {
       live_value = g.sums.live_value;
       done_value = g.sums.done_value;
-      replaced_value = option_map_or value_open w.replaced 0;
+      replaced_value = option_map_or open_value w.replaced 0;
     }
 figures_of_group asks.Sides w g =
     record no_figures {

@@ -1,16 +1,15 @@
 //! The running figures of a group of accounts.
 
-ghost use Rattle.std.specs.Prelude.{◌≡◌, count_by, IfOk, IsTrue};
-ghost use Rattle.gx_ledger.specs.Running.{alike_in, are_alike, asked_as, changed_group, entered_as};
+ghost use Rattle.std.specs.Prelude.{◌≡◌, IfOk, IsTrue};
+ghost use Rattle.gx_ledger.specs.Running.{alike_in, asked_as, changed_group, entered_as};
 ghost use Rattle.gx_ledger.specs.Running.{new_group, with_accepted};
 ghost use Rattle.gx_ledger.specs.Tables.{names_differ};
 
-use crate::alike::alike_among;
 use crate::change::{Change, ChangeKind};
+use crate::enters::Enters;
 use crate::moments::Moments;
 use crate::sides::Sides;
 use crate::sums::Sums;
-use circular_buffer::HeapCircularBuffer;
 use gx_history::live_order::LiveOrder;
 use gx_history::record::Request;
 use gx_policy::Stock;
@@ -35,7 +34,7 @@ pub struct Group {
     /// The moments of the last granted Enters and Replaces, as many as the rule's limit.
     pub moments: Moments,
     /// The last granted Enters, as many as the rule's span.
-    pub enters: HeapCircularBuffer<Entered>,
+    pub enters: Enters,
     /// The sums of each side of a stock, where the rule asks for them.
     pub sides: Sides,
 }
@@ -66,15 +65,6 @@ fn asked_as(request: &Request) -> Option<Entered>
     }
 }
 
-/// How many of the Enters are such as this one.
-fn alike_in_ring(enters: &HeapCircularBuffer<Entered>, asked: &Entered) -> u64
-    ensures { result ≡ count_by (are_alike asked.now) enters.now.items }
-{
-    let _len = enters.len();
-    let (older, newer) = enters.as_slices();
-    (alike_among(older, asked) + alike_among(newer, asked)) as u64
-}
-
 impl Group {
     /// A group with room for so many moments and Enters and with sums for these stocks, and nothing
     /// in it.
@@ -88,7 +78,7 @@ impl Group {
         ensures { IfOk result (λ group. group ≡ new_group moments enters stocks.now) }
     {
         let moments = Moments::with_room(alloc, moments)?;
-        let enters = HeapCircularBuffer::with_capacity(alloc, enters)?;
+        let enters = Enters::with_room(alloc, enters)?;
         let sides = Sides::of(alloc, stocks)?;
         Ok(Group {
             sums: Sums::NONE,
@@ -104,7 +94,7 @@ impl Group {
         self.sums = self.sums.with_live(order.open(), order.terms.price);
         self.moments.push(moment);
         if !replacement {
-            self.enters.push_back(entered_as(order));
+            self.enters.push(entered_as(order));
         }
     }
 
@@ -133,7 +123,7 @@ impl Group {
         ensures { result ≡ alike_in self.now.enters.items request.now }
     {
         match asked_as(request) {
-            Some(asked) => alike_in_ring(&self.enters, &asked),
+            Some(asked) => self.enters.alike(&asked),
             None => 0,
         }
     }

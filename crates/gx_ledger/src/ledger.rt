@@ -1,9 +1,10 @@
 //! The running figures of a day.
 
 ghost use Rattle.std.specs.Prelude.{◌≡◌, IfOk};
+ghost use Rattle.gx_history.specs.Figures.{side_asked};
 ghost use Rattle.gx_positions.specs.Changing.{nothing};
 ghost use Rattle.gx_ledger.specs.Keeping.{account_place, kept_executed, kept_noted, price_of};
-ghost use Rattle.gx_ledger.specs.Keeping.{reference_for, side_wanted, with_price};
+ghost use Rattle.gx_ledger.specs.Keeping.{reference_for, with_price};
 ghost use Rattle.gx_ledger.specs.StandsFor.{Accepts, Closes, Cuts, Fills, GivesFigures, StandsFor};
 ghost use Rattle.gx_ledger.specs.Told.{figures_at};
 
@@ -236,7 +237,7 @@ impl Ledger {
 
 /// The side of the stock that an Enter is for, or that the order is on that would be replaced.
 fn side_of(request: &Request, replaced: Option<LiveOrder>) -> Option<StockSide>
-    ensures { result ≡ side_wanted request.now replaced }
+    ensures { result ≡ side_asked request.now replaced }
 {
     match request {
         Request::Enter(m) => Some(StockSide {

@@ -6,6 +6,7 @@
 
 mod alike;
 mod change;
+mod enters;
 mod group;
 pub mod laws;
 pub mod ledger;

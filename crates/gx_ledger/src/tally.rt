@@ -11,7 +11,8 @@ ghost use Rattle.gx_ledger.specs.Tallies.{figures_of_group};
 ghost use Rattle.gx_ledger.specs.Tallies.{group_in, live_in, net_in, new_groups, new_tally};
 ghost use Rattle.gx_ledger.specs.Tallies.{place_in, stocks_for};
 ghost use Rattle.gx_ledger.specs.Tallies.{room_for_enters, room_for_moments, tally_after};
-ghost use Rattle.gx_ledger.specs.Tallies.{tally_figures, value_open};
+ghost use Rattle.gx_history.specs.Figures.{open_value};
+ghost use Rattle.gx_ledger.specs.Tallies.{tally_figures};
 
 use crate::change::Change;
 use crate::group::Group;
@@ -245,7 +246,7 @@ fn open_of(order: Option<LiveOrder>) -> u128
 }
 
 fn open_value_of(order: Option<LiveOrder>) -> u128
-    ensures { result ≡ option_map_or value_open order 0 }
+    ensures { result ≡ option_map_or open_value order 0 }
 {
     match order {
         Some(order) => value_of(order.open(), order.terms.price),

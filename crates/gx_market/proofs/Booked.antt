@@ -10,9 +10,8 @@ use Rattle.gx_policy.specs.declared.policy.PolicyData.{PolicyData}
 use Rattle.gx_policy.specs.declared.policy.Stock.{Stock}
 use Rattle.gx_policy.specs.People.{stock_named}
 use Rattle.gx_history.specs.declared.record.RecordData.{RecordData}
-use Rattle.gx_history.specs.Book.{is_buy}
-use Rattle.gx_history.specs.Figures.{is_on}
-use Rattle.gx_history.specs.Turns.{side}
+use Rattle.gx_history.specs.Book.{is_buy, is_on}
+use Rattle.gx_history.specs.Live.{side}
 use Rattle.gx_history_laws.proofs.Names.{stock_is}
 use Rattle.gx_book.specs.declared.resting.Resting.{Resting}
 use Rattle.gx_book.specs.Books.{StockOrders, empty_book, on_each_side, on_side, resting_in, side_of, with_side}

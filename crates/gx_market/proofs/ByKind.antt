@@ -12,6 +12,7 @@ use Rattle.gx_desk.specs.declared.Action.TheVariants as actions
 use Rattle.gx_desk.specs.declared.Command.{Command}
 use Rattle.gx_policy.specs.declared.policy.PolicyData.{PolicyData}
 use Rattle.gx_policy.specs.People.{account_of}
+use Rattle.gx_policy.specs.declared.rule_name.RuleName.{RuleName}
 use Rattle.gx_history.specs.declared.live_order.LiveOrder.{LiveOrder}
 use Rattle.gx_history.specs.declared.record.Asked.{Asked}
 use Rattle.gx_history.specs.declared.record.Fill.{Fill}
@@ -25,18 +26,20 @@ use Rattle.gx_history.specs.declared.record.Verdict.TheVariants as verdicts
 use Rattle.gx_history.specs.LiveOrders.{is_under, replacement_order}
 use Rattle.gx_history.specs.MayMove.{MayExpire, MayFill, MayRest}
 use Rattle.gx_history.specs.Requests.{action_of}
-use Rattle.gx_history.specs.Turns.{Turn, Keeps, Adds, Sizes, Replaces, EndsAll, Fills, Rests, Ends, becomes, live, live_numbered, new_order, side, side_turned, turn_asked, turn_by, turn_of, waiting, while_open}
+use Rattle.gx_history.specs.Live.{live, live_numbered, side, waiting, live_under}
+use Rattle.gx_history.specs.Turns.{Turn, Keeps, Adds, Sizes, Replaces, EndsAll, Fills, Rests, Ends, becomes, new_order, side_turned, while_open}
 use Rattle.gx_history.specs.Verdicts.{IsLegal, next}
-use Rattle.gx_history.specs.World.{world}
+use Rattle.gx_history.specs.World.{move_asked, turn_by, turn_in, turn_of, world, move_denied}
+use Rattle.gx_history.specs.World as moves
 use Rattle.gx_history_laws.proofs.Order.{some_same}
 use Rattle.gx_history_laws.proofs.Owners.{last_such_is}
 use Rattle.gx_effects.proofs.Commanding.{command_of}
 use Rattle.gx_effects.proofs.Moving.{may_by}
 use Rattle.gx_effects.proofs.OrderRequests.{it_grants}
-use Rattle.gx_effects.proofs.Sides.{number_found, side_next}
+use Rattle.gx_effects.proofs.Sides.{side_next}
 use Rattle.gx_orders.specs.Changes.{is_lasting}
 use Rattle.gx_orders.specs.InForce.{orders_in_force}
-use Rattle.gx_orders.specs.LiveOrders.{first_waiting, order_under}
+use Rattle.gx_orders.specs.LiveOrders.{first_waiting}
 use Rattle.gx_orders.proofs.Keeping.{first_of_filter}
 use Rattle.gx_orders.proofs.Turned.{turn_is}
 use Rattle.gx_book.specs.Books.{StockOrders}
@@ -44,26 +47,31 @@ use Rattle.gx_market.specs.BookInForce.{book_in_force}
 use Rattle.gx_market.specs.Changes.{ended_by, keeps_book, left_with, put_to_rest, resting_of}
 use Rattle.gx_market.specs.Laws.{CancelsTakeShares, ClosesTakeOut, DenialsKeepBook, ExpiriesKeepBook, FillsTakeOut, KillsTakeOut, OthersKeepBook, ReplacesTakeOut, RestsArePut, RestsAreOfFirst}
 use Rattle.gx_effects.proofs.Resting.{IsLiving, all_living, does_not_rest, first_lives}
+use Rattle.gx_effects.proofs.Known.{number_found}
 use Rattle.gx_market.proofs.Turned.{book_ends, book_rests, book_stays, one_left, order_left}
 
 -- each side then, by what the record does
-sides_by : (policy : PolicyData) (history : List RecordData) (step : Step) (r : RecordData) (turn : Turn) → IsLegal policy history → next policy history step ≡ Some r → turn_of policy (live policy history) r ≡ turn
+sides_by : (policy : PolicyData) (history : List RecordData) (step : Step) (r : RecordData) (turn : Turn) → IsLegal policy history → next policy history step ≡ Some r → turn_of policy (world policy history) r ≡ turn
     → (stock : Symbol) (buy : Bool) → side policy (history ++ r ∷ []) stock buy ≡ side_turned turn (live policy history) stock buy (side policy history stock buy)
 sides_by policy history step r turn legal left is stock buy =
     side_next policy history step r stock buy legal left ∙ ap (λ (t : Turn). side_turned t (live policy history) stock buy (side policy history stock buy)) is
 
 -- what a verdict does
-by_verdict : (policy : PolicyData) (history : List RecordData) (r : RecordData) (v : Verdict) → r.verdict ≡ v → turn_of policy (live policy history) r ≡ turn_by policy (live policy history) r v r.step
-by_verdict policy history r v e = ap (λ (x : Verdict). turn_by policy (live policy history) r x r.step) e
+by_verdict : (policy : PolicyData) (history : List RecordData) (r : RecordData) (v : Verdict) → r.verdict ≡ v → turn_of policy (world policy history) r ≡ turn_by policy (world policy history) r v r.step
+by_verdict policy history r v e = ap (λ (x : Verdict). turn_by policy (world policy history) r x r.step) e
 
 -- what a granted request does
 granted : (policy : PolicyData) (history : List RecordData) (a : Asked) (r : RecordData) (q : Request) → next policy history (steps.Asked a) ≡ Some r → a.request ≡ q → r.verdict ≡ verdicts.Granted
-    → turn_of policy (live policy history) r ≡ turn_asked policy (live policy history) r a.user q
+    → turn_of policy (world policy history) r ≡ turn_in (move_asked policy (world policy history) r a q)
 granted policy history a r q left asks grants = turn_is policy history r a q (it_grants policy history a r q left asks grants)
+
+denied_keeps : (rule : RuleName) (s : Step) → turn_in (move_denied rule s) ≡ Keeps
+denied_keeps rule (steps.Asked a) = refl
+denied_keeps rule (steps.Matching handed) = refl
 
 pub denials_keep : DenialsKeepBook
 denials_keep policy history step r rule legal left denied =
-    book_stays policy history (history ++ r ∷ []) (becomes Keeps) legal (sides_by policy history step r Keeps legal left (by_verdict policy history r (verdicts.Denied rule) denied)) (λ o found rests. refl)
+    book_stays policy history (history ++ r ∷ []) (becomes Keeps) legal (sides_by policy history step r Keeps legal left (by_verdict policy history r (verdicts.Denied rule) denied ∙ denied_keeps rule r.step)) (λ o found rests. refl)
 
 lasting : (action : Action) → is_lasting action ≡ true → (book : List StockOrders) → ended_by action book ≡ book
 lasting (actions.Kill account) h book = cc
@@ -87,7 +95,7 @@ closes_take policy history a r legal left acts grants = ends_by policy history a
 pub others_keep : OthersKeepBook
 others_keep policy history a r legal left keeps grants = by a.request refl keeps
   where
-    stays : (q : Request) → a.request ≡ q → turn_asked policy (live policy history) r a.user q ≡ Keeps → book_in_force policy (history ++ r ∷ []) ≡ book_in_force policy history
+    stays : (q : Request) → a.request ≡ q → turn_in (move_asked policy (world policy history) r a q) ≡ Keeps → book_in_force policy (history ++ r ∷ []) ≡ book_in_force policy history
     stays q asks none =
         book_stays policy history (history ++ r ∷ []) (becomes Keeps) legal (sides_by policy history (steps.Asked a) r Keeps legal left (granted policy history a r q left asks grants ∙ none)) (λ o found rests. refl)
 
@@ -98,17 +106,17 @@ others_keep policy history a r legal left keeps grants = by a.request refl keeps
     by (requests.Enter m) asks h = at (account_of policy a.user) refl
       where
         at : (found : Option AccountName) → account_of policy a.user ≡ found → book_in_force policy (history ++ r ∷ []) ≡ book_in_force policy history
-        at None e = stays (requests.Enter m) asks (ap (λ (x : Option AccountName). option_map_or (λ (account : AccountName). Adds (new_order policy r a.user account m)) x Keeps) e)
+        at None e = stays (requests.Enter m) asks (ap (λ (x : Option AccountName). turn_in (option_map_or (λ (account : AccountName). moves.Adds (new_order policy r a.user account m)) x moves.Nothing)) e)
         at (Some account) e =
             book_stays policy history (history ++ r ∷ []) (becomes Keeps) legal
             (sides_by policy history (steps.Asked a) r (Adds (new_order policy r a.user account m)) legal left
-            (granted policy history a r (requests.Enter m) left asks grants ∙ ap (λ (x : Option AccountName). option_map_or (λ (account : AccountName). Adds (new_order policy r a.user account m)) x Keeps) e)) (λ o found rests. refl)
+            (granted policy history a r (requests.Enter m) left asks grants ∙ ap (λ (x : Option AccountName). turn_in (option_map_or (λ (account : AccountName). moves.Adds (new_order policy r a.user account m)) x moves.Nothing)) e)) (λ o found rests. refl)
     by (requests.Replace m) asks h = cc
     by (requests.Cancel m) asks h = cc
     by (requests.Command c) asks h = ends_by policy history a r c.action legal left grants (ap action_of asks) ∙ lasting c.action h (book_in_force policy history)
 
 -- an order that a request names is found under its number
-named_lives : (policy : PolicyData) (history : List RecordData) (user : UserName) (token : Token) (o : LiveOrder) → IsLegal policy history → order_under (orders_in_force policy history).live user token ≡ Some o
+named_lives : (policy : PolicyData) (history : List RecordData) (user : UserName) (token : Token) (o : LiveOrder) → IsLegal policy history → live_under (orders_in_force policy history).live user token ≡ Some o
     → live_numbered (live policy history) o.number ≡ Some o
 named_lives policy history user token o legal named =
     (last_such_is (IsLiving policy history) (is_under user token) (live policy history) o (all_living policy history legal) named).found
@@ -125,7 +133,7 @@ cancels_take policy history a r m o legal left asks grants named =
     order_left policy history (history ++ r ∷ []) (becomes (Sizes o.number m.shares)) o (record o { total = m.shares }) (m.shares - o.done) legal
     (sides_by policy history (steps.Asked a) r (Sizes o.number m.shares) legal left
     (granted policy history a r (requests.Cancel m) left asks grants
-    ∙ ap (λ (found : Option LiveOrder). option_map_or (λ (cut : LiveOrder). Sizes cut.number m.shares) found Keeps) named))
+    ∙ ap (λ (found : Option LiveOrder). turn_in (option_map_or (λ (cut : LiveOrder). moves.Sizes cut m.shares) found moves.Nothing)) named))
     (named_lives policy history a.user m.token o legal named) (ap (λ (b : Bool). cond b (while_open (record o { total = m.shares })) (Some o)) (eq-eqb o.number o.number refl)) refl (some_left o.done m.shares)
     (λ y found rests differs. ap (λ (b : Bool). cond b (while_open (record y { total = m.shares })) (Some y)) differs)
 
@@ -134,7 +142,7 @@ replaces_take policy history a r m o legal left asks grants named =
     one_left policy history (history ++ r ∷ []) (becomes (Replaces o.number (replacement_order r m o))) o false legal
     (sides_by policy history (steps.Asked a) r (Replaces o.number (replacement_order r m o)) legal left
     (granted policy history a r (requests.Replace m) left asks grants
-    ∙ ap (λ (found : Option LiveOrder). option_map_or (λ (old : LiveOrder). Replaces old.number (replacement_order r m old)) found Keeps) named))
+    ∙ ap (λ (found : Option LiveOrder). turn_in (option_map_or (λ (old : LiveOrder). moves.Replaces old (replacement_order r m old)) found moves.Nothing)) named))
     (named_lives policy history a.user m.existing_token o legal named) (ap (λ (b : Bool). option_map resting_of (cond b None (Some o))) (eq-eqb o.number o.number refl))
     (λ y found rests differs. ap (λ (b : Bool). cond {A = Option LiveOrder} b None (Some y)) differs)
 

@@ -12,21 +12,23 @@ use Rattle.gx_history.specs.declared.record.Verdict.{Verdict}
 use Rattle.gx_history.specs.declared.record.Verdict.TheVariants as verdicts
 use Rattle.gx_history.specs.Book.{is_buy, rested_of}
 use Rattle.gx_history.specs.MayMove.{MayRest}
-use Rattle.gx_history.specs.Turns.{Turn, Adds, Replaces, Rests, becomes, live, new_in, side, turn_by, turned}
+use Rattle.gx_history.specs.Live.{live, side}
+use Rattle.gx_history.specs.Turns.{Turn, Adds, Replaces, Rests, becomes, new_in, turned}
 use Rattle.gx_history.specs.Verdicts.{IsLegal, next}
-use Rattle.gx_history.specs.World.{world}
+use Rattle.gx_history.specs.World.{world, turn_by}
 use Rattle.gx_history_laws.proofs.Granting.{legal_keeps}
 use Rattle.gx_history_laws.proofs.NextReports.{legal_next, legal_none}
 use Rattle.gx_history_laws.proofs.Numbers.{all_weaker, number_left}
 use Rattle.gx_history_laws.proofs.Order.{some_same}
 use Rattle.gx_history_laws.proofs.Owners.{all_both}
-use Rattle.gx_effects.proofs.Entered.{all_mapped}
-use Rattle.gx_effects.proofs.Known.{all_found_of}
+use Rattle.gx_effects.proofs.Entered.{all_mapped, all_found_of}
+use Rattle.gx_effects.proofs.Known.{RestsThere, all_resting}
 use Rattle.gx_effects.proofs.Live.{live_next}
 use Rattle.gx_effects.proofs.Moving.{may_by}
 use Rattle.gx_effects.proofs.NewOrders.{found_is}
-use Rattle.gx_effects.proofs.Resting.{IsLiving, RestsThere, all_living, all_resting}
+use Rattle.gx_effects.proofs.Resting.{IsLiving, all_living}
 use Rattle.gx_effects.proofs.Sides.{AreNew, becomes_same, goes, new_by, puts_to_rest}
+use Rattle.gx_effects.proofs.Orderly.{legal_is_orderly}
 use Rattle.gx_orders.specs.LiveOrders.{OrdersData, first_waiting}
 use Rattle.gx_orders.proofs.Staying.{live_within, none_at_first}
 use Rattle.gx_book.specs.declared.resting.Resting.{Resting}
@@ -124,12 +126,12 @@ ascend_next policy history r legal left h = by r.verdict refl
     os : List LiveOrder
     os = live policy history
 
-    then_by : (v : Verdict) → r.verdict ≡ v → Ascend (turned (turn_by policy os r v r.step) os) → Ascend (live policy (history ++ r ∷ []))
-    then_by v e k = subst Ascend (sym (live_next policy history r.step r legal left ∙ ap (λ (x : Verdict). turned (turn_by policy os r x r.step) os) e)) k
+    then_by : (v : Verdict) → r.verdict ≡ v → Ascend (turned (turn_by policy (world policy history) r v r.step) os) → Ascend (live policy (history ++ r ∷ []))
+    then_by v e k = subst Ascend (sym (live_next policy history r.step r legal left ∙ ap (λ (x : Verdict). turned (turn_by policy (world policy history) r x r.step) os) e)) k
 
     none_rests : (v : Verdict) → r.verdict ≡ v → rested_of v ≡ None → Ascend (live policy (history ++ r ∷ []))
     none_rests v e none =
-        then_by v e (turns_on r (turn_by policy os r v r.step) os (goes policy os r v r.step none) (new_by policy os r v r.step) (live_within policy history r.number legal (number_left policy history r.step r left)) h)
+        then_by v e (turns_on r (turn_by policy (world policy history) r v r.step) os (goes policy (world policy history) r v r.step none) (new_by policy (world policy history) r v r.step) (live_within policy history r.number legal (number_left policy history r.step r left)) h)
 
     first_rests : (number : ℕ) → r.verdict ≡ verdicts.Rested number → MayRest (world policy history) r number → Ascend (live policy (history ++ r ∷ []))
     first_rests number e is =
@@ -155,5 +157,5 @@ first_is_latest policy history o legal waits =
     subst (AllByRecursion (λ (r : Resting). r.price ≡ o.terms.price → r.number < o.number)) (sym (resting_found policy history o.terms.stock (is_buy o.terms.side) lives.listed))
     (all_mapped (λ (r : Resting). r.price ≡ o.terms.price → r.number < o.number) resting_of (side policy history o.terms.stock (is_buy o.terms.side))
     (all_weaker (RestsThere policy history o.terms.stock (is_buy o.terms.side)) (λ (x : LiveOrder). x.terms.price ≡ o.terms.price → x.number < o.number)
-    (λ x there price. (found_is (IsParted o) (λ (y : LiveOrder). y.number == x.number) (live policy history) x sides there.found).1 there.rests) (side policy history o.terms.stock (is_buy o.terms.side))
-    (all_resting policy history o.terms.stock (is_buy o.terms.side) legal)))
+    (λ x there price. (found_is (IsParted o) (λ (y : LiveOrder). y.number == x.number) (live policy history) x sides there.known.is_found).1 there.rests) (side policy history o.terms.stock (is_buy o.terms.side))
+    (all_resting policy history o.terms.stock (is_buy o.terms.side) (legal_is_orderly policy history legal))))

@@ -12,14 +12,13 @@ use Rattle.gx_policy.specs.declared.policy.PolicyData.{PolicyData}
 use Rattle.gx_policy.specs.declared.policy.Stock.{Stock}
 use Rattle.gx_history.specs.declared.live_order.LiveOrder.{LiveOrder}
 use Rattle.gx_history.specs.declared.record.RecordData.{RecordData}
-use Rattle.gx_history.specs.Book.{is_buy, rested}
-use Rattle.gx_history.specs.Figures.{is_on}
-use Rattle.gx_history.specs.Turns.{has_come, is_there, live, live_numbered, side}
+use Rattle.gx_history.specs.Book.{is_buy, is_on, rested}
+use Rattle.gx_history.specs.Live.{has_come, is_there, live, live_numbered, side}
 use Rattle.gx_history.specs.Verdicts.{IsLegal}
 use Rattle.gx_history_laws.proofs.Numbers.{all_weaker}
 use Rattle.gx_history_laws.proofs.Order.{IsFirstSuch, first_such, none_such}
 use Rattle.gx_history_laws.proofs.Owners.{all_both}
-use Rattle.gx_effects.proofs.Among.{none_pass}
+use Rattle.gx_history_laws.proofs.Granting.{none_pass}
 use Rattle.gx_effects.proofs.Entered.{all_mapped}
 use Rattle.gx_effects.proofs.NewOrders.{found_is}
 use Rattle.gx_effects.proofs.Ordered.{all_parted}
@@ -30,7 +29,10 @@ use Rattle.gx_market.specs.BookInForce.{book_in_force, rested_in, stock_in_force
 use Rattle.gx_market.specs.Changes.{resting_of}
 use Rattle.gx_market.specs.Laws.{LiveWaitOrRest, RestingAreLive}
 use Rattle.gx_market.proofs.Booked.{resting_found}
-use Rattle.gx_effects.proofs.Resting.{IsLiving, RestsThere, all_living, all_resting, same_order, side_has}
+use Rattle.gx_effects.proofs.Resting.{IsLiving, all_living, same_order}
+use Rattle.gx_effects.proofs.Known.{RestsThere, all_resting}
+use Rattle.gx_effects.proofs.BookSides.{side_has}
+use Rattle.gx_effects.proofs.Orderly.{legal_is_orderly}
 
 clash : {b : Bool} → b ≡ true → b ≡ false → ⊥
 clash h k = cc
@@ -49,8 +51,8 @@ all_home policy history legal = by policy.stocks
     on_side : (stock : Symbol) (buy : Bool) → AllByRecursion (IsHome policy history) (rested_in policy history stock buy)
     on_side stock buy =
         all_mapped (IsHome policy history) resting_of (side policy history stock buy)
-        (all_weaker (RestsThere policy history stock buy) (λ (o : LiveOrder). IsHome policy history (resting_of o)) (λ o there. record { order = o; is = refl; found = there.found; rests = there.rests })
-        (side policy history stock buy) (all_resting policy history stock buy legal))
+        (all_weaker (RestsThere policy history stock buy) (λ (o : LiveOrder). IsHome policy history (resting_of o)) (λ o there. record { order = o; is = refl; found = there.known.is_found; rests = there.rests })
+        (side policy history stock buy) (all_resting policy history stock buy (legal_is_orderly policy history legal)))
 
     by : (ss : List Stock) → AllByRecursion (IsHome policy history) (all_orders (map (stock_in_force policy history) ss))
     by [] = tt
@@ -111,10 +113,11 @@ waits_or_rests policy history o legal is = at (order_in (book_in_force policy hi
     none_there e false rests =
         absurd
         (clash (eq-eqb o.number o.number refl)
-        (side_has policy history stock buy (λ (x : LiveOrder). (x.number == o.number) ≡ false) o is.found (was_true (has_come (rested history) o.number) (sym is.waits ∙ rests)) there
+        (side_has policy history (λ (x : LiveOrder). (x.number == o.number) ≡ false) stock buy o
         (unmapped (λ (r : Resting). numbered r ≡ false) resting_of (side policy history stock buy)
         (subst (AllByRecursion (λ (r : Resting). numbered r ≡ false)) (resting_found policy history stock buy is.listed)
-        (part_of (λ (r : Resting). numbered r ≡ false) (book_in_force policy history) stock buy (none_pass numbered all (none_such numbered all e)))))))
+        (part_of (λ (r : Resting). numbered r ≡ false) (book_in_force policy history) stock buy (none_pass numbered all (none_such numbered all e)))))
+        is.found (was_true (has_come (rested history) o.number) (sym is.waits ∙ rests)) there))
 
     at : (found : Option Resting) → find numbered all ≡ found → found ≡ cond o.waits None (Some (resting_of o))
     at None e = none_there e o.waits refl

@@ -1,31 +1,28 @@
 -- Each side of a book in force has the better price first, and no book is crossed.
 use Rattle.std.proofs.Common.{◌≡◌, ◌<◌, Bool, true, false, not, List, [], ◌∷◌, refl, ◌∙◌, ap, sym, map, arith}
-use Rattle.std.proofs.Math.Path.{subst}
 use Rattle.std.specs.Prelude.{◌&&◌, nat_le}
 use Rattle.std.specs.List.{AllByRecursion, filter, filter_map, list_all}
 use Rattle.std.proofs.lemmas.Bool.{le-ltb, leb-false}
+use Rattle.gx_units.specs.Names.{same_stock}
 use Rattle.gx_units.specs.declared.names.Symbol.{Symbol}
 use Rattle.gx_policy.specs.declared.policy.PolicyData.{PolicyData}
 use Rattle.gx_policy.specs.declared.policy.Stock.{Stock}
 use Rattle.gx_policy.specs.Lists.{IsInOrder}
 use Rattle.gx_history.specs.declared.live_order.LiveOrder.{LiveOrder}
 use Rattle.gx_history.specs.declared.record.RecordData.{RecordData}
-use Rattle.gx_history.specs.Book.{is_buy_order, rested, resting}
-use Rattle.gx_history.specs.Executions.{Standing}
-use Rattle.gx_history.specs.LiveOrders.{kept}
+use Rattle.gx_history.specs.Book.{rested}
 use Rattle.gx_history.specs.Matching.{crosses}
-use Rattle.gx_history.specs.Turns.{ahead, is_there, live, live_numbered, side}
+use Rattle.gx_history.specs.Live.{ahead, is_buy_order, is_there, live, live_numbered, side}
 use Rattle.gx_history.specs.Verdicts.{IsLegal}
+use Rattle.gx_history_laws.proofs.Judging.{both}
 use Rattle.gx_history_laws.proofs.Numbers.{all_weaker}
 use Rattle.gx_effects.proofs.Entered.{all_mapped}
-use Rattle.gx_effects.proofs.Known as known
-use Rattle.gx_effects.proofs.Known.{RestsThere}
+use Rattle.gx_effects.proofs.Known.{RestsThere, all_resting}
 use Rattle.gx_effects.proofs.NeverCrossed.{never_crossed}
-use Rattle.gx_effects.proofs.NotLive.{all_and}
+use Rattle.gx_effects.proofs.Among.{all_and}
 use Rattle.gx_effects.proofs.Ordered.{ordered_by}
-use Rattle.gx_effects.proofs.Orderly.{IsOrderly, legal_is_orderly}
-use Rattle.gx_effects.proofs.Sides.{ahead_ranks}
-use Rattle.gx_effects.proofs.WorldKept.{side_is_kept}
+use Rattle.gx_effects.proofs.Orderly.{legal_is_orderly}
+use Rattle.gx_effects.proofs.Sides.{prices_rank}
 use Rattle.gx_book.specs.declared.resting.Resting.{Resting}
 use Rattle.gx_book.specs.Books.{is_sound_stock}
 use Rattle.gx_book.specs.Queue.{is_better, is_in_order}
@@ -44,7 +41,7 @@ not_ahead false o = le-ltb o.terms.price o.terms.price (omega arith)
 side_ordered : (policy : PolicyData) (history : List RecordData) (stock : Symbol) (buy : Bool) → IsInOrder (ahead buy) (side policy history stock buy)
 unfolding side
 side_ordered policy history stock buy =
-    ordered_by (ahead buy) (ahead_ranks buy) (not_ahead buy) [] (filter (is_there stock buy) (filter_map (live_numbered (live policy history)) (rested history))) tt
+    ordered_by (ahead buy) (prices_rank buy) (not_ahead buy) [] (filter (is_there stock buy) (filter_map (live_numbered (live policy history)) (rested history))) tt
 
 none_better : (buy : Bool) (o : LiveOrder) (os : List LiveOrder) → AllByRecursion (λ (x : LiveOrder). ahead buy x o ≡ false) os → list_all (λ (later : Resting). not (is_better buy later (resting_of o))) (map resting_of os) ≡ true
 none_better buy o [] h = refl
@@ -69,33 +66,24 @@ books_sound policy history legal = by policy.stocks
 
 -- ---- no buy crosses a sell
 
-below : (b s : Standing) → is_buy_order b.order ≡ true → crosses b.order s.order ≡ false → b.order.terms.price < s.order.terms.price
+below : (b s : LiveOrder) → is_buy_order b ≡ true → crosses b s ≡ false → b.terms.price < s.terms.price
 below b s buys apart =
-    leb-false s.order.terms.price b.order.terms.price
-    (sym (ap (λ (x : Bool). elim x [ true ↦ nat_le s.order.terms.price b.order.terms.price | false ↦ nat_le b.order.terms.price s.order.terms.price ]) buys) ∙ apart)
+    leb-false s.terms.price b.terms.price
+    (sym (ap (λ (x : Bool). elim x [ true ↦ nat_le s.terms.price b.terms.price | false ↦ nat_le b.terms.price s.terms.price ]) buys) ∙ apart)
 
--- an order that rests is above all that rest for sale
+-- an order that rests is below all that rest for sale
 abbrev IsBelowAll : List LiveOrder → LiveOrder → Type 0
 IsBelowAll sells b = AllByRecursion (λ (s : LiveOrder). b.terms.price < s.terms.price) sells
 
 sides_apart : (policy : PolicyData) (history : List RecordData) (stock : Symbol) → IsLegal policy history → AllByRecursion (IsBelowAll (side policy history stock false)) (side policy history stock true)
 sides_apart policy history stock legal =
-    subst (λ (sells : List LiveOrder). AllByRecursion (IsBelowAll sells) (side policy history stock true)) (sym (side_is_kept policy history stock false orderly))
-    (subst (AllByRecursion (IsBelowAll (map (kept policy history) sells))) (sym (side_is_kept policy history stock true orderly))
-    (all_mapped (IsBelowAll (map (kept policy history) sells)) (kept policy history) buys
-    (all_weaker (λ (b : Standing). RestsThere policy history stock true b × AllByRecursion (λ (x : Standing). crosses b.order x.order ≡ false) sells) (λ (b : Standing). IsBelowAll (map (kept policy history) sells) (kept policy history b))
-    (λ b h. all_mapped (λ (s : LiveOrder). b.order.terms.price < s.terms.price) (kept policy history) sells
-    (all_weaker (λ (x : Standing). crosses b.order x.order ≡ false) (λ (x : Standing). b.order.terms.price < x.order.terms.price) (λ x k. below b x h.0.there.of_side k) sells h.1)) buys
-    (all_and (RestsThere policy history stock true) (λ (b : Standing). AllByRecursion (λ (x : Standing). crosses b.order x.order ≡ false) sells) buys (known.all_resting policy history stock true orderly) (never_crossed policy history stock legal)))))
-  where
-    orderly : IsOrderly policy history
-    orderly = legal_is_orderly policy history legal
-
-    buys : List Standing
-    buys = resting policy history stock true
-
-    sells : List Standing
-    sells = resting policy history stock false
+    let buys : List LiveOrder = side policy history stock true in
+    let sells : List LiveOrder = side policy history stock false in
+    all_weaker (λ (b : LiveOrder). RestsThere policy history stock true b × AllByRecursion (λ (s : LiveOrder). crosses b s ≡ false) sells) (IsBelowAll sells)
+    (λ b h. all_weaker (λ (s : LiveOrder). crosses b s ≡ false) (λ (s : LiveOrder). b.terms.price < s.terms.price)
+    (λ s k. below b s (both (same_stock b.terms.stock stock) (is_buy_order b) h.0.there).1 k) sells h.1) buys
+    (all_and (RestsThere policy history stock true) (λ (b : LiveOrder). AllByRecursion (λ (s : LiveOrder). crosses b s ≡ false) sells) buys
+    (all_resting policy history stock true (legal_is_orderly policy history legal)) (never_crossed policy history legal stock))
 
 pub books_uncrossed : BooksAreUncrossed
 unfolding book_in_force

@@ -14,18 +14,20 @@ use Rattle.gx_policy.specs.declared.policy.PolicyData.{PolicyData}
 use Rattle.gx_policy.specs.Lists.{placed, where_true}
 use Rattle.gx_history.specs.declared.live_order.LiveOrder.{LiveOrder}
 use Rattle.gx_history.specs.declared.record.RecordData.{RecordData}
-use Rattle.gx_history.specs.Turns.{EndsAll, Rests, ahead, becomes, is_there, live, live_numbered, side, side_turned, while_open}
+use Rattle.gx_history.specs.Live.{ahead, is_there, live, live_numbered, side}
+use Rattle.gx_history.specs.Turns.{EndsAll, Rests, becomes, side_turned, while_open}
 use Rattle.gx_history.specs.Verdicts.{IsLegal}
 use Rattle.gx_history_laws.proofs.Names.{same_account_flip}
 use Rattle.gx_history_laws.proofs.Numbers.{all_weaker}
-use Rattle.gx_effects.proofs.Live.{filter_kept}
 use Rattle.gx_book.specs.declared.resting.Resting.{Resting}
 use Rattle.gx_book.specs.Queue as queue
 use Rattle.gx_book.specs.Queue.{is_same, no_orders, with_order, without_account, without_order}
 use Rattle.gx_market.specs.BookInForce.{book_in_force, rested_in}
 use Rattle.gx_market.specs.Changes.{ended_by, left_with, put_to_rest, resting_of, taken_out}
 use Rattle.gx_market.proofs.Booked.{each_side, no_side, one_side}
-use Rattle.gx_effects.proofs.Resting.{RestsThere, all_resting, same_order}
+use Rattle.gx_effects.proofs.Resting.{same_order}
+use Rattle.gx_effects.proofs.Known.{RestsThere, all_resting}
+use Rattle.gx_effects.proofs.Orderly.{legal_is_orderly}
 
 clash : {b : Bool} → b ≡ true → b ≡ false → ⊥
 clash h k = cc
@@ -61,13 +63,13 @@ sides_left : (policy : PolicyData) (before after : List RecordData) (f : LiveOrd
 sides_left policy before after f p stock buy legal turn each =
     ap (map resting_of) (turn stock buy)
     ∙ those_left f p (side policy before stock buy)
-    (all_weaker (RestsThere policy before stock buy) (λ (o : LiveOrder). option_map resting_of (f o) ≡ where_true (p (resting_of o)) (resting_of o)) each (side policy before stock buy) (all_resting policy before stock buy legal))
+    (all_weaker (RestsThere policy before stock buy) (λ (o : LiveOrder). option_map resting_of (f o) ≡ where_true (p (resting_of o)) (resting_of o)) each (side policy before stock buy) (all_resting policy before stock buy (legal_is_orderly policy before legal)))
 
 -- where the book holds of each that rests what it held, nothing changes
 pub book_stays : (policy : PolicyData) (before after : List RecordData) (f : LiveOrder → Option LiveOrder) → IsLegal policy before → SidesTurn policy before after f
     → ((o : LiveOrder) → live_numbered (live policy before) o.number ≡ Some o → o.waits ≡ false → option_map resting_of (f o) ≡ Some (resting_of o)) → book_in_force policy after ≡ book_in_force policy before
 book_stays policy before after f legal turn each =
-    no_side policy before after (λ stock buy. sides_left policy before after f (λ r. true) stock buy legal turn (λ o there. each o there.found there.rests) ∙ all_left (rested_in policy before stock buy))
+    no_side policy before after (λ stock buy. sides_left policy before after f (λ r. true) stock buy legal turn (λ o there. each o there.known.is_found there.rests) ∙ all_left (rested_in policy before stock buy))
 
 -- one order stays where it stands, or goes, and all others stay
 pub one_left : (policy : PolicyData) (before after : List RecordData) (f : LiveOrder → Option LiveOrder) (o : LiveOrder) (stays : Bool) → IsLegal policy before → SidesTurn policy before after f
@@ -86,7 +88,7 @@ one_left policy before after f o stays legal turn found itself others = by stays
     -- an order of one side is told from others by its number
     told : (stock : Symbol) (buy : Bool) (x : LiveOrder) → RestsThere policy before stock buy x → (b : Bool) → (x.number == o.number) ≡ b → (is_there stock buy o && is_same (resting_of o) (resting_of x)) ≡ b
     told stock buy x there true same =
-        subst (λ (y : LiveOrder). (is_there stock buy y && is_same (resting_of y) (resting_of x)) ≡ true) (it x there.found same)
+        subst (λ (y : LiveOrder). (is_there stock buy y && is_same (resting_of y) (resting_of x)) ≡ true) (it x there.known.is_found same)
         (ap (λ (b : Bool). b && is_same (resting_of x) (resting_of x)) there.there
         ∙ ap (λ (b : Bool). b && (x.terms.price == x.terms.price)) (eq-eqb x.number x.number refl)
         ∙ eq-eqb x.terms.price x.terms.price refl)
@@ -109,7 +111,7 @@ one_left policy before after f o stays legal turn found itself others = by stays
     by false e =
         one_side policy before after o.terms.stock o.terms.side (λ buy. without_order (resting_of o)) (λ stock buy.
         sides_left policy before after f (λ r. not (is_there stock buy o && is_same (resting_of o) r)) stock buy legal turn (λ x there.
-        becomes_so x there.found there.rests (x.number == o.number) refl
+        becomes_so x there.known.is_found there.rests (x.number == o.number) refl
         ∙ ap (λ (b : Bool). where_true (not (x.number == o.number) || b) (resting_of x)) e
         ∙ ap (λ (b : Bool). where_true b (resting_of x)) (or_not (not (x.number == o.number)) ∙ ap not (sym (told stock buy x there (x.number == o.number) refl))))
         ∙ home (rested_in policy before stock buy) (is_there stock buy o))
@@ -152,6 +154,13 @@ book_ends policy before after (actions.Unrestrict rule stock) legal turn = book_
 book_ends policy before after (actions.Grant reader account) legal turn = book_stays policy before after (becomes (EndsAll (actions.Grant reader account))) legal turn (λ o found rests. refl)
 book_ends policy before after (actions.Revoke reader account) legal turn = book_stays policy before after (becomes (EndsAll (actions.Revoke reader account))) legal turn (λ o found rests. refl)
 
+filter_of_map : {X Y : Type 0} (p : Y → Bool) (f : X → Y) (xs : List X) → filter p (map f xs) ≡ map f (filter (λ x. p (f x)) xs)
+filter_of_map p f [] = refl
+filter_of_map p f (x ∷ xs) =
+    ap (λ ys. cond (p (f x)) (f x ∷ ys) ys) (filter_of_map p f xs)
+    ∙ elim (p (f x)) as (λ b. cond b (f x ∷ map f (filter (λ y. p (f y)) xs)) (map f (filter (λ y. p (f y)) xs)) ≡ map f (cond b (x ∷ filter (λ y. p (f y)) xs) (filter (λ y. p (f y)) xs)))
+    [ true ↦ refl | false ↦ refl ]
+
 -- an order that comes to rest is placed on its side
 pub book_rests : (policy : PolicyData) (before after : List RecordData) (number : ℕ) (o : LiveOrder) → live_numbered (live policy before) number ≡ Some o
     → ((stock : Symbol) (buy : Bool) → side policy after stock buy ≡ side_turned (Rests number) (live policy before) stock buy (side policy before stock buy)) → book_in_force policy after ≡ put_to_rest o (book_in_force policy before)
@@ -169,6 +178,6 @@ book_rests policy before after number o found turn =
         placed_mapped p q same os x =
             ap (λ (test : LiveOrder → Bool). map resting_of (filter (λ y. not (test y)) os ++ x ∷ filter test os)) (same x)
             ∙ map-append resting_of (filter (λ y. not (q (resting_of x) (resting_of y))) os) (x ∷ filter (λ y. q (resting_of x) (resting_of y)) os)
-            ∙ ap (λ rs. rs ++ resting_of x ∷ map resting_of (filter (λ y. q (resting_of x) (resting_of y)) os)) (sym (filter_kept (λ r. not (q (resting_of x) r)) resting_of os))
-            ∙ ap (λ rs. filter (λ r. not (q (resting_of x) r)) (map resting_of os) ++ resting_of x ∷ rs) (sym (filter_kept (q (resting_of x)) resting_of os))
+            ∙ ap (λ rs. rs ++ resting_of x ∷ map resting_of (filter (λ y. q (resting_of x) (resting_of y)) os)) (sym (filter_of_map (λ r. not (q (resting_of x) r)) resting_of os))
+            ∙ ap (λ rs. filter (λ r. not (q (resting_of x) r)) (map resting_of os) ++ resting_of x ∷ rs) (sym (filter_of_map (q (resting_of x)) resting_of os))
     at buy os false = refl

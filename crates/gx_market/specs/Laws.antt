@@ -22,8 +22,9 @@ use Rattle.gx_book.specs.declared.resting.Resting.{Resting}
 use Rattle.gx_book.specs.Books.{StockOrders, all_orders, empty_book, is_sound_book, on_each_side, order_in, resting_in}
 use Rattle.gx_book.specs.Queue.{IsLatest, no_orders, without_account}
 use Rattle.gx_history.specs.declared.live_order.LiveOrder.{LiveOrder}
+use Rattle.gx_history.specs.Live.{live_under}
 use Rattle.gx_orders.specs.InForce.{orders_in_force}
-use Rattle.gx_orders.specs.LiveOrders.{first_waiting, order_numbered, order_under}
+use Rattle.gx_orders.specs.LiveOrders.{first_waiting, order_numbered}
 use Rattle.gx_market.specs.BookInForce.{book_in_force}
 use Rattle.gx_market.specs.Changes.{keeps_book, left_with, put_to_rest, resting_of, taken_out}
 use Rattle.gx_market.specs.Meeting.{match_record, next_met}
@@ -48,14 +49,14 @@ OthersKeepBook = (policy : PolicyData) (history : List RecordData) (a : Asked) (
 abbrev pub CancelsTakeShares : Type 0
 CancelsTakeShares = (policy : PolicyData) (history : List RecordData) (a : Asked) (r : RecordData) (m : CancelOrder) (o : LiveOrder)
     → IsLegal policy history → next policy history (steps.Asked a) ≡ Some r → a.request ≡ requests.Cancel m → r.verdict ≡ verdicts.Granted
-    → order_under (orders_in_force policy history).live a.user m.token ≡ Some o
+    → live_under (orders_in_force policy history).live a.user m.token ≡ Some o
     → book_in_force policy (history ++ r ∷ []) ≡ left_with o (m.shares - o.done) (book_in_force policy history)
 
 -- a granted Replace takes out the order that it names, if it rests
 abbrev pub ReplacesTakeOut : Type 0
 ReplacesTakeOut = (policy : PolicyData) (history : List RecordData) (a : Asked) (r : RecordData) (m : ReplaceOrder) (o : LiveOrder)
     → IsLegal policy history → next policy history (steps.Asked a) ≡ Some r → a.request ≡ requests.Replace m → r.verdict ≡ verdicts.Granted
-    → order_under (orders_in_force policy history).live a.user m.existing_token ≡ Some o
+    → live_under (orders_in_force policy history).live a.user m.existing_token ≡ Some o
     → book_in_force policy (history ++ r ∷ []) ≡ taken_out o (book_in_force policy history)
 
 -- a granted Kill takes out the orders of its account

@@ -1,34 +1,19 @@
 -- The next execution, by what is kept: the first that waits, against the best that rests on the other side of its stock.
-use Rattle.std.specs.Prelude.{ℕ, ◌+◌, length, ◌-◌, ◌==◌, Bool, true, false, not, nat_le, min, List, Option, Some, None, option_and_then, option_map}
-use Rattle.gx_history.specs.declared.record.Fill.{Fill}
+use Rattle.std.specs.Prelude.{ℕ, ◌+◌, length, not, List, Option, option_and_then, option_map, option_to_list}
 use Rattle.gx_history.specs.declared.record.RecordData.{RecordData}
 use Rattle.gx_history.specs.declared.record.Step.TheVariants as steps
 use Rattle.gx_history.specs.declared.record.Verdict.{Verdict}
-use Rattle.gx_history.specs.declared.record.Verdict.TheVariants as verdicts
 use Rattle.gx_history.specs.Book.{is_buy}
-use Rattle.gx_history.specs.OuchValues.{immediate_or_cancel}
 use Rattle.gx_history.specs.Verdicts.{moment_of}
 use Rattle.gx_book.specs.declared.resting.Resting.{Resting}
 use Rattle.gx_book.specs.Books.{StockOrders, best_in}
 use Rattle.gx_history.specs.declared.live_order.LiveOrder.{LiveOrder}
+use Rattle.gx_history.specs.Matching.{outcome}
 use Rattle.gx_orders.specs.LiveOrders.{OrdersData, first_waiting, order_numbered}
-
--- the buy is at or above the sell
-abbrev pub meets : LiveOrder → LiveOrder → Bool
-meets o best = elim (is_buy o.terms.side) [ true ↦ nat_le best.terms.price o.terms.price | false ↦ nat_le o.terms.price best.terms.price ]
-
--- an order that meets nothing rests, or ends where it is immediate-or-cancel
-abbrev pub unmet : LiveOrder → Verdict
-unmet o = elim (o.terms.time_in_force == immediate_or_cancel) [ true ↦ verdicts.Expired o.number | false ↦ verdicts.Rested o.number ]
-
--- both trade the lesser of their open shares, at the price of the one that rests
-abbrev pub fill_with : LiveOrder → LiveOrder → Fill
-fill_with o best = record { taker = o.number; maker = best.number; shares = min (o.total - o.done) (best.total - best.done); price = best.terms.price }
 
 -- what becomes of an order, over the best on the other side
 abbrev pub met : LiveOrder → Option LiveOrder → Verdict
-met o None = unmet o
-met o (Some best) = elim (meets o best) [ true ↦ verdicts.Filled (fill_with o best) | false ↦ unmet o ]
+met o best = outcome o (option_to_list best)
 
 -- the best that rests on the other side of its stock
 abbrev pub best_against : List StockOrders → List LiveOrder → LiveOrder → Option LiveOrder

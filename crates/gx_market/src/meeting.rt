@@ -2,7 +2,8 @@
 
 ghost use Rattle.std.specs.Prelude.{◌≡◌, not};
 ghost use Rattle.gx_history.specs.Book.{is_buy};
-ghost use Rattle.gx_market.specs.Meeting.{best_against, meets, met, unmet};
+ghost use Rattle.gx_history.specs.Matching.{crosses, unmatched};
+ghost use Rattle.gx_market.specs.Meeting.{best_against, met};
 
 use gx_book::book::Book;
 use gx_book::resting::is_buy;
@@ -45,7 +46,7 @@ fn opposite(side: u8) -> u8
 }
 
 fn meets(order: &LiveOrder, best: &LiveOrder) -> bool
-    ensures { result ≡ meets order.now best.now }
+    ensures { result ≡ crosses order.now best.now }
 {
     if is_buy(order.terms.side) {
         best.terms.price <= order.terms.price
@@ -55,7 +56,7 @@ fn meets(order: &LiveOrder, best: &LiveOrder) -> bool
 }
 
 fn unmet(order: &LiveOrder) -> Verdict
-    ensures { result ≡ unmet order.now }
+    ensures { result ≡ unmatched order.now }
 {
     if order.terms.time_in_force == IMMEDIATE_OR_CANCEL {
         Verdict::Expired(order.number)

@@ -1,6 +1,5 @@
 -- What each call leaves in the tables, and what it answers from them.
 use Rattle.std.proofs.Common.{◌≡◌, ℕ, ◌<◌, ◌≤◌, Bool, true, false, cond, List, [], ◌∷◌, ◌++◌, refl, ◌∙◌, sym, ap, subst, if◌then◌else◌, arith}
-use Rattle.std.specs.Option.{option_flatten}
 use Rattle.std.specs.Prelude.{Option, Some, None}
 use Rattle.std.specs.List.{last_or, AllByRecursion}
 use Rattle.std.specs.Map.{keys_of, lookup}
@@ -8,12 +7,12 @@ use Rattle.indexmap.specs.IndexMap as index
 use Rattle.std.proofs.lemmas.Bool.{ne_eqb, le-ltb}
 use Rattle.gx_units.specs.declared.names.Token.{Token}
 use Rattle.gx_units.specs.declared.names.UserName.{UserName}
-use Rattle.gx_history_laws.proofs.Order.{some_same}
 use Rattle.gx_history.specs.declared.live_order.LiveOrder.{LiveOrder}
 use Rattle.gx_history.specs.declared.live_order.UserToken.{UserToken}
 use Rattle.gx_history.specs.LiveOrders.{is_under, key, token_of}
+use Rattle.gx_history.specs.Live.{live_under}
 use Rattle.gx_slab.specs.Slabs as slabs
-use Rattle.gx_orders.specs.LiveOrders.{OrdersData, IsOpen, NumbersRise, at_rest, changed, is_used, open_ones, order_numbered, order_under, resized, resized_at, same_user_token, without}
+use Rattle.gx_orders.specs.LiveOrders.{OrdersData, IsOpen, NumbersRise, at_rest, changed, is_used, open_ones, order_numbered, resized, resized_at, same_user_token, without}
 use Rattle.gx_orders.specs.Tables.{AreTied, shown}
 use Rattle.gx_orders.proofs.Kept.{IsBelow, all_changed, changed_alike, changed_nowhere, found_has_number, none_shut, shut}
 use Rattle.gx_orders.proofs.Tying.{tied_entered, tied_resized}
@@ -24,16 +23,15 @@ abbrev pub checked : UserName → Token → Option LiveOrder → Option LiveOrde
 checked user token None = None
 checked user token (Some o) = if is_under user token o then Some o else None
 
-abbrev pub under_by : List LiveOrder → UserName → Token → Option (Option ℕ) → Option LiveOrder
+-- what is under the token, by the number that was put with it
+abbrev pub under_by : List LiveOrder → UserName → Token → Option ℕ → Option LiveOrder
 under_by live user token None = None
-under_by live user token (Some None) = None
-under_by live user token (Some (Some n)) = checked user token (order_numbered live n)
+under_by live user token (Some n) = checked user token (order_numbered live n)
 
-under_in : (live : List LiveOrder) (ts : List (UserToken × Option ℕ)) → AreTied live ts → (user : UserName) (token : Token) (found : Option (Option ℕ))
-    → lookup (same_user_token (key user token)) ts ≡ found → order_under live user token ≡ under_by live user token found
-under_in live ts t user token None at = nothing_under live ts user token t.all_indexed (λ n was. let no : None ≡ Some (Some n) = sym at ∙ was in cc)
-under_in live ts t user token (Some None) at = nothing_under live ts user token t.all_indexed (λ n was. let no : Some None ≡ Some (Some n) = sym at ∙ was in cc)
-under_in live ts t user token (Some (Some n)) at =
+under_in : (live : List LiveOrder) (ts : List (UserToken × ℕ)) → AreTied live ts → (user : UserName) (token : Token) (found : Option ℕ)
+    → lookup (same_user_token (key user token)) ts ≡ found → live_under live user token ≡ under_by live user token found
+under_in live ts t user token None at = nothing_under live ts user token t.all_indexed (λ n was. let no : None ≡ Some n = sym at ∙ was in cc)
+under_in live ts t user token (Some n) at =
     ap (last_or None) (under_found live ts user token n t.all_indexed t.rise at (order_numbered live n) refl)
     ∙ by (order_numbered live n)
   where
@@ -41,23 +39,9 @@ under_in live ts t user token (Some (Some n)) at =
     by None = refl
     by (Some o) = elim (is_under user token o) as (λ b. last_or None (if b then o ∷ [] else []) ≡ (if b then Some o else None)) [ true ↦ refl | false ↦ refl ]
 
-pub under_none : (live : List LiveOrder) (ts : List (UserToken × Option ℕ)) → AreTied live ts → (user : UserName) (token : Token) (found : Option (Option ℕ))
-    → lookup (same_user_token (key user token)) ts ≡ found → None ≡ option_flatten found → order_under live user token ≡ None
-under_none live ts t user token None at flat = under_in live ts t user token None at
-under_none live ts t user token (Some None) at flat = under_in live ts t user token (Some None) at
-under_none live ts t user token (Some (Some n)) at flat = cc
-
-under_some : (live : List LiveOrder) (ts : List (UserToken × Option ℕ)) → AreTied live ts → (user : UserName) (token : Token) (found : Option (Option ℕ))
-    → lookup (same_user_token (key user token)) ts ≡ found → (n : ℕ) → Some n ≡ option_flatten found → order_under live user token ≡ checked user token (order_numbered live n)
-under_some live ts t user token None at n flat = cc
-under_some live ts t user token (Some None) at n flat = cc
-under_some live ts t user token (Some (Some m)) at n flat =
-    under_in live ts t user token (Some (Some m)) at ∙ ap (λ (k : ℕ). checked user token (order_numbered live k)) (sym (some_same flat))
-
-pub under_now : (live : List LiveOrder) (ts : List (UserToken × Option ℕ)) → AreTied live ts → (now : OrdersData) → shown live ts ≡ now → (user : UserName) (token : Token) (found : Option (Option ℕ))
-    → lookup (same_user_token (key user token)) ts ≡ found → (n : ℕ) → Some n ≡ option_flatten found → (it : Option LiveOrder) → it ≡ order_numbered live n → checked user token it ≡ order_under now.live user token
-under_now live ts t now is user token found at n flat it numbered =
-    ap (checked user token) numbered ∙ sym (under_some live ts t user token found at n flat) ∙ ap (λ (d : OrdersData). order_under d.live user token) is
+pub under_now : (live : List LiveOrder) (ts : List (UserToken × ℕ)) → AreTied live ts → (now : OrdersData) → shown live ts ≡ now → (user : UserName) (token : Token) (found : Option ℕ)
+    → lookup (same_user_token (key user token)) ts ≡ found → under_by live user token found ≡ live_under now.live user token
+under_now live ts t now is user token found at = sym (under_in live ts t user token found at) ∙ ap (λ (d : OrdersData). live_under d.live user token) is
 
 -- an order written in its place
 pub written_is : (f : LiveOrder → LiveOrder) (n : ℕ) (o w : LiveOrder) (live : List LiveOrder) → NumbersRise live → order_numbered live n ≡ Some o → w ≡ f o → w.number ≡ o.number
@@ -82,22 +66,22 @@ pub nowhere : (f : LiveOrder → LiveOrder) (n : ℕ) (live : List LiveOrder) �
 nowhere f n live all none = sym (ap open_ones (changed_nowhere f n live none) ∙ none_shut live all)
 
 -- an order written with another size
-pub record IsResized (live : List LiveOrder) (ts : List (UserToken × Option ℕ)) (o : LiveOrder) (total done : ℕ) (now : List LiveOrder) : Type 0 where
+pub record IsResized (live : List LiveOrder) (ts : List (UserToken × ℕ)) (o : LiveOrder) (total done : ℕ) (now : List LiveOrder) : Type 0 where
   pub sized : now ≡ resized_at o.number total done live
   pub tied : AreTied now ts
 
-pub is_resized : (live : List LiveOrder) (ts : List (UserToken × Option ℕ)) (o : LiveOrder) (total done : ℕ) (now : List LiveOrder) → AreTied live ts → order_numbered live o.number ≡ Some o
+pub is_resized : (live : List LiveOrder) (ts : List (UserToken × ℕ)) (o : LiveOrder) (total done : ℕ) (now : List LiveOrder) → AreTied live ts → order_numbered live o.number ≡ Some o
     → now ≡ slabs.written (resized total done o) live → IsResized live ts o total done now
 is_resized live ts o total done now t found is =
     let sized : now ≡ resized_at o.number total done live = is ∙ written_is (resized total done) o.number o (resized total done o) live t.rise found refl refl in
     record { sized = sized; tied = subst (λ (os : List LiveOrder). AreTied os ts) (sym sized) (tied_resized o.number total done live ts t) }
 
 -- one more order, whose token is used now
-pub entered_tied : (live : List LiveOrder) (ts : List (UserToken × Option ℕ)) (o : LiveOrder) → AreTied live ts → IsOpen o → AllByRecursion (IsBelow o.number) live → is_used (keys_of ts) o.user o.token ≡ false
-    → (now : List LiveOrder) (tokens : List (UserToken × Option ℕ)) → now ≡ live ++ o ∷ [] → tokens ≡ ts ++ (token_of o, Some o.number) ∷ [] → AreTied now tokens
+pub entered_tied : (live : List LiveOrder) (ts : List (UserToken × ℕ)) (o : LiveOrder) → AreTied live ts → IsOpen o → AllByRecursion (IsBelow o.number) live → is_used (keys_of ts) o.user o.token ≡ false
+    → (now : List LiveOrder) (tokens : List (UserToken × ℕ)) → now ≡ live ++ o ∷ [] → tokens ≡ ts ++ (token_of o, o.number) ∷ [] → AreTied now tokens
 entered_tied live ts o t shares_open below new now tokens e k =
     subst (λ (os : List LiveOrder). AreTied os tokens) (sym e)
-    (subst (λ (ks : List (UserToken × Option ℕ)). AreTied (live ++ o ∷ []) ks) (sym k) (tied_entered live ts o t shares_open below new))
+    (subst (λ (ks : List (UserToken × ℕ)). AreTied (live ++ o ∷ []) ks) (sym k) (tied_entered live ts o t shares_open below new))
 
 -- no order has a number that is above all
 pub none_above : (n : ℕ) (live : List LiveOrder) → AllByRecursion (IsBelow n) live → order_numbered live n ≡ None
@@ -105,6 +89,6 @@ none_above n [] below = refl
 none_above n (o ∷ os) below =
     ap (λ (b : Bool). cond b (Some o) (order_numbered os n)) (ne_eqb o.number n (λ same. absurd (omega (arith, below.0)))) ∙ none_above n os below.1
 
-pub tokens_are : (ts now : List (UserToken × Option ℕ)) (user : UserName) (token : Token) (v : Option ℕ) → is_used (keys_of ts) user token ≡ false
+pub tokens_are : (ts now : List (UserToken × ℕ)) (user : UserName) (token : Token) (v : ℕ) → is_used (keys_of ts) user token ≡ false
     → now ≡ index.insert_entry same_user_token ts (key user token) v → now ≡ ts ++ (key user token, v) ∷ []
 tokens_are ts now user token v new e = e ∙ token_last ts (key user token) v (unused ts user token new)

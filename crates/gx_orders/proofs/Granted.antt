@@ -20,9 +20,9 @@ use Rattle.gx_orders.specs.InForce.{token_asked, token_used_by}
 use Rattle.gx_orders.specs.Changes.{denied_token}
 use Rattle.gx_orders.specs.Laws.{DenialsKeepOrders, EntersAreNew}
 use Rattle.std.proofs.lemmas.List.{append-nil}
-use Rattle.gx_history.specs.Turns.{live}
+use Rattle.gx_history.specs.Live.{live}
 use Rattle.gx_effects.proofs.Live.{live_stays}
-use Rattle.gx_orders.proofs.Turned.{all_stay}
+use Rattle.gx_effects.proofs.World.{all_stay}
 use Rattle.gx_orders.proofs.Staying.{data_is, live_within, used_then}
 use Rattle.gx_orders.proofs.Tokens.{granted_is_new, is_left, left_now}
 

@@ -9,5 +9,4 @@ pub mod Tokens
 pub mod Granted
 pub mod Cutting
 pub mod Matching
-pub mod Telling
 pub mod Turned

@@ -3,7 +3,7 @@ use Rattle.std.proofs.Common.{◌≡◌, ℕ, ◌+◌, ◌-◌, ◌<◌, ◌≤�
 use Rattle.std.proofs.Math.Nat.{min-le_left, min-le_right}
 use Rattle.std.specs.Prelude.{Option, Some, ◌||◌, ◌==◌, is_some, IfSome}
 use Rattle.std.specs.List.{AllByRecursion}
-use Rattle.std.proofs.lemmas.Bool.{le-ltb, ltb-false, ltb-true, eqb-true, eq-eqb, ne_eqb}
+use Rattle.std.proofs.lemmas.Bool.{le-ltb, ltb-false, eqb-true, eq-eqb, ne_eqb, lt-ltb}
 use Rattle.gx_history.specs.declared.live_order.LiveOrder.{LiveOrder}
 use Rattle.gx_history.specs.declared.record.Fill.{Fill}
 use Rattle.gx_history.specs.declared.record.Step.TheVariants as steps
@@ -11,14 +11,16 @@ use Rattle.gx_history.specs.declared.record.Verdict.TheVariants as verdicts
 use Rattle.gx_history.specs.Book.{is_buy}
 use Rattle.gx_history.specs.LiveOrders.{shares_open}
 use Rattle.gx_history.specs.MayMove.{MayFill}
-use Rattle.gx_history.specs.Turns.{live}
+use Rattle.gx_history.specs.Live.{live}
 use Rattle.gx_history.specs.World.{world}
 use Rattle.gx_history_laws.proofs.Order.{some_same}
-use Rattle.gx_effects.proofs.Live.{live_are_open}
+use Rattle.gx_history_laws.proofs.Ends.{live_have_open}
 use Rattle.gx_effects.proofs.Moving.{may_by}
 use Rattle.gx_effects.proofs.NewOrders.{found_is}
-use Rattle.gx_effects.proofs.Resting.{RestsThere, all_resting, does_not_rest, first_lives}
-use Rattle.gx_orders.specs.LiveOrders.{HasOpen, filled, filled_at, has_number, is_open, open_ones, order_numbered}
+use Rattle.gx_effects.proofs.Resting.{does_not_rest, first_lives}
+use Rattle.gx_effects.proofs.Known.{RestsThere, all_resting}
+use Rattle.gx_effects.proofs.Orderly.{legal_is_orderly}
+use Rattle.gx_orders.specs.LiveOrders.{HasOpen, filled, filled_at, has_number, is_open, open_ones, order_numbered, IsOpen}
 use Rattle.gx_orders.specs.Laws.{CanFill, FillsFit}
 
 -- a fill
@@ -112,14 +114,14 @@ fills_fit policy history handed r f legal left fills = fit (may_by policy histor
         let taker : LiveOrder = is.taker in
         let maker : LiveOrder = is.maker in
         let best : RestsThere policy history taker.terms.stock (not (is_buy taker.terms.side)) maker =
-        (subst (AllByRecursion (RestsThere policy history taker.terms.stock (not (is_buy taker.terms.side)))) is.is_best (all_resting policy history taker.terms.stock (not (is_buy taker.terms.side)) legal)).0 in
+        (subst (AllByRecursion (RestsThere policy history taker.terms.stock (not (is_buy taker.terms.side)))) is.is_best (all_resting policy history taker.terms.stock (not (is_buy taker.terms.side)) (legal_is_orderly policy history legal))).0 in
         let taker_is : f.taker ≡ taker.number = ap (λ (x : Fill). x.taker) is.is_theirs in
         let maker_is : f.maker ≡ maker.number = ap (λ (x : Fill). x.maker) is.is_theirs in
         let taker_there : order_numbered now f.taker ≡ Some taker = ap (order_numbered now) taker_is ∙ (first_lives policy history taker is.waiting legal is.comes_first).0.found in
-        let maker_there : order_numbered now f.maker ≡ Some maker = ap (order_numbered now) maker_is ∙ best.found in
-        let opens : (n : ℕ) (o : LiveOrder) → order_numbered now n ≡ Some o → is_open o ≡ true = λ n o found. found_is (λ (x : LiveOrder). is_open x ≡ true) (has_number n) now o (live_are_open policy history) found in
-        let they_differ : (f.taker == f.maker) ≡ false = ne_eqb f.taker f.maker (λ same. does_not_rest policy history taker is.waiting legal is.comes_first maker best.found best.rests (sym maker_is ∙ sym same ∙ taker_is)) in
-        let room : (o : LiveOrder) → f.shares ≤ shares_open o → is_open o ≡ true → HasOpen f.shares o = λ o few some. room_of f.shares o.total o.done few (ltb-true o.done o.total some) in
+        let maker_there : order_numbered now f.maker ≡ Some maker = ap (order_numbered now) maker_is ∙ best.known.is_found in
+        let opens : (n : ℕ) (o : LiveOrder) → order_numbered now n ≡ Some o → IsOpen o = λ n o found. found_is IsOpen (has_number n) now o (live_have_open policy history) found in
+        let they_differ : (f.taker == f.maker) ≡ false = ne_eqb f.taker f.maker (λ same. does_not_rest policy history taker is.waiting legal is.comes_first maker best.known.is_found best.rests (sym maker_is ∙ sym same ∙ taker_is)) in
+        let room : (o : LiveOrder) → f.shares ≤ shares_open o → IsOpen o → HasOpen f.shares o = λ o few some. room_of f.shares o.total o.done few some in
         let few : f.shares ≡ min (shares_open taker) (shares_open maker) = ap (λ (x : Fill). x.shares) is.is_theirs in
         record {
           sides_differ = they_differ;
@@ -127,6 +129,6 @@ fills_fit policy history handed r f legal left fills = fit (may_by policy histor
           maker_lives = ap is_some maker_there;
           taker_has_them = subst (λ (found : Option LiveOrder). IfSome found (HasOpen f.shares)) (sym taker_there)
               (room taker (subst (λ (n : ℕ). n ≤ shares_open taker) (sym few) (min-le_left (shares_open taker) (shares_open maker))) (opens f.taker taker taker_there));
-          maker_has_them = subst (λ (found : Option LiveOrder). IfSome found (HasOpen f.shares)) (sym (found_beside f.maker f.taker f.shares now maker they_differ (opens f.maker maker maker_there) maker_there))
+          maker_has_them = subst (λ (found : Option LiveOrder). IfSome found (HasOpen f.shares)) (sym (found_beside f.maker f.taker f.shares now maker they_differ (lt-ltb maker.done maker.total (opens f.maker maker maker_there)) maker_there))
               (room maker (subst (λ (n : ℕ). n ≤ shares_open maker) (sym few) (min-le_right (shares_open taker) (shares_open maker))) (opens f.maker maker maker_there));
         }

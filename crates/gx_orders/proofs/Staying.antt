@@ -22,7 +22,7 @@ use Rattle.gx_effects.proofs.Resting.{of_live}
 use Rattle.gx_history.specs.declared.live_order.LiveOrder.{LiveOrder}
 use Rattle.gx_history.specs.declared.live_order.UserToken.{UserToken}
 use Rattle.gx_history.specs.LiveOrders.{key}
-use Rattle.gx_history.specs.Turns.{live, open_now}
+use Rattle.gx_history.specs.Live.{live, open_now}
 use Rattle.gx_orders.specs.LiveOrders.{OrdersData}
 use Rattle.gx_orders.specs.InForce.{token_asked, token_used_by, used_tokens}
 use Rattle.gx_orders.specs.Laws.{AccountsAreTheUsers, NoneAtFirst}

@@ -22,8 +22,8 @@ use Rattle.gx_history.specs.Requests.{is_order, new_token}
 use Rattle.gx_policy.specs.RuleNames.{is_answered_rule, rules_before, rules_behind}
 use Rattle.gx_history.specs.Rules.{Rule, BuiltIn, OfFile, applies, first_forbidding, forbids, name_of, written_order}
 use Rattle.gx_history.specs.Verdicts.{facts_now, moment_of, next, rules_now, verdict, verdict_by}
-use Rattle.gx_history_laws.proofs.Granting.{granted_passes_before, left_by_request, verdict_left}
-use Rattle.gx_history_laws.proofs.Order.{none_among, some_same}
+use Rattle.gx_history_laws.proofs.Granting.{left_by_request, verdict_left, is_no_bar}
+use Rattle.gx_history_laws.proofs.Order.{some_same}
 use Rattle.gx_orders.specs.LiveOrders.{is_used}
 use Rattle.gx_orders.specs.InForce.{orders_in_force}
 use Rattle.gx_orders.specs.Laws.{DeniedTokensAreNew}
@@ -54,19 +54,13 @@ token_fact policy history a token under =
     ap (λ (b : Bool). b && option_map_or (is_token_used history a.user) (new_token a.request) false) (orders_have_tokens a.request token under)
     ∙ ap (λ (t : Option Token). option_map_or (is_token_used history a.user) t false) under
 
-token_is_no_bar : (policy : PolicyData) (history : List RecordData) (a : Asked) (r : RecordData)
-    → next policy history (steps.Asked a) ≡ Some r → r.verdict ≡ verdicts.Granted → forbids I1 (facts_now policy history a) a.request ≡ false
-unfolding rules_before
-token_is_no_bar policy history a r e grants =
-    none_among (λ (name : RuleName). forbids name (facts_now policy history a) a.request) (L1 ∷ L2 ∷ L3 ∷ G1 ∷ G2 ∷ G3 ∷ []) I1 (drop 7 rules_before) (granted_passes_before policy history a r e grants)
-
 -- the token of a granted request
 pub granted_is_new : (policy : PolicyData) (history : List RecordData) (a : Asked) (token : Token) → verdict policy history a ≡ verdicts.Granted → new_token a.request ≡ Some token
     → is_used (orders_in_force policy history).used a.user token ≡ false
 granted_is_new policy history a token grants under =
     used_is policy history a.user token
     ∙ sym (token_fact policy history a token under)
-    ∙ token_is_no_bar policy history a (left_now policy history a) (is_left policy history a) grants
+    ∙ is_no_bar policy history a (left_now policy history a) (is_left policy history a) grants I1
 
 found_that : (found : Option RuleName) (name : RuleName) → verdict_by found ≡ verdicts.Denied name → found ≡ Some name
 found_that None name h = cc

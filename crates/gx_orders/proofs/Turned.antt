@@ -3,7 +3,7 @@ use Rattle.std.proofs.Common.{◌≡◌, ℕ, ◌+◌, ◌<◌, Bool, true, fals
 use Rattle.std.specs.Prelude.{Option, Some, None, ◌||◌, ◌==◌, option_map}
 use Rattle.std.specs.Option.{option_map_or}
 use Rattle.std.specs.List.{AllByRecursion, cons_option, filter, filter_map}
-use Rattle.std.proofs.lemmas.Bool.{eq-eqb, eqb-true, ne_eqb}
+use Rattle.std.proofs.lemmas.Bool.{eq-eqb, eqb-true, ne_eqb, lt-ltb}
 use Rattle.std.proofs.lemmas.List.{append-nil}
 use Rattle.std.proofs.lemmas.List.Elements.{filter-append}
 use Rattle.gx_units.specs.Names.{same_token, same_user}
@@ -30,23 +30,24 @@ use Rattle.gx_history_laws.proofs.Adding.{found_passes, user_is}
 use Rattle.gx_history_laws.proofs.Judging.{both}
 use Rattle.gx_history_laws.proofs.Numbers.{number_left}
 use Rattle.gx_history_laws.proofs.Owners.{last_such_is}
+use Rattle.gx_history_laws.proofs.Ends.{live_have_open}
 use Rattle.gx_history.specs.Turns as turns
-use Rattle.gx_history.specs.Turns.{Turn, becomes, live, live_under, new_in, new_order, turn_asked, turn_by, turn_granted, turn_of, turned, while_open}
+use Rattle.gx_history.specs.Live.{live}
+use Rattle.gx_history.specs.Turns.{Turn, becomes, new_order, turned, while_open}
+use Rattle.gx_history.specs.World as moves
+use Rattle.gx_history.specs.World.{move_asked, move_granted, turn_by, turn_in, turn_of, world}
 use Rattle.gx_effects.proofs.Commanding.{command_of}
 use Rattle.gx_orders.proofs.Matching.{differ, fills_fit, in_turn}
-use Rattle.gx_effects.proofs.Live.{live_are_open, live_next}
+use Rattle.gx_effects.proofs.Live.{live_next}
 use Rattle.gx_effects.proofs.OrderRequests.{Grants, it_grants}
+use Rattle.gx_effects.proofs.World.{all_stay}
 use Rattle.gx_orders.specs.Changes.{is_lasting, keeps_orders, with_live}
 use Rattle.gx_orders.specs.InForce.{orders_in_force}
 use Rattle.gx_orders.specs.Laws.{CancelsAreKept, ClosesAreKept, EntersAreKept, ExpiriesAreKept, FillsAreKept, KillsAreKept, OthersKeepOrders, ReplacesAreKept, RestsAreKept}
-use Rattle.gx_orders.specs.LiveOrders.{at_rest, filled, has_number, is_open, open_ones, sized, without}
+use Rattle.gx_orders.specs.LiveOrders.{at_rest, filled, has_number, is_open, open_ones, sized, without, IsOpen}
 use Rattle.gx_orders.proofs.Staying.{data_is, live_within, no_verdict_uses, token_granted, used_stay, used_then}
 
 -- one lemma a word: what becomes of each, as a list
-pub all_stay : (os : List LiveOrder) → filter_map (λ (o : LiveOrder). Some o) os ≡ os
-all_stay [] = refl
-all_stay (o ∷ os) = ap (λ (more : List LiveOrder). o ∷ more) (all_stay os)
-
 those_go : (goes : LiveOrder → Bool) (os : List LiveOrder) → filter_map (λ (o : LiveOrder). cond (goes o) None (Some o)) os ≡ filter (λ (o : LiveOrder). not (goes o)) os
 those_go goes [] = refl
 those_go goes (o ∷ os) = ap (cons_option (cond (goes o) None (Some o))) (those_go goes os) ∙ at (goes o)
@@ -55,7 +56,7 @@ those_go goes (o ∷ os) = ap (cons_option (cond (goes o) None (Some o))) (those
     at true = refl
     at false = refl
 
-those_change : (changes : LiveOrder → Bool) (change : LiveOrder → LiveOrder) (os : List LiveOrder) → AllByRecursion (λ (o : LiveOrder). is_open o ≡ true) os
+those_change : (changes : LiveOrder → Bool) (change : LiveOrder → LiveOrder) (os : List LiveOrder) → AllByRecursion IsOpen os
     → filter_map (λ (o : LiveOrder). cond (changes o) (while_open (change o)) (Some o)) os ≡ open_ones (map (λ (o : LiveOrder). cond (changes o) (change o) o) os)
 those_change changes change [] h = refl
 those_change changes change (o ∷ os) h = ap (cons_option (cond (changes o) (while_open (change o)) (Some o))) (those_change changes change os h.1) ∙ at (changes o)
@@ -69,24 +70,24 @@ those_change changes change (o ∷ os) h = ap (cons_option (cond (changes o) (wh
 
     at : (b : Bool) → cons_option (cond b (while_open (change o)) (Some o)) rest ≡ cond (is_open (cond b (change o) o)) (cond b (change o) o ∷ rest) rest
     at true = shown (change o) (is_open (change o))
-    at false = ap (λ (b : Bool). cond b (o ∷ rest) rest) (sym h.0)
+    at false = ap (λ (b : Bool). cond b (o ∷ rest) rest) (sym (lt-ltb o.done o.total h.0))
 
 all_change : (f : LiveOrder → LiveOrder) (os : List LiveOrder) → filter_map (λ (o : LiveOrder). Some (f o)) os ≡ map f os
 all_change f [] = refl
 all_change f (o ∷ os) = ap (λ (more : List LiveOrder). f o ∷ more) (all_change f os)
 
 -- the live orders that are kept, after a record that does this
-live_turned : (policy : PolicyData) (history : List RecordData) (step : Step) (r : RecordData) (turn : Turn) → IsLegal policy history → next policy history step ≡ Some r → turn_of policy (live policy history) r ≡ turn
+live_turned : (policy : PolicyData) (history : List RecordData) (step : Step) (r : RecordData) (turn : Turn) → IsLegal policy history → next policy history step ≡ Some r → turn_of policy (world policy history) r ≡ turn
     → (orders_in_force policy (history ++ r ∷ [])).live ≡ turned turn (orders_in_force policy history).live
 live_turned policy history step r turn legal left is =
     live_next policy history step r legal left ∙ ap (λ (t : Turn). turned t (live policy history)) is
 
 -- what a granted request does
-pub turn_is : (policy : PolicyData) (history : List RecordData) (r : RecordData) (a : Asked) (q : Request) → Grants r a q → turn_of policy (live policy history) r ≡ turn_asked policy (live policy history) r a.user q
+pub turn_is : (policy : PolicyData) (history : List RecordData) (r : RecordData) (a : Asked) (q : Request) → Grants r a q → turn_of policy (world policy history) r ≡ turn_in (move_asked policy (world policy history) r a q)
 turn_is policy history r a q g =
-    ap (λ (v : Verdict). turn_by policy (live policy history) r v r.step) g.grants
-    ∙ ap (λ (s : Step). turn_granted policy (live policy history) r s) g.asks
-    ∙ ap (λ (x : Request). turn_asked policy (live policy history) r a.user x) g.is_for
+    ap (λ (v : Verdict). turn_by policy (world policy history) r v r.step) g.grants
+    ∙ ap (λ (s : Step). turn_in (move_granted policy (world policy history) r s)) g.asks
+    ∙ ap (λ (x : Request). turn_in (move_asked policy (world policy history) r a x)) g.is_for
 
 -- a granted Enter
 pub enters_more : EntersAreKept
@@ -94,7 +95,7 @@ enters_more policy history a r m account legal left enters grants his =
     let g : Grants r a (requests.Enter m) = it_grants policy history a r (requests.Enter m) left enters grants in
     data_is _ _
     (live_turned policy history (steps.Asked a) r (turns.Adds (new_order policy r a.user account m)) legal left
-    (turn_is policy history r a (requests.Enter m) g ∙ ap (λ (found : Option AccountName). option_map_or (λ (x : AccountName). turns.Adds (new_order policy r a.user x m)) found turns.Keeps) his)
+    (turn_is policy history r a (requests.Enter m) g ∙ ap (λ (found : Option AccountName). turn_in (option_map_or (λ (x : AccountName). moves.Adds (new_order policy r a.user x m)) found moves.Nothing)) his)
     ∙ ap (λ (os : List LiveOrder). os ++ new_order policy r a.user account m ∷ []) (all_stay (orders_in_force policy history).live))
     (used_then history r _ (token_granted r a (requests.Enter m) g))
 
@@ -129,9 +130,9 @@ cuts_one policy history a r m o legal left cancels grants named =
     data_is _ _
     (live_turned policy history (steps.Asked a) r (turns.Sizes o.number m.shares) legal left
     (turn_is policy history r a (requests.Cancel m) g
-    ∙ ap (λ (found : Option LiveOrder). option_map_or (λ (cut : LiveOrder). turns.Sizes cut.number m.shares) found turns.Keeps) named)
+    ∙ ap (λ (found : Option LiveOrder). turn_in (option_map_or (λ (cut : LiveOrder). moves.Sizes cut m.shares) found moves.Nothing)) named)
     ∙ append-nil _
-    ∙ those_change (has_number o.number) (sized m.shares) (orders_in_force policy history).live (live_are_open policy history))
+    ∙ those_change (has_number o.number) (sized m.shares) (orders_in_force policy history).live (live_have_open policy history))
     (used_stay history r (token_granted r a (requests.Cancel m) g))
 
 -- an order of another number that is entered first stays
@@ -150,7 +151,7 @@ replaces_one policy history a r m o legal left replaces grants named =
     data_is _ _
     (live_turned policy history (steps.Asked a) r (turns.Replaces o.number (replacement_order r m o)) legal left
     (turn_is policy history r a (requests.Replace m) g
-    ∙ ap (λ (found : Option LiveOrder). option_map_or (λ (old : LiveOrder). turns.Replaces old.number (replacement_order r m old)) found turns.Keeps) named)
+    ∙ ap (λ (found : Option LiveOrder). turn_in (option_map_or (λ (old : LiveOrder). moves.Replaces old (replacement_order r m old)) found moves.Nothing)) named)
     ∙ ap (λ (os : List LiveOrder). os ++ replacement_order r m o ∷ []) (those_go (has_number o.number) live_now)
     ∙ entered_first o.number live_now (replacement_order r m o) (ne_eqb r.number o.number (λ e. absurd (omega arith))))
     (used_then history r _ (token_granted r a (requests.Replace m) g)
@@ -175,7 +176,7 @@ becomes_alike f g same (o ∷ os) = ap (λ (x : Option LiveOrder). cons_option x
 pub rests_one : RestsAreKept
 rests_one policy history handed r number legal next_is rests =
     data_is _ _
-    (live_turned policy history (steps.Matching handed) r (turns.Rests number) legal next_is (ap (λ (v : Verdict). turn_by policy (live policy history) r v r.step) rests)
+    (live_turned policy history (steps.Matching handed) r (turns.Rests number) legal next_is (ap (λ (v : Verdict). turn_by policy (world policy history) r v r.step) rests)
     ∙ append-nil _
     ∙ becomes_alike (becomes (turns.Rests number)) (λ (o : LiveOrder). Some (cond (has_number number o) (at_rest o) o)) (λ o. ap (λ (b : Bool). Some (cond b (at_rest o) o)) (flipped number o.number)) (orders_in_force policy history).live
     ∙ all_change (λ (o : LiveOrder). cond (has_number number o) (at_rest o) o) (orders_in_force policy history).live)
@@ -184,14 +185,14 @@ rests_one policy history handed r number legal next_is rests =
 pub ends_one : ExpiriesAreKept
 ends_one policy history handed r number legal next_is expires =
     data_is _ _
-    (live_turned policy history (steps.Matching handed) r (turns.Ends number) legal next_is (ap (λ (v : Verdict). turn_by policy (live policy history) r v r.step) expires)
+    (live_turned policy history (steps.Matching handed) r (turns.Ends number) legal next_is (ap (λ (v : Verdict). turn_by policy (world policy history) r v r.step) expires)
     ∙ append-nil _
     ∙ becomes_alike (becomes (turns.Ends number)) (λ (o : LiveOrder). cond (has_number number o) None (Some o)) (λ o. ap (λ (b : Bool). cond {A = Option LiveOrder} b None (Some o)) (flipped number o.number)) (orders_in_force policy history).live
     ∙ those_go (has_number number) (orders_in_force policy history).live)
     (used_stay history r (no_verdict_uses r (ap uses_token expires)))
 
 -- what changes nothing
-live_stays : (policy : PolicyData) (history : List RecordData) (step : Step) (r : RecordData) → IsLegal policy history → next policy history step ≡ Some r → turn_of policy (live policy history) r ≡ turns.Keeps
+live_stays : (policy : PolicyData) (history : List RecordData) (step : Step) (r : RecordData) → IsLegal policy history → next policy history step ≡ Some r → turn_of policy (world policy history) r ≡ turns.Keeps
     → (orders_in_force policy (history ++ r ∷ [])).live ≡ (orders_in_force policy history).live
 live_stays policy history step r legal left is = live_turned policy history step r turns.Keeps legal left is ∙ append-nil _ ∙ all_stay (orders_in_force policy history).live
 
@@ -213,7 +214,7 @@ all_left action h (o ∷ os) =
 
 -- a Login, a Logout, or a command that ends no order
 quiet : (policy : PolicyData) (history : List RecordData) (a : Asked) (r : RecordData) (q : Request) → IsLegal policy history → next policy history (steps.Asked a) ≡ Some r → Grants r a q
-    → turn_asked policy (live policy history) r a.user q ≡ turns.Keeps → new_token q ≡ None → orders_in_force policy (history ++ r ∷ []) ≡ orders_in_force policy history
+    → turn_in (move_asked policy (world policy history) r a q) ≡ turns.Keeps → new_token q ≡ None → orders_in_force policy (history ++ r ∷ []) ≡ orders_in_force policy history
 quiet policy history a r q legal left g keeps none =
     data_is _ _ (live_stays policy history (steps.Asked a) r legal left (turn_is policy history r a q g ∙ keeps)) (used_stay history r (token_granted r a q g ∙ ap (option_map (key a.user)) none))
 
@@ -235,8 +236,8 @@ others_keep policy history a r legal left grants keeps = by a.request refl keeps
 pub fills_both : FillsAreKept
 fills_both policy history handed r f legal next_is fills =
     data_is _ _
-    (live_turned policy history (steps.Matching handed) r (turns.Fills f) legal next_is (ap (λ (v : Verdict). turn_by policy (live policy history) r v r.step) fills)
+    (live_turned policy history (steps.Matching handed) r (turns.Fills f) legal next_is (ap (λ (v : Verdict). turn_by policy (world policy history) r v r.step) fills)
     ∙ append-nil _
-    ∙ those_change (λ (o : LiveOrder). o.number == f.taker || o.number == f.maker) (filled f.shares) (orders_in_force policy history).live (live_are_open policy history)
+    ∙ those_change (λ (o : LiveOrder). o.number == f.taker || o.number == f.maker) (filled f.shares) (orders_in_force policy history).live (live_have_open policy history)
     ∙ in_turn f (differ f.taker f.maker (fills_fit policy history handed r f legal next_is fills).sides_differ) (orders_in_force policy history).live)
     (used_stay history r (no_verdict_uses r (ap uses_token fills)))

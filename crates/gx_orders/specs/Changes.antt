@@ -1,22 +1,13 @@
 -- What one more record does to the orders that are kept.
-use Rattle.std.specs.Prelude.{◌-◌, IfSome, IsFalse, Bool, true, false, List, [], ◌∷◌, ◌++◌, Option, None, option_map, option_to_list, if◌then◌else◌}
-use Rattle.gx_units.specs.declared.names.AccountName.{AccountName}
+use Rattle.std.specs.Prelude.{IfSome, IsFalse, Bool, true, false, List, [], ◌∷◌, ◌++◌, Option, None, option_map, option_to_list, if◌then◌else◌}
 use Rattle.gx_units.specs.declared.names.Token.{Token}
 use Rattle.gx_units.specs.declared.names.UserName.{UserName}
-use Rattle.gx_ouch.specs.declared.inbound.EnterOrder.{EnterOrder}
-use Rattle.gx_ouch.specs.declared.letters.CancelReason.TheVariants as cancels
-use Rattle.gx_ouch.specs.declared.outbound.Outbound.TheVariants as outbounds
 use Rattle.gx_desk.specs.declared.Action.{Action}
 use Rattle.gx_desk.specs.declared.Action.TheVariants as actions
-use Rattle.gx_policy.specs.declared.policy.PolicyData.{PolicyData}
 use Rattle.gx_history.specs.declared.record.Asked.{Asked}
-use Rattle.gx_history.specs.declared.record.RecordData.{RecordData}
 use Rattle.gx_history.specs.declared.record.Request.{Request}
 use Rattle.gx_history.specs.declared.record.Request.TheVariants as requests
 use Rattle.gx_policy.specs.declared.rule_name.RuleName.{RuleName}
-use Rattle.gx_history.specs.declared.report.Message.{Message}
-use Rattle.gx_history.specs.declared.report.Message.TheVariants as messages
-use Rattle.gx_history.specs.Orders.{entered}
 use Rattle.gx_history.specs.Requests.{new_token}
 use Rattle.gx_policy.specs.RuleNames.{is_answered_rule}
 use Rattle.gx_history.specs.declared.live_order.LiveOrder.{LiveOrder}
@@ -61,20 +52,3 @@ keeps_orders requests.Logout = true
 keeps_orders (requests.Unreadable m) = true
 keeps_orders (requests.Command c) = is_lasting c.action
 keeps_orders other = false
-
--- the order of a granted Enter: all its shares are open, and it waits
-abbrev pub waiting_order : PolicyData → RecordData → UserName → AccountName → EnterOrder → LiveOrder
-waiting_order policy r user account m = record {
-  number = r.number;
-  user = user;
-  account = account;
-  token = m.token;
-  terms = (entered policy r user account m).terms;
-  total = m.shares;
-  done = 0;
-  waits = true;
-}
-
--- the report of an order that an officer ended: Canceled, with what was open
-abbrev pub ended_message : LiveOrder → Message
-ended_message o = messages.Order (outbounds.Canceled (record { token = o.token; decrement = o.total - o.done; reason = cancels.Supervisory }))

@@ -1,36 +1,32 @@
 -- What the definitions say of every history, in the words of what is kept.
-use Rattle.std.specs.Prelude.{ℕ, ◌≡◌, ◌+◌, ◌-◌, ◌<◌, ◌≤◌, ◌&&◌, ◌==◌, is_some, length, IsTrue, IsFalse, IfSome, List, [], ◌∷◌, ◌++◌, map, option_map, Some, slice_get}
-use Rattle.std.specs.List.{AllByRecursion, filter}
+use Rattle.std.specs.Prelude.{ℕ, ◌≡◌, ◌+◌, ◌<◌, ◌==◌, is_some, length, IsTrue, IsFalse, IfSome, List, [], ◌∷◌, ◌++◌, Some}
+use Rattle.std.specs.List.{AllByRecursion}
 use Rattle.gx_units.specs.declared.names.AccountName.{AccountName}
 use Rattle.gx_units.specs.declared.names.Token.{Token}
 use Rattle.gx_units.specs.declared.names.UserName.{UserName}
 use Rattle.gx_ouch.specs.declared.inbound.CancelOrder.{CancelOrder}
 use Rattle.gx_ouch.specs.declared.inbound.EnterOrder.{EnterOrder}
 use Rattle.gx_ouch.specs.declared.inbound.ReplaceOrder.{ReplaceOrder}
-use Rattle.gx_desk.specs.declared.Action.{Action}
 use Rattle.gx_desk.specs.declared.Action.TheVariants as actions
 use Rattle.gx_policy.specs.declared.policy.PolicyData.{PolicyData}
 use Rattle.gx_history.specs.declared.record.Asked.{Asked}
 use Rattle.gx_history.specs.declared.record.Fill.{Fill}
 use Rattle.gx_history.specs.declared.record.RecordData.{RecordData}
-use Rattle.gx_history.specs.declared.record.Request.{Request}
 use Rattle.gx_history.specs.declared.record.Request.TheVariants as requests
 use Rattle.gx_policy.specs.declared.rule_name.RuleName.{RuleName}
 use Rattle.gx_history.specs.declared.record.Step.TheVariants as steps
 use Rattle.gx_history.specs.declared.record.Verdict.TheVariants as verdicts
-use Rattle.gx_history.specs.Asking.{live_named}
-use Rattle.gx_history.specs.Book.{incoming}
-use Rattle.gx_history.specs.Executions.{Standing, executions, done, live_orders}
-use Rattle.gx_history.specs.Orders.{ends_account, is_token_used, total}
+use Rattle.gx_history.specs.Orders.{is_token_used}
 use Rattle.gx_policy.specs.People.{account_of}
 use Rattle.gx_history.specs.Requests.{action_of}
-use Rattle.gx_history.specs.Streams.{ended}
 use Rattle.gx_history.specs.Verdicts.{next, verdict, IsLegal}
 use Rattle.gx_history.specs.declared.live_order.LiveOrder.{LiveOrder}
-use Rattle.gx_history.specs.LiveOrders.{kept, replacement_order}
-use Rattle.gx_orders.specs.LiveOrders.{OrdersData, AreBelow, HasOpen, at_rest, changed, cut_at, filled_at, first_waiting, is_of_user, is_used, of_others, order_numbered, order_under, waiting, without}
-use Rattle.gx_orders.specs.InForce.{order_named, orders_in_force}
-use Rattle.gx_orders.specs.Changes.{denied_token, ended_message, entering, keeps_orders, marking, waiting_order, with_live}
+use Rattle.gx_history.specs.LiveOrders.{replacement_order}
+use Rattle.gx_history.specs.Live.{live_under}
+use Rattle.gx_history.specs.Turns.{new_order}
+use Rattle.gx_orders.specs.LiveOrders.{OrdersData, AreBelow, HasOpen, at_rest, changed, cut_at, filled_at, is_used, of_others, order_numbered, without}
+use Rattle.gx_orders.specs.InForce.{orders_in_force}
+use Rattle.gx_orders.specs.Changes.{denied_token, entering, keeps_orders, marking, with_live}
 
 -- before any record there is no order and no used token
 abbrev pub NoneAtFirst : Type 0
@@ -41,40 +37,10 @@ abbrev pub UsedTokensAreKept : Type 0
 UsedTokensAreKept = (policy : PolicyData) (history : List RecordData) (user : UserName) (token : Token)
     → is_used (orders_in_force policy history).used user token ≡ is_token_used history user token
 
--- the live order that a request names is the one kept under the token
-abbrev pub NamedAreKept : Type 0
-NamedAreKept = (policy : PolicyData) (history : List RecordData) (user : UserName) (q : Request)
-    → option_map (kept policy history) (live_named policy history user q) ≡ order_named (orders_in_force policy history).live user q
-
--- those that wait are the incoming orders, in their order
-abbrev pub WaitingAreIncoming : Type 0
-WaitingAreIncoming = (policy : PolicyData) (history : List RecordData) → waiting (orders_in_force policy history).live ≡ map (kept policy history) (incoming policy history)
-
--- and the first that waits is the next to be matched
-abbrev pub FirstIsIncoming : Type 0
-FirstIsIncoming = (policy : PolicyData) (history : List RecordData)
-    → first_waiting (orders_in_force policy history).live ≡ option_map (kept policy history) (slice_get (incoming policy history) 0)
-
--- the open shares of a live order are its size less what its chain executed, and some
-abbrev pub OpenIsKept : Type 0
-OpenIsKept = (policy : PolicyData) (history : List RecordData)
-    → AllByRecursion (λ (s : Standing). (s.open_shares ≡ total history s.order - done (executions policy history) s.order) × (0 < s.open_shares)) (live_orders policy history)
-
 -- a live order is for the account that its user trades for
 abbrev pub AccountsAreTheUsers : Type 0
 AccountsAreTheUsers = (policy : PolicyData) (history : List RecordData)
     → AllByRecursion (λ (o : LiveOrder). account_of policy o.user ≡ Some o.account) (orders_in_force policy history).live
-
--- what a Kill or a Close Day tells a user of his orders is told from what is kept of them, in their order
-abbrev pub EndsAreTold : Type 0
-EndsAreTold = (policy : PolicyData) (history : List RecordData) (action : Action) (user : UserName)
-    → ended policy history action user
-    ≡ map ended_message (filter (λ (o : LiveOrder). is_of_user user o && ends_account o.account action) (orders_in_force policy history).live)
-
--- no more reports than he has live orders
-abbrev pub EndsAreFew : Type 0
-EndsAreFew = (policy : PolicyData) (history : List RecordData) (action : Action) (user : UserName)
-    → length (ended policy history action user) ≤ length (filter (is_of_user user) (orders_in_force policy history).live)
 
 -- a denial changes no live order, and uses the new token where its rule is one that is answered
 abbrev pub DenialsKeepOrders : Type 0
@@ -99,7 +65,7 @@ abbrev pub EntersAreKept : Type 0
 EntersAreKept = (policy : PolicyData) (history : List RecordData) (a : Asked) (r : RecordData) (m : EnterOrder) (account : AccountName)
     → IsLegal policy history → next policy history (steps.Asked a) ≡ Some r → a.request ≡ requests.Enter m → r.verdict ≡ verdicts.Granted
     → account_of policy a.user ≡ Some account
-    → orders_in_force policy (history ++ r ∷ []) ≡ entering (waiting_order policy r a.user account m) (orders_in_force policy history)
+    → orders_in_force policy (history ++ r ∷ []) ≡ entering (new_order policy r a.user account m) (orders_in_force policy history)
 
 -- of an order that may be entered by the next record: it has a number above all, and a token that was not used
 pub record IsNew (history : List RecordData) (before : OrdersData) (user : UserName) (token : Token) : Type 0 where
@@ -133,27 +99,27 @@ ClosesAreKept = (policy : PolicyData) (history : List RecordData) (a : Asked) (r
 abbrev pub CancelsAreKept : Type 0
 CancelsAreKept = (policy : PolicyData) (history : List RecordData) (a : Asked) (r : RecordData) (m : CancelOrder) (o : LiveOrder)
     → IsLegal policy history → next policy history (steps.Asked a) ≡ Some r → a.request ≡ requests.Cancel m → r.verdict ≡ verdicts.Granted
-    → order_under (orders_in_force policy history).live a.user m.token ≡ Some o
+    → live_under (orders_in_force policy history).live a.user m.token ≡ Some o
     → orders_in_force policy (history ++ r ∷ []) ≡ with_live (cut_at o.number m.shares (orders_in_force policy history).live) (orders_in_force policy history)
 
 -- and it names one
 abbrev pub CancelsNameOne : Type 0
 CancelsNameOne = (policy : PolicyData) (history : List RecordData) (a : Asked) (m : CancelOrder)
     → IsLegal policy history → a.request ≡ requests.Cancel m → verdict policy history a ≡ verdicts.Granted
-    → IsTrue (is_some (order_under (orders_in_force policy history).live a.user m.token))
+    → IsTrue (is_some (live_under (orders_in_force policy history).live a.user m.token))
 
 -- a granted Replace enters its own order, the last of those that wait, and ends the one that it names
 abbrev pub ReplacesAreKept : Type 0
 ReplacesAreKept = (policy : PolicyData) (history : List RecordData) (a : Asked) (r : RecordData) (m : ReplaceOrder) (o : LiveOrder)
     → IsLegal policy history → next policy history (steps.Asked a) ≡ Some r → a.request ≡ requests.Replace m → r.verdict ≡ verdicts.Granted
-    → order_under (orders_in_force policy history).live a.user m.existing_token ≡ Some o
+    → live_under (orders_in_force policy history).live a.user m.existing_token ≡ Some o
     → orders_in_force policy (history ++ r ∷ [])
     ≡ with_live (without o.number ((orders_in_force policy history).live ++ replacement_order r m o ∷ [])) (entering (replacement_order r m o) (orders_in_force policy history))
 
 -- the order that a granted Replace names is live and has executed less than the new size, and the new one is new
 pub record CanReplace (policy : PolicyData) (history : List RecordData) (user : UserName) (m : ReplaceOrder) : Type 0 where
-  pub names_one : IsTrue (is_some (order_under (orders_in_force policy history).live user m.existing_token))
-  pub has_shares : IfSome (order_under (orders_in_force policy history).live user m.existing_token) (λ (o : LiveOrder). o.done < m.shares)
+  pub names_one : IsTrue (is_some (live_under (orders_in_force policy history).live user m.existing_token))
+  pub has_shares : IfSome (live_under (orders_in_force policy history).live user m.existing_token) (λ (o : LiveOrder). o.done < m.shares)
   pub is_new : IsNew history (orders_in_force policy history) user m.replacement_token
 
 abbrev pub ReplacesAreNew : Type 0

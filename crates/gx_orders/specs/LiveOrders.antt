@@ -1,11 +1,11 @@
 -- The live orders, and what becomes of them.
-use Rattle.std.specs.Prelude.{IsTrue, ℕ, ◌+◌, ◌<◌, ◌≤◌, Bool, false, ◌&&◌, not, List, [], ◌∷◌, map, Option, if◌then◌else◌}
+use Rattle.std.specs.Prelude.{IsTrue, ℕ, ◌+◌, ◌<◌, ◌≤◌, Bool, false, ◌&&◌, not, List, [], ◌∷◌, map, if◌then◌else◌}
 use Rattle.std.specs.List.{filter, list_any, AllByRecursion}
 use Rattle.gx_units.specs.Names.{same_user, same_token}
 use Rattle.gx_units.specs.declared.names.Token.{Token}
 use Rattle.gx_units.specs.declared.names.UserName.{UserName}
-use Rattle.gx_history.specs.LiveOrders.{is_under, key, token_of}
-use Rattle.gx_policy.specs.Lists.{are_distinct, last_such}
+use Rattle.gx_history.specs.LiveOrders.{key, token_of}
+use Rattle.gx_policy.specs.Lists.{are_distinct}
 use Rattle.gx_history.specs.declared.live_order.LiveOrder.{LiveOrder}
 use Rattle.gx_history.specs.declared.live_order.UserToken.{UserToken}
 pub use Rattle.gx_slab.specs.Slabs.{is_open, has_number, order_numbered, first_waiting, open_ones, of_others}
@@ -15,17 +15,9 @@ pub record OrdersData : Type 0 where
   pub live : List LiveOrder
   pub used : List UserToken
 
--- the order of a user under a token
-abbrev pub order_under : List LiveOrder → UserName → Token → Option LiveOrder
-order_under live user token = last_such (is_under user token) live
-
 -- an order of the user
 abbrev pub is_of_user : UserName → LiveOrder → Bool
 is_of_user user o = same_user o.user user
-
--- the orders that wait to be matched
-abbrev pub waiting : List LiveOrder → List LiveOrder
-waiting live = filter (λ (o : LiveOrder). o.waits) live
 
 -- the same user, and the same token
 abbrev pub same_user_token : UserToken → UserToken → Bool

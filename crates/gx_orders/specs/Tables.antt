@@ -1,5 +1,5 @@
 -- How the tables of the live orders hang together.
-use Rattle.std.specs.Prelude.{◌≡◌, ℕ, ◌+◌, ◌-◌, ◌&&◌, List, length, Option, Some, unwrap_or, if◌then◌else◌}
+use Rattle.std.specs.Prelude.{◌≡◌, ℕ, ◌+◌, ◌-◌, ◌&&◌, List, length, Some, unwrap_or, if◌then◌else◌}
 use Rattle.std.specs.List.{filter, AllByRecursion}
 use Rattle.std.specs.Map.{keys_of, lookup}
 use Rattle.gx_units.specs.Names.{same_account, same_user}
@@ -11,15 +11,15 @@ use Rattle.gx_history.specs.LiveOrders.{token_of}
 use Rattle.gx_orders.specs.LiveOrders.{OrdersData, NumbersRise, IsOpen, is_of_user, same_user_token}
 
 -- what the tables stand for
-abbrev pub shown : List LiveOrder → List (UserToken × Option ℕ) → OrdersData
+abbrev pub shown : List LiveOrder → List (UserToken × ℕ) → OrdersData
 shown live tokens = record { live = live; used = keys_of tokens }
 
 -- the order is the one that was entered under its token
-abbrev pub IsIndexed : List (UserToken × Option ℕ) → LiveOrder → Type 0
-IsIndexed tokens o = lookup (same_user_token (token_of o)) tokens ≡ Some (Some o.number)
+abbrev pub IsIndexed : List (UserToken × ℕ) → LiveOrder → Type 0
+IsIndexed tokens o = lookup (same_user_token (token_of o)) tokens ≡ Some o.number
 
 -- the numbers rise, and each order has shares open and is found by its token
-pub record AreTied (live : List LiveOrder) (tokens : List (UserToken × Option ℕ)) : Type 0 where
+pub record AreTied (live : List LiveOrder) (tokens : List (UserToken × ℕ)) : Type 0 where
   pub rise : NumbersRise live
   pub all_open : AllByRecursion IsOpen live
   pub all_indexed : AllByRecursion (IsIndexed tokens) live
@@ -53,6 +53,6 @@ abbrev pub CountsNoMore : AccountName → List LiveOrder → (before after : Lis
 CountsNoMore account live before after = (user : UserName) → counted_of after user ≡ counted_of before user - account_orders_of user account live
 
 -- the tables hang together, and each user's orders are counted
-pub record AreHeld (live : List LiveOrder) (tokens : List (UserToken × Option ℕ)) (counts : List (UserName × ℕ)) : Type 0 where
+pub record AreHeld (live : List LiveOrder) (tokens : List (UserToken × ℕ)) (counts : List (UserName × ℕ)) : Type 0 where
   pub tied : AreTied live tokens
   pub counted : AreCounted counts live

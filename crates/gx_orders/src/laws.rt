@@ -1,17 +1,11 @@
 //! Laws of the definitions, each as what a function without a body ensures.
 
-ghost use Rattle.gx_orders.specs.Laws.{AccountsAreTheUsers, CancelsAreKept, CancelsNameOne, ClosesAreKept, DeniedTokensAreNew, DenialsKeepOrders, EndsAreFew, EndsAreTold, EntersAreKept, EntersAreNew, ExpiriesAreKept, FillsAreKept, FillsFit, FirstIsIncoming, KillsAreKept, NamedAreKept, NoneAtFirst, OpenIsKept, OthersKeepOrders, ReplacesAreKept, ReplacesAreNew, RestsAreKept, UsedTokensAreKept, WaitingAreIncoming};
+ghost use Rattle.gx_orders.specs.Laws.{AccountsAreTheUsers, CancelsAreKept, CancelsNameOne, ClosesAreKept, DeniedTokensAreNew, DenialsKeepOrders, EntersAreKept, EntersAreNew, ExpiriesAreKept, FillsAreKept, FillsFit, KillsAreKept, NoneAtFirst, OthersKeepOrders, ReplacesAreKept, ReplacesAreNew, RestsAreKept, UsedTokensAreKept};
 
-/// What is kept answers what the rules and the matching ask of the records, and what a Kill or a Close Day tells.
+/// What is kept answers what the rules ask of the used tokens, and each live order is for its user's account.
 pub fn what_is_kept_answers()
     ensures used { UsedTokensAreKept }
-    ensures named { NamedAreKept }
-    ensures waiting { WaitingAreIncoming }
-    ensures first { FirstIsIncoming }
-    ensures left { OpenIsKept }
     ensures accounts { AccountsAreTheUsers }
-    ensures told { EndsAreTold }
-    ensures few { EndsAreFew }
 {}
 
 /// Before any record there is nothing; then each request changes what is kept by its verdict.

@@ -3,8 +3,9 @@
 ghost use Rattle.std.specs.Prelude.{◌≡◌, ◌<◌, length, [], ◌∷◌, ◌++◌, Some, OnOk, OnErr, IfSome, IsTrue, IsFalse};
 ghost use Rattle.std.specs.List.{filter};
 ghost use Rattle.gx_history.specs.LiveOrders.{key, token_of};
+ghost use Rattle.gx_history.specs.Live.{live_under};
 ghost use Rattle.gx_orders.specs.Changes.{IsUnused, marked_by};
-ghost use Rattle.gx_orders.specs.LiveOrders.{AreBelow, AreSound, HasOpen, at_rest, changed, cut_at, filled_at, first_waiting, is_of_user, is_used, of_others, order_numbered, order_under, resized_at, without};
+ghost use Rattle.gx_orders.specs.LiveOrders.{AreBelow, AreSound, HasOpen, at_rest, changed, cut_at, filled_at, first_waiting, is_of_user, is_used, of_others, order_numbered, resized_at, without};
 
 use crate::counts::{count_in, count_no_more, count_one_less, count_one_more};
 use crate::request_tokens::denied_token;
@@ -24,8 +25,8 @@ use std::marker::Model;
 #[derive(Drop)]
 pub struct Orders {
     table: Table,
-    /// Each used token, with the number of the order that was entered under it, if one was.
-    tokens: IndexMap<UserToken, Option<u64>, Seed>,
+    /// Each used token, with the number of the order that was entered under it. Where none was, it says nothing.
+    tokens: IndexMap<UserToken, u64, Seed>,
     /// How many live orders each user has; one who never had any has no entry.
     counts: IndexMap<UserName, usize>,
 }
@@ -80,13 +81,9 @@ impl Orders {
 
     /// The user's live order under the token.
     pub fn under(&self, user: UserName, token: Token) -> Option<LiveOrder>
-        ensures { result ≡ order_under self.now.live user token }
+        ensures { result ≡ live_under self.now.live user token }
     {
-        let number = self
-            .tokens
-            .get(&UserToken { user, token })
-            .copied()
-            .flatten()?;
+        let number = *self.tokens.get(&UserToken { user, token })?;
         let order = self.table.get(number)?;
         if order.is_under(user, token) {
             Some(*order)
@@ -128,7 +125,7 @@ impl Orders {
         self.tokens.reserve(1)?;
         self.counts.reserve(1)?;
         self.table.push(order)?;
-        self.tokens.insert(order.user_token(), Some(order.number))?;
+        self.tokens.insert(order.user_token(), order.number)?;
         count_one_more(&mut self.counts, order.user)?;
         Ok(())
     }
@@ -139,7 +136,7 @@ impl Orders {
         ensures used { OnOk result (self.new.used ≡ self.old.used ++ key user token ∷ []) }
         ensures unchanged { OnErr result (self.new ≡ self.old) }
     {
-        self.tokens.insert(UserToken { user, token }, None)?;
+        self.tokens.insert(UserToken { user, token }, 0)?;
         Ok(())
     }
 

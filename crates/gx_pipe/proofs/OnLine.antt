@@ -1,9 +1,8 @@
 -- A user who is on is logged in on line 1 of the gate, wherever a run stops; so no gate denies his Logout.
-use Rattle.std.proofs.Common.{◌≡◌, ℕ, max, Bool, true, false, cond, List, [], ◌∷◌, ◌++◌, map, Option, Some, None, refl, sym, ap, ◌∙◌, append_assoc, append-nil}
-use Rattle.std.specs.Prelude.{fold, not, ◌&&◌, ◌||◌, option_map, option_and_then, unwrap_or}
-use Rattle.std.specs.List.{list_any, AllByRecursion}
+use Rattle.std.proofs.Common.{◌≡◌, ℕ, max, Bool, true, false, cond, List, [], ◌∷◌, ◌++◌, Option, Some, None, refl, sym, ap, ◌∙◌, append_assoc, append-nil}
+use Rattle.std.specs.Prelude.{fold, not, option_map, option_and_then, unwrap_or}
+use Rattle.std.specs.List.{AllByRecursion}
 use Rattle.std.specs.Option.{option_map_or, option_or}
-use Rattle.std.proofs.lemmas.List.Folds.{list_any-append}
 use Rattle.gx_units.specs.Spelling.{folded_user}
 use Rattle.gx_units.specs.declared.names.SessionName.{SessionName}
 use Rattle.gx_units.specs.declared.names.UserName.{UserName}
@@ -16,9 +15,6 @@ use Rattle.gx_soup.specs.declared.packet.LoginRequest.{LoginRequest}
 use Rattle.gx_soup.specs.declared.packet.ClientPacket.{ClientPacket}
 use Rattle.gx_soup.specs.declared.packet.ClientPacket.TheVariants as client
 use Rattle.gx_soup.specs.Packets.{packets_of}
-use Rattle.gx_history.specs.declared.facts.Facts.{Facts}
-use Rattle.gx_history.specs.declared.facts.RuleFigures.{RuleFigures}
-use Rattle.gx_policy.specs.declared.policy.FileRule.{FileRule}
 use Rattle.gx_policy.specs.declared.policy.PolicyData.{PolicyData}
 use Rattle.gx_history.specs.declared.record.Asked.{Asked}
 use Rattle.gx_history.specs.declared.record.RecordData.{RecordData}
@@ -27,17 +23,14 @@ use Rattle.gx_history.specs.declared.record.Step.{Step}
 use Rattle.gx_history.specs.declared.record.Step.TheVariants as steps
 use Rattle.gx_history.specs.declared.record.Verdict.{Verdict}
 use Rattle.gx_history.specs.declared.record.Verdict.TheVariants as verdicts
-use Rattle.gx_history.specs.Asking.{facts, is_on_line}
 use Rattle.gx_history.specs.InForce.{is_closed, line_by, line_of, login_or_logout_of}
 use Rattle.gx_history.specs.Payloads.{asked_by as meant_by, request_of, unreadable}
-use Rattle.gx_policy.specs.People.{covers}
 use Rattle.gx_history.specs.Requests.{asked, is_granted}
-use Rattle.gx_policy.specs.RuleNames.{rules_before, rules_behind}
-use Rattle.gx_history.specs.Rules.{Rule, BuiltIn, OfFile, applies, written_order}
-use Rattle.gx_history.specs.Verdicts.{facts_now, rules_now, verdict}
+use Rattle.gx_policy.specs.Lists.{where_true}
+use Rattle.gx_history.specs.Verdicts.{verdict}
 use Rattle.gx_history_laws.proofs.Logouts.{logouts_are_granted}
 use Rattle.gx_history_laws.proofs.NextInForce.{line_of_next}
-use Rattle.gx_effects.proofs.Lines.{login_takes_effect}
+use Rattle.gx_history_laws.proofs.Adding.{granted_is, user_is_itself}
 use Rattle.gx_effects.proofs.Settling.{settled_adds}
 use Rattle.gx_answers.specs.Gates.{GateData}
 use Rattle.gx_answers.specs.Asking.{asked_by, stepped}
@@ -132,7 +125,9 @@ unfolding left_of
 granted_login gate moment login granted =
     let a : Asked = login_asked_at gate moment login in
     after_step_is gate a (folded_user login.user)
-    ∙ (login_takes_effect gate.policy gate.records a (left_of gate a) _ (left_is gate a) refl granted).line_now
+    ∙ line_of_next gate.records (left_of gate a) a.user
+    ∙ ap (λ (found : Option Asked). unwrap_or (put_by a.user found) (line_of gate.records a.user)) (granted_is (left_of gate a) a refl granted)
+    ∙ ap (λ b. unwrap_or (where_true b (Some a.line)) (line_of gate.records a.user)) (user_is_itself a.user)
 
 accepted_by : (gate : GateData) (moment : ℕ) (login : LoginRequest) (name : SessionName) (from : ℕ) (v : Verdict)
     → verdict gate.policy gate.records (login_asked_at gate moment login) ≡ v

@@ -29,13 +29,11 @@ use Rattle.gx_history.specs.Asking.{facts}
 use Rattle.gx_history.specs.Logins.{first_wanted}
 use Rattle.gx_history.specs.Payloads.{request_of}
 use Rattle.gx_history.specs.Requests.{asked}
-use Rattle.gx_policy.specs.RuleNames.{rules_before}
 use Rattle.gx_history.specs.Rules.{forbids}
 use Rattle.gx_history.specs.Streams.{stream, reports_of}
 use Rattle.gx_history.specs.Verdicts.{next, verdict, facts_now, moment_of}
-use Rattle.gx_history_laws.proofs.Granting.{granted_passes_before, left_by_request}
+use Rattle.gx_history_laws.proofs.Granting.{left_by_request, is_no_bar}
 use Rattle.gx_history_laws.proofs.NextReports.{stream_next}
-use Rattle.gx_history_laws.proofs.Order.{none_among}
 use Rattle.gx_history_laws.proofs.Owners.{all_both}
 use Rattle.gx_effects.proofs.Settling.{settled_adds}
 use Rattle.gx_answers.specs.Gates.{GateData}
@@ -172,10 +170,8 @@ second_true true b h = h
 second_true false b h = cc
 
 no_bar : (gate : GateData) (a : Asked) → verdict gate.policy gate.records a ≡ verdicts.Granted → forbids L3 (facts_now gate.policy gate.records a) a.request ≡ false
-unfolding rules_before left_of
-no_bar gate a granted =
-    none_among (λ (name : RuleName). forbids name (facts_now gate.policy gate.records a) a.request) (L1 ∷ L2 ∷ []) L3 (drop 3 rules_before)
-    (granted_passes_before gate.policy gate.records a (left_of gate a) (left_is gate a) granted)
+unfolding left_of
+no_bar gate a granted = is_no_bar gate.policy gate.records a (left_of gate a) (left_is gate a) granted L3
 
 -- a login that is granted asked for a report that is there, or for the next one
 number_is_there : (gate : GateData) (moment : ℕ) (login : LoginRequest) → verdict gate.policy gate.records (login_asked_at gate moment login) ≡ verdicts.Granted

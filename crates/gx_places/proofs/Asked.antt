@@ -1,14 +1,10 @@
 -- What a request's record tells, and what is kept for users behind it.
-use Rattle.std.proofs.Common.{◌≡◌, ℕ, ◌+◌, ◌≤◌, arith, true, false, not, Bool, List, [], ◌∷◌, ◌++◌, length, length-append, refl, ◌∙◌, ap, sym, cond, map, subst}
-use Rattle.std.specs.Prelude.{Option, Some, None, is_some, option_to_list, ◌&&◌, ◌-◌, ◌==◌}
+use Rattle.std.proofs.Common.{◌≡◌, ℕ, ◌+◌, ◌≤◌, arith, true, false, Bool, List, [], ◌∷◌, ◌++◌, length, length-append, refl, ◌∙◌, ap, sym, cond, map, subst}
 use Rattle.std.specs.List.{filter, flat_map}
 use Rattle.std.proofs.lemmas.List.{append-nil, append_cancel_left, length-map}
-use Rattle.gx_units.specs.Names.{same_token, same_user}
 use Rattle.gx_units.specs.declared.names.AccountName.{AccountName}
 use Rattle.gx_units.specs.declared.names.UserName.{UserName}
-use Rattle.gx_ouch.specs.declared.inbound.CancelOrder.{CancelOrder}
 use Rattle.gx_ouch.specs.declared.inbound.EnterOrder.{EnterOrder}
-use Rattle.gx_ouch.specs.declared.inbound.ReplaceOrder.{ReplaceOrder}
 use Rattle.gx_ouch.specs.declared.letters.CancelReason.TheVariants as cancels
 use Rattle.gx_desk.specs.declared.Action.{Action}
 use Rattle.gx_desk.specs.declared.Action.TheVariants as actions
@@ -17,7 +13,6 @@ use Rattle.gx_desk.specs.declared.Command.{Command}
 use Rattle.gx_policy.specs.declared.policy.PolicyData.{PolicyData}
 use Rattle.gx_policy.specs.declared.policy.User.{User}
 use Rattle.gx_history.specs.declared.record.Asked.{Asked}
-use Rattle.gx_history.specs.declared.record.Fill.{Fill}
 use Rattle.gx_history.specs.declared.record.RecordData.{RecordData}
 use Rattle.gx_history.specs.declared.record.Request.{Request}
 use Rattle.gx_history.specs.declared.record.Request.TheVariants as requests
@@ -26,68 +21,63 @@ use Rattle.gx_history.specs.declared.record.Step.TheVariants as steps
 use Rattle.gx_history.specs.declared.record.Verdict.{Verdict}
 use Rattle.gx_history.specs.declared.record.Verdict.TheVariants as verdicts
 use Rattle.gx_history.specs.declared.report.Message.{Message}
-use Rattle.gx_history.specs.Effects.{ChangesLine, CutsOrder, DeniesRequest, ReplacesOrder, TakesEffect, replacement, shares_left, still_open, whole_order}
-use Rattle.gx_history.specs.Executions.{Standing, live_orders}
 use Rattle.gx_history.specs.InForce.{line_of}
-use Rattle.gx_history.specs.Matched.{ExpiresOrder, FillsOrders, RestsOrder, left_by_fill}
-use Rattle.gx_history.specs.Orders.{entered}
-use Rattle.gx_policy.specs.People.{is_trader, role_in, user_in}
 use Rattle.gx_history.specs.Reasons.{denial_code}
-use Rattle.gx_history.specs.Requests.{is_judged, is_unreadable}
-use Rattle.gx_history.specs.Streams.{accepted, answer, canceled, granted_code, day_end, ended, rejected, replaced, reported, reports_of, reports_of_denial, stream, to_user}
 use Rattle.gx_history.specs.Verdicts.{IsLegal, next}
 use Rattle.gx_history_laws.proofs.Adding.{found_passes, user_is}
 use Rattle.gx_history_laws.proofs.Granting.{asked_is_judged}
 use Rattle.gx_history_laws.proofs.Judging.{both}
 use Rattle.gx_history_laws.proofs.NextReports.{stream_next}
-use Rattle.gx_effects.proofs.Commanding.{GrantsCommand, grants_the_command, told_by_command}
-use Rattle.gx_effects.proofs.Cutting.{cancel_takes_effect}
-use Rattle.gx_effects.proofs.Effects.{is_told}
-use Rattle.gx_effects.proofs.Expiries.{end_takes_effect}
-use Rattle.gx_effects.proofs.Fills.{fill_takes_effect}
-use Rattle.gx_effects.proofs.Killing.{kill_takes_effect}
-use Rattle.gx_effects.proofs.Lines.{login_takes_effect, logout_takes_effect}
-use Rattle.gx_effects.proofs.Orderly.{legal_is_orderly}
-use Rattle.gx_effects.proofs.Replacing.{replace_takes_effect}
-use Rattle.gx_effects.proofs.Rests.{rest_takes_effect}
-use Rattle.gx_effects.proofs.Settling.{not_judged}
-use Rattle.gx_effects.proofs.Taking.{takes_effect}
-use Rattle.gx_effects.proofs.Moving.{unreadable_is_denied}
 use Rattle.gx_day.proofs.Answering.{unknown_on_no_line}
-use Rattle.gx_places.specs.Places.{concerns_many, enough_places, has_kept_places, is_alive, is_of_user, is_on, kills_left, most_record_places, orders_held, record_places, report_places}
-use Rattle.gx_places.proofs.Counting.{fewer_left, fewer_open, fewer_pass, most_pass, one_less_passes, one_more_last}
-use Rattle.gx_places.proofs.Held.{held_and_ended}
-use Rattle.gx_places.proofs.Kills.{Kills, StayKilled, command_lifts_none, fewer_alive, fewer_kills_left, kill_finds, lifts, no_more_kills, none_lifted, one_kill_less, one_less_alive, was_on}
+use Rattle.std.specs.Prelude.{Option, Some, None, is_some, option_to_list, ◌-◌}
+use Rattle.std.specs.Option.{option_map_or}
+use Rattle.gx_units.specs.Names.{same_token, same_user}
+use Rattle.gx_units.specs.declared.names.Token.{Token}
+use Rattle.gx_desk.specs.declared.AnswerCode.TheVariants as codes
+use Rattle.gx_history.specs.declared.live_order.LiveOrder.{LiveOrder}
+use Rattle.gx_history.specs.declared.record.Step.{Step}
+use Rattle.gx_history.specs.InForce.{kill_after}
+use Rattle.gx_history.specs.Live.{live_under}
+use Rattle.gx_history.specs.LiveOrders.{is_under, replacement_order, shares_open}
+use Rattle.gx_history.specs.Requests.{is_judged}
+use Rattle.gx_history.specs.Streams.{answer, canceled_of, day_end, ended_of, lift_code, rejected, replaced_of, reported, reports_of, reports_of_denial, stream, to_user}
+use Rattle.gx_history.specs.Turns as turns
+use Rattle.gx_history.specs.Turns.{new_order}
+use Rattle.gx_history.specs.World.{Move, World, Nothing, Denies, Adds, Sizes, Replaces, accepted_of, commanded, move_asked, move_by, moved, world}
+use Rattle.gx_history_laws.proofs.Adding.{user_is_itself}
+use Rattle.gx_history_laws.proofs.Runs.{step_left}
+use Rattle.gx_effects.proofs.ByKind.{denials_tell_who_asked, granted_world, kills_leave_the_others, logouts_put_off}
+use Rattle.gx_effects.proofs.World.{world_next}
+use Rattle.gx_policy.specs.People.{account_of, is_trader, role_in, user_in}
+use Rattle.gx_places.specs.Places.{concerns_many, enough_places, has_kept_places, is_alive, is_on, kills_left, most_record_places, orders_held, record_places, report_places}
+use Rattle.gx_places.proofs.Counting.{fewer_pass, most_pass, one_less_passes}
+use Rattle.gx_places.proofs.Held.{held_and_ended, held_turned, his_of}
+use Rattle.gx_places.proofs.Kills.{Kills, StayKilled, commands_lift_none, fewer_alive, fewer_kills_left, kill_finds, lifts, no_more_kills, one_kill_less, one_less_alive, was_on}
 
--- so many reports are told where these messages are
-told_so : (policy : PolicyData) (history : List RecordData) (r : RecordData) (user : UserName) (told : List Message)
-    → stream policy (history ++ r ∷ []) user ≡ stream policy history user ++ map (reported r) told → length (reports_of policy user (history, r)) ≡ length told
-told_so policy history r user told is =
-    ap length (append_cancel_left (stream policy history user) _ _ (sym (stream_next policy history r user) ∙ is)) ∙ length-map told (reported r)
+-- how many live orders the user has
+abbrev held : World → UserName → ℕ
+held w user = his_of user w.live
 
-to_one : (receiver user : UserName) (told : List Message) → length (to_user receiver user told) ≡ cond (same_user receiver user) (length told) 0
-to_one receiver user told = elim (same_user receiver user) as (λ b. length (cond {A = List Message} b told []) ≡ cond b (length told) 0) [ true ↦ refl | false ↦ refl ]
+-- the record tells a user, and leaves him orders, so many more than he has orders at most
+abbrev Wants : (before after : World) → RecordData → UserName → ℕ → Type 0
+Wants before after r user more = (told : List Message) × (after.streams user ≡ before.streams user ++ map (reported r) told) × (length told + held after user ≤ held before user + more)
 
--- a record tells a user, and leaves him orders, so many more than he has orders at most
+-- a request tells who asks of one thing, and brings him one order at most; it tells others nothing, brings them none, and lifts no kill
+abbrev WantsFew : (before after : World) → RecordData → UserName → Type 0
+WantsFew before after r asker = ((user : UserName) → Wants before after r user (cond (same_user asker user) 2 0)) × StayKilled before after
+
+-- so many reports are told, then, and so many orders left
 abbrev TellsAndLeaves : PolicyData → List RecordData → RecordData → UserName → ℕ → Type 0
 TellsAndLeaves policy history r user more = length (reports_of policy user (history, r)) + orders_held policy (history ++ r ∷ []) user ≤ orders_held policy history user + more
 
--- a request tells who asks of one thing, and brings him one order at most; it tells others nothing, brings them none, and lifts no kill
-record WantsFew (policy : PolicyData) (history : List RecordData) (r : RecordData) (a : Asked) : Type 0 where
-  pub few : (user : UserName) → TellsAndLeaves policy history r user (cond (same_user a.user user) 2 0)
-  pub stay : StayKilled policy history (history ++ r ∷ [])
-
--- one thing is told to who asks, and one order is brought at most
-by_asker : (reports held before told : ℕ) (b : Bool) → reports ≡ cond b told 0 → told ≤ 1 → held ≤ before + cond b 1 0 → reports + held ≤ before + cond b 2 0
-by_asker reports held before told true h few more = omega (arith, h, few, more)
-by_asker reports held before told false h few more = omega (arith, h, few, more)
-
-no_order : (held before : ℕ) (b : Bool) → held ≤ before → held ≤ before + cond b 1 0
-no_order held before true h = omega (arith, h)
-no_order held before false h = omega (arith, h)
-
-held_same : (policy : PolicyData) (before after : List RecordData) (user : UserName) → live_orders policy after ≡ live_orders policy before → orders_held policy after user ≤ orders_held policy before user
-held_same policy before after user same = omega (arith, ap (λ (ss : List Standing). length (filter (is_of_user user) ss)) same)
+tells_and_leaves : (policy : PolicyData) (history : List RecordData) (r : RecordData) (user : UserName) (more : ℕ) → Wants (world policy history) (world policy (history ++ r ∷ [])) r user more → TellsAndLeaves policy history r user more
+tells_and_leaves policy history r user more wants =
+    omega (
+      arith,
+      ap length (append_cancel_left (stream policy history user) _ _ (sym (stream_next policy history r user) ∙ wants.1)),
+      length-map wants.0 (reported r),
+      wants.2,
+    )
 
 one_or_none : (found : Option Message) → length (option_to_list found) ≤ 1
 one_or_none None = omega arith
@@ -109,71 +99,82 @@ denied_few policy r rule (requests.Command c) = by (denial_code rule)
     by None = omega arith
     by (Some code) = omega arith
 
--- ---- each kind of request
+-- ---- each kind of record
 
-denial : (policy : PolicyData) (history : List RecordData) (a : Asked) (r : RecordData) (rule : RuleName) → DeniesRequest policy history (history ++ r ∷ []) r a rule → WantsFew policy history r a
-denial policy history a r rule is = record {
-  few = λ (user : UserName).
-      by_asker (length (reports_of policy user (history, r))) (orders_held policy (history ++ r ∷ []) user) (orders_held policy history user) (length (reports_of_denial policy r rule a.request)) (same_user a.user user)
-      (told_so policy history r user _ (is.told user) ∙ to_one a.user user (reports_of_denial policy r rule a.request)) (denied_few policy r rule a.request)
-      (no_order _ _ (same_user a.user user) (held_same policy history (history ++ r ∷ []) user is.as_before.live_kept));
-  stay = none_lifted policy history (history ++ r ∷ []) is.as_before.kills_kept;
-}
+-- one thing is told to who asks, and one order is brought at most
+one_told : (told : List Message) (b : Bool) (after now : ℕ) → length told ≤ 1 → after ≤ now + cond b 1 0 → length (cond {A = List Message} b told []) + after ≤ now + cond b 2 0
+one_told told true after now few more = omega (arith, few, more)
+one_told told false after now few more = omega (arith, more)
 
-line : (policy : PolicyData) (history : List RecordData) (a : Asked) (r : RecordData) (on : Option ℕ) → ChangesLine policy history (history ++ r ∷ []) a.user on
-    → (user : UserName) → length (reports_of policy user (history, r)) + orders_held policy (history ++ r ∷ []) user ≤ orders_held policy history user
-line policy history a r on is user =
-    omega (
-      arith,
-      told_so policy history r user [] (is.told_nothing user ∙ sym (append-nil (stream policy history user))),
-      held_same policy history (history ++ r ∷ []) user is.live_kept,
-    )
+no_order : (after now : ℕ) (b : Bool) → after ≤ now → after ≤ now + cond b 1 0
+no_order after now true h = omega (arith, h)
+no_order after now false h = omega (arith, h)
 
-line_few : (policy : PolicyData) (history : List RecordData) (a : Asked) (r : RecordData) (on : Option ℕ) → ChangesLine policy history (history ++ r ∷ []) a.user on → WantsFew policy history r a
-line_few policy history a r on is = record {
-  few = λ (user : UserName). omega (arith, line policy history a r on is user);
-  stay = none_lifted policy history (history ++ r ∷ []) is.kills_kept;
-}
+one_order : (b : Bool) (new : LiveOrder) → length (cond {A = List LiveOrder} b (new ∷ []) []) ≡ cond b 1 0
+one_order true new = refl
+one_order false new = refl
 
-enter : (policy : PolicyData) (history : List RecordData) (a : Asked) (r : RecordData) (m : EnterOrder) → TakesEffect policy history (history ++ r ∷ []) r a.user m → WantsFew policy history r a
-enter policy history a r m is = record {
-  few = λ (user : UserName).
-      let new : Standing = whole_order policy r a.user is.account m in
-      let more : orders_held policy (history ++ r ∷ []) user ≡ orders_held policy history user + cond (same_user a.user user) 1 0 =
-      ap (λ (ss : List Standing). length (filter (is_of_user user) ss)) is.live_more ∙ one_more_last (is_of_user user) new (live_orders policy history) in
-      by_asker (length (reports_of policy user (history, r))) (orders_held policy (history ++ r ∷ []) user) (orders_held policy history user) 1 (same_user a.user user)
-      (told_so policy history r user _ (is.told user) ∙ to_one a.user user (accepted (entered policy r a.user is.account m))) (omega arith) (omega (arith, more));
-  stay = none_lifted policy history (history ++ r ∷ []) is.in_force.kills_kept;
-}
+-- he is told no more than one thing
+tells_one : (w after : World) (r : RecordData) (asker user : UserName) (told : List Message) → length told ≤ 1 → after.streams user ≡ w.streams user ++ map (reported r) (to_user asker user told)
+    → held after user ≤ held w user + cond (same_user asker user) 1 0 → Wants w after r user (cond (same_user asker user) 2 0)
+tells_one w after r asker user told few is more = (to_user asker user told, is, one_told told (same_user asker user) (held after user) (held w user) few more)
 
-replace : (policy : PolicyData) (history : List RecordData) (a : Asked) (r : RecordData) (m : ReplaceOrder) → ReplacesOrder policy history (history ++ r ∷ []) r a.user m → WantsFew policy history r a
-replace policy history a r m is = record {
-  few = λ (user : UserName).
-      let live : List Standing = live_orders policy history in
-      let stays : Standing → Bool = λ (s : Standing). not (s.order.number == is.old.order.number) in
-      let new : Standing = replacement policy history r m is.old.order in
-      let his : is.old.order.user ≡ a.user =
-      user_is is.old.order.user a.user
-      (both (same_user is.old.order.user a.user) (same_token is.old.order.token m.existing_token)
-      (found_passes (λ (s : Standing). same_user s.order.user a.user && same_token s.order.token m.existing_token) live is.old is.is_named)).0 in
-      let more : orders_held policy (history ++ r ∷ []) user ≡ length (filter (is_of_user user) (filter stays live)) + cond (same_user a.user user) 1 0 =
-      ap (λ (ss : List Standing). length (filter (is_of_user user) ss)) is.live_then ∙ one_more_last (is_of_user user) new (filter stays live)
-      ∙ ap (λ (u : UserName). length (filter (is_of_user user) (filter stays live)) + cond (same_user u user) 1 0) his in
-      by_asker (length (reports_of policy user (history, r))) (orders_held policy (history ++ r ∷ []) user) (orders_held policy history user) 1 (same_user a.user user)
-      (told_so policy history r user _ (is.told user) ∙ to_one a.user user (replaced new)) (omega arith) (omega (arith, more, fewer_left (is_of_user user) stays live));
-  stay = none_lifted policy history (history ++ r ∷ []) is.in_force.kills_kept;
-}
+-- nobody is told anything, and the orders stay
+nothing : (w : World) (r : RecordData) (user : UserName) (more : ℕ) → Wants w w r user more
+nothing w r user more = ([], sym (append-nil (w.streams user)), omega arith)
 
-cancel : (policy : PolicyData) (history : List RecordData) (a : Asked) (r : RecordData) (m : CancelOrder) → CutsOrder policy history (history ++ r ∷ []) r a.user m → WantsFew policy history r a
-cancel policy history a r m is = record {
-  few = λ (user : UserName).
-      let fewer : orders_held policy (history ++ r ∷ []) user ≤ orders_held policy history user =
-      omega (arith, ap (λ (ss : List Standing). length (filter (is_of_user user) ss)) is.live_cut, fewer_open (shares_left is.cut.order.number is.left) user (live_orders policy history)) in
-      by_asker (length (reports_of policy user (history, r))) (orders_held policy (history ++ r ∷ []) user) (orders_held policy history user) 1 (same_user a.user user)
-      (told_so policy history r user _ (is.told user) ∙ to_one a.user user (canceled cancels.UserRequested (is.cut.open_shares - is.left) is.cut.order)) (omega arith)
-      (no_order _ _ (same_user a.user user) fewer);
-  stay = none_lifted policy history (history ++ r ∷ []) is.in_force.kills_kept;
-}
+-- a turn of the one order that is found under a token of who asks
+of_found : (policy : PolicyData) (w : World) (r : RecordData) (asker : UserName) (token : Token) (make : LiveOrder → Move)
+    → ((o : LiveOrder) → o.user ≡ asker → WantsFew w (moved policy r (make o) w) r asker)
+    → WantsFew w (moved policy r (option_map_or make (live_under w.live asker token) Nothing) w) r asker
+of_found policy w r asker token make by = at (live_under w.live asker token) refl
+  where
+    at : (found : Option LiveOrder) → live_under w.live asker token ≡ found → WantsFew w (moved policy r (option_map_or make found Nothing) w) r asker
+    at None is = (λ user. nothing w r user (cond (same_user asker user) 2 0), λ account h. h)
+    at (Some o) is = by o (user_is o.user asker (both (same_user o.user asker) (same_token o.token token) (found_passes (is_under asker token) w.live o is)).0)
+
+of_entered : (policy : PolicyData) (w : World) (r : RecordData) (a : Asked) (m : EnterOrder) (found : Option AccountName)
+    → WantsFew w (moved policy r (option_map_or (λ (account : AccountName). Adds (new_order policy r a.user account m)) found Nothing) w) r a.user
+of_entered policy w r a m None = (λ user. nothing w r user (cond (same_user a.user user) 2 0), λ account h. h)
+of_entered policy w r a m (Some account) =
+    let new : LiveOrder = new_order policy r a.user account m in
+    let after : World = moved policy r (Adds new) w in
+    (λ user. tells_one w after r a.user user (accepted_of new) (omega arith) refl (omega (arith, held_turned (turns.Adds new) user w.live, one_order (same_user a.user user) new)), λ account h. h)
+
+-- a command tells of each order that it ends, of the day's end, and its officer of itself
+answered : (w after : World) (r : RecordData) (officer user : UserName) (ends close told : List Message) → length told ≤ 1
+    → after.streams user ≡ w.streams user ++ map (reported r) (ends ++ close ++ to_user officer user told) → length ends + held after user ≤ held w user
+    → Wants w after r user (length close + cond (same_user officer user) 1 0)
+answered w after r officer user ends close told few is left =
+    (ends ++ close ++ to_user officer user told, is, omega (arith, length-append (ends ++ close) (to_user officer user told), length-append ends close, one (same_user officer user), left))
+  where
+    one : (b : Bool) → length (cond {A = List Message} b told []) ≤ cond b 1 0
+    one true = few
+    one false = omega arith
+
+command : (policy : PolicyData) (w : World) (r : RecordData) (officer : UserName) (c : Command) (action : Action) (user : UserName)
+    → Wants w (commanded policy r officer c action w) r user (length (day_end policy action user) + cond (same_user officer user) 1 0)
+command policy w r officer c action user = by action
+  where
+    after : Action → World
+    after x = commanded policy r officer c x w
+
+    alone : (x : Action) (code : AnswerCode) → (after x).streams user ≡ w.streams user ++ map (reported r) (to_user officer user (answer r c code)) → held (after x) user ≤ held w user → Wants w (after x) r user (length {A = Message} [] + cond (same_user officer user) 1 0)
+    alone x code is left = answered w (after x) r officer user [] [] (answer r c code) (omega arith) is (omega (arith, left))
+
+    by : (x : Action) → Wants w (after x) r user (length (day_end policy x user) + cond (same_user officer user) 1 0)
+    by (actions.Kill account) =
+        let ends : List Message = ended_of w.live (actions.Kill account) user in
+        answered w (after (actions.Kill account)) r officer user ends [] (answer r c codes.Done) (omega arith)
+        (ap (λ (ms : List Message). w.streams user ++ map (reported r) (ms ++ to_user officer user (answer r c codes.Done))) (sym (append-nil ends))) (omega (arith, held_and_ended (actions.Kill account) user w.live))
+    by actions.CloseDay =
+        answered w (after actions.CloseDay) r officer user (ended_of w.live actions.CloseDay user) (day_end policy actions.CloseDay user) (answer r c codes.Done) (omega arith) refl (omega (arith, held_and_ended actions.CloseDay user w.live))
+    by (actions.Lift account) = alone (actions.Lift account) (lift_code (is_some (kill_after policy.lifters (Some (Some officer)) (w.kills account)))) refl (omega arith)
+    by (actions.SetLimit rule limit) = alone (actions.SetLimit rule limit) codes.Done refl (omega arith)
+    by (actions.Restrict rule stock) = alone (actions.Restrict rule stock) codes.Done refl (omega arith)
+    by (actions.Unrestrict rule stock) = alone (actions.Unrestrict rule stock) codes.Done refl (omega arith)
+    by (actions.Grant reader account) = alone (actions.Grant reader account) codes.Done refl (omega arith)
+    by (actions.Revoke reader account) = alone (actions.Revoke reader account) codes.Done refl (omega arith)
 
 one_if : (b : Bool) (message : Message) → length (cond b (message ∷ []) []) ≤ 1
 one_if true message = omega arith
@@ -189,74 +190,70 @@ day_end_few policy (actions.Unrestrict rule stock) user = omega arith
 day_end_few policy (actions.Grant reader account) user = omega arith
 day_end_few policy (actions.Revoke reader account) user = omega arith
 
--- a command tells of each order that it ends, of the day's end, and its officer of itself
-command : (policy : PolicyData) (history : List RecordData) (a : Asked) (r : RecordData) (c : Command) (action : Action) (user : UserName) → IsLegal policy history → next policy history (steps.Asked a) ≡ Some r
-    → a.request ≡ requests.Command c → c.action ≡ action → GrantsCommand r a action
-    → TellsAndLeaves policy history r user (length (day_end policy action user) + cond (same_user a.user user) 1 0)
-command policy history a r c action user legal left asks is g =
-    let ends : List Message = ended policy history action user in
-    let close : List Message = day_end policy action user in
-    let done : List Message = to_user a.user user (answer r c (granted_code policy (history ++ r ∷ []) action)) in
-    let told : length (reports_of policy user (history, r)) ≡ length (ends ++ close ++ done) =
-    told_so policy history r user (ends ++ close ++ done) (told_by_command policy history r a c action user g asks is) in
-    omega (
-      arith,
-      told,
-      length-append (ends ++ close) done,
-      length-append ends close,
-      to_one a.user user (answer r c (granted_code policy (history ++ r ∷ []) action)),
-      held_and_ended policy history a r action user legal left g,
-    )
-
 -- a command that neither lifts nor closes
-command_few : (policy : PolicyData) (history : List RecordData) (a : Asked) (r : RecordData) (c : Command) → IsLegal policy history → next policy history (steps.Asked a) ≡ Some r
-    → a.request ≡ requests.Command c → r.verdict ≡ verdicts.Granted → (action : Action) → c.action ≡ action
-    → ((user : UserName) → day_end policy action user ≡ []) → lifts action ≡ false → WantsFew policy history r a
-command_few policy history a r c legal left asks granted action is no_end lifts_none =
-    let g : GrantsCommand r a action = grants_the_command policy history a r c action left asks is granted in
-    record {
-      few = λ (user : UserName).
-          by_asker_told user (command policy history a r c action user legal left asks is g) (ap length (no_end user));
-      stay = command_lifts_none policy history r a action g lifts_none;
-    }
+command_few : (policy : PolicyData) (w : World) (r : RecordData) (officer : UserName) (c : Command) (action : Action) → ((user : UserName) → day_end policy action user ≡ []) → lifts action ≡ false
+    → WantsFew w (commanded policy r officer c action w) r officer
+command_few policy w r officer c action no_end lifts_none =
+    (λ user. fewer user (length (day_end policy action user)) (ap length (no_end user)) (command policy w r officer c action user), commands_lift_none policy r officer c w action lifts_none)
   where
-    at : (reports before ends : ℕ) (b : Bool) → reports ≤ before + (ends + cond b 1 0) → ends ≡ 0 → reports ≤ before + cond b 2 0
-    at reports before ends true h none = omega (arith, h, none)
-    at reports before ends false h none = omega (arith, h, none)
+    at : (told after now ends : ℕ) (b : Bool) → told + after ≤ now + (ends + cond b 1 0) → ends ≡ 0 → told + after ≤ now + cond b 2 0
+    at told after now ends true h none = omega (arith, h, none)
+    at told after now ends false h none = omega (arith, h, none)
 
-    by_asker_told : (user : UserName) → TellsAndLeaves policy history r user (length (day_end policy action user) + cond (same_user a.user user) 1 0) → length (day_end policy action user) ≡ 0
-        → TellsAndLeaves policy history r user (cond (same_user a.user user) 2 0)
-    by_asker_told user h none = at _ _ (length (day_end policy action user)) (same_user a.user user) h none
+    fewer : (user : UserName) (ends : ℕ) → ends ≡ 0 → Wants w (commanded policy r officer c action w) r user (ends + cond (same_user officer user) 1 0)
+        → Wants w (commanded policy r officer c action w) r user (cond (same_user officer user) 2 0)
+    fewer user ends none wants = (wants.0, wants.1, at (length wants.0) (held (commanded policy r officer c action w) user) (held w user) ends (same_user officer user) wants.2 none)
 
--- any request but a granted Lift or Close Day
-granted_few : (policy : PolicyData) (history : List RecordData) (a : Asked) (r : RecordData) → IsLegal policy history → next policy history (steps.Asked a) ≡ Some r → r.verdict ≡ verdicts.Granted
-    → (q : Request) → a.request ≡ q → concerns_many q verdicts.Granted ≡ false → WantsFew policy history r a
-granted_few policy history a r legal left granted (requests.Login m) asks few = line_few policy history a r _ (login_takes_effect policy history a r m left asks granted)
-granted_few policy history a r legal left granted requests.Logout asks few = line_few policy history a r _ (logout_takes_effect policy history a r left asks granted)
-granted_few policy history a r legal left granted (requests.Unreadable m) asks few =
-    let denied : true ≡ false = sym (ap is_unreadable asks) ∙ unreadable_is_denied policy history a r left granted in cc
-granted_few policy history a r legal left granted (requests.Enter m) asks few = enter policy history a r m (takes_effect policy history a r m legal left asks granted)
-granted_few policy history a r legal left granted (requests.Replace m) asks few = replace policy history a r m (replace_takes_effect policy history a r m legal left asks granted)
-granted_few policy history a r legal left granted (requests.Cancel m) asks few = cancel policy history a r m (cancel_takes_effect policy history a r m legal left asks granted)
-granted_few policy history a r legal left granted (requests.Command c) asks few = by c.action refl few
+-- any granted request but a Lift or Close Day
+granted_few : (policy : PolicyData) (w : World) (r : RecordData) (a : Asked) (q : Request) → concerns_many q verdicts.Granted ≡ false → WantsFew w (moved policy r (move_asked policy w r a q) w) r a.user
+granted_few policy w r a (requests.Enter m) few = of_entered policy w r a m (account_of policy a.user)
+granted_few policy w r a (requests.Replace m) few =
+    of_found policy w r a.user m.existing_token (λ (old : LiveOrder). Replaces old (replacement_order r m old))
+    (λ old his. (
+      λ user.
+          let new : LiveOrder = replacement_order r m old in
+          subst (λ (u : UserName). Wants w (moved policy r (Replaces old new) w) r user (cond (same_user u user) 2 0)) his
+          (tells_one w (moved policy r (Replaces old new) w) r old.user user (replaced_of old new) (omega arith) refl (omega (arith, held_turned (turns.Replaces old.number new) user w.live, one_order (same_user old.user user) new))),
+      λ account h. h,
+    ))
+granted_few policy w r a (requests.Cancel m) few =
+    of_found policy w r a.user m.token (λ (cut : LiveOrder). Sizes cut m.shares)
+    (λ cut his. (
+      λ user.
+          subst (λ (u : UserName). Wants w (moved policy r (Sizes cut m.shares) w) r user (cond (same_user u user) 2 0)) his
+          (tells_one w (moved policy r (Sizes cut m.shares) w) r cut.user user (canceled_of cancels.UserRequested (shares_open cut - (m.shares - cut.done)) cut) (omega arith) refl
+          (no_order _ _ (same_user cut.user user) (omega (arith, held_turned (turns.Sizes cut.number m.shares) user w.live)))),
+      λ account h. h,
+    ))
+granted_few policy w r a (requests.Command c) few = by c.action few
   where
-    by : (action : Action) → c.action ≡ action → elim action as (λ x. Bool) [ actions.Lift account ↦ true | actions.CloseDay ↦ true | _ ↦ false ] ≡ false → WantsFew policy history r a
-    by (actions.Lift account) is h = let clash : true ≡ false = h in cc
-    by actions.CloseDay is h = let clash : true ≡ false = h in cc
-    by (actions.Kill account) is h = command_few policy history a r c legal left asks granted (actions.Kill account) is (λ user. refl) refl
-    by (actions.SetLimit rule limit) is h = command_few policy history a r c legal left asks granted (actions.SetLimit rule limit) is (λ user. refl) refl
-    by (actions.Restrict rule stock) is h = command_few policy history a r c legal left asks granted (actions.Restrict rule stock) is (λ user. refl) refl
-    by (actions.Unrestrict rule stock) is h = command_few policy history a r c legal left asks granted (actions.Unrestrict rule stock) is (λ user. refl) refl
-    by (actions.Grant reader account) is h = command_few policy history a r c legal left asks granted (actions.Grant reader account) is (λ user. refl) refl
-    by (actions.Revoke reader account) is h = command_few policy history a r c legal left asks granted (actions.Revoke reader account) is (λ user. refl) refl
+    by : (action : Action) → elim action as (λ x. Bool) [ actions.Lift account ↦ true | actions.CloseDay ↦ true | _ ↦ false ] ≡ false → WantsFew w (commanded policy r a.user c action w) r a.user
+    by (actions.Lift account) h = let clash : true ≡ false = h in cc
+    by actions.CloseDay h = let clash : true ≡ false = h in cc
+    by (actions.Kill account) h = command_few policy w r a.user c (actions.Kill account) (λ user. refl) refl
+    by (actions.SetLimit rule limit) h = command_few policy w r a.user c (actions.SetLimit rule limit) (λ user. refl) refl
+    by (actions.Restrict rule stock) h = command_few policy w r a.user c (actions.Restrict rule stock) (λ user. refl) refl
+    by (actions.Unrestrict rule stock) h = command_few policy w r a.user c (actions.Unrestrict rule stock) (λ user. refl) refl
+    by (actions.Grant reader account) h = command_few policy w r a.user c (actions.Grant reader account) (λ user. refl) refl
+    by (actions.Revoke reader account) h = command_few policy w r a.user c (actions.Revoke reader account) (λ user. refl) refl
+granted_few policy w r a other few = (λ user. nothing w r user (cond (same_user a.user user) 2 0), λ account h. h)
 
 wants_few : (policy : PolicyData) (history : List RecordData) (a : Asked) (r : RecordData) → IsLegal policy history → next policy history (steps.Asked a) ≡ Some r
-    → concerns_many a.request r.verdict ≡ false → WantsFew policy history r a
+    → concerns_many a.request r.verdict ≡ false → WantsFew (world policy history) (world policy (history ++ r ∷ [])) r a.user
 wants_few policy history a r legal left few = by r.verdict refl
   where
-    by : (v : Verdict) → r.verdict ≡ v → WantsFew policy history r a
-    by verdicts.Granted is = granted_few policy history a r legal left is a.request refl (sym (ap (concerns_many a.request) is) ∙ few)
-    by (verdicts.Denied rule) is = denial policy history a r rule (is_told policy history a r rule left is)
+    w : World
+    w = world policy history
+
+    to_then : (after : World) → world policy (history ++ r ∷ []) ≡ after → WantsFew w after r a.user → WantsFew w (world policy (history ++ r ∷ [])) r a.user
+    to_then after is h = subst (λ (x : World). WantsFew w x r a.user) (sym is) h
+
+    by : (v : Verdict) → r.verdict ≡ v → WantsFew w (world policy (history ++ r ∷ [])) r a.user
+    by verdicts.Granted is =
+        to_then _ (granted_world policy history a r a.request legal left refl is) (granted_few policy w r a a.request (sym (ap (concerns_many a.request) is) ∙ few))
+    by (verdicts.Denied rule) is =
+        to_then _ (denials_tell_who_asked policy history a r rule left is)
+        (λ user. tells_one w (moved policy r (Denies a rule) w) r a.user user (reports_of_denial policy r rule a.request) (denied_few policy r rule a.request) refl (no_order _ _ (same_user a.user user) (omega arith)), λ account h. h)
     by (verdicts.Filled f) is = let judged : false ≡ true = sym (ap is_judged is) ∙ asked_is_judged policy history a r left in cc
     by (verdicts.Rested number) is = let judged : false ≡ true = sym (ap is_judged is) ∙ asked_is_judged policy history a r left in cc
     by (verdicts.Expired number) is = let judged : false ≡ true = sym (ap is_judged is) ∙ asked_is_judged policy history a r left in cc
@@ -267,9 +264,18 @@ pub others_want_no_more : (policy : PolicyData) (history : List RecordData) (a :
     → IsLegal policy history → next policy history (steps.Asked a) ≡ Some r → concerns_many a.request r.verdict ≡ false → same_user a.user user ≡ false
     → length (reports_of policy user (history, r)) + report_places policy (history ++ r ∷ []) user ≤ report_places policy history user
 others_want_no_more policy history a r user legal left few another =
-    let is : WantsFew policy history r a = wants_few policy history a r legal left few in
-    let told : TellsAndLeaves policy history r user (cond false 2 0) = subst (λ (b : Bool). TellsAndLeaves policy history r user (cond b 2 0)) another (is.few user) in
-    omega (arith, told, fewer_kills_left policy history (history ++ r ∷ []) user is.stay)
+    let is : WantsFew (world policy history) (world policy (history ++ r ∷ [])) r a.user = wants_few policy history a r legal left few in
+    let told : TellsAndLeaves policy history r user (cond false 2 0) =
+    subst (λ (b : Bool). TellsAndLeaves policy history r user (cond b 2 0)) another (tells_and_leaves policy history r user (cond (same_user a.user user) 2 0) (is.0 user)) in
+    omega (arith, told, fewer_kills_left policy history (history ++ r ∷ []) user is.1)
+
+-- what a granted command tells and leaves
+commanded_tells : (policy : PolicyData) (history : List RecordData) (a : Asked) (r : RecordData) (c : Command) (user : UserName) → IsLegal policy history → next policy history (steps.Asked a) ≡ Some r
+    → a.request ≡ requests.Command c → r.verdict ≡ verdicts.Granted → TellsAndLeaves policy history r user (length (day_end policy c.action user) + cond (same_user a.user user) 1 0)
+commanded_tells policy history a r c user legal left asks granted =
+    let more : ℕ = length (day_end policy c.action user) + cond (same_user a.user user) 1 0 in
+    tells_and_leaves policy history r user more
+    (subst (λ (after : World). Wants (world policy history) after r user more) (sym (granted_world policy history a r (requests.Command c) legal left asks granted)) (command policy (world policy history) r a.user c c.action user))
 
 -- whatever is granted or denied
 some_told : (policy : PolicyData) (history : List RecordData) (a : Asked) (r : RecordData) (user : UserName) → IsLegal policy history → next policy history (steps.Asked a) ≡ Some r → TellsAndLeaves policy history r user 2
@@ -286,7 +292,7 @@ some_told policy history a r user legal left = by (concerns_many a.request r.ver
     of_command : (c : Command) → a.request ≡ requests.Command c → r.verdict ≡ verdicts.Granted → TellsAndLeaves policy history r user 2
     of_command c asks granted =
         one_and_one _ _ (length (day_end policy c.action user)) (same_user a.user user)
-        (command policy history a r c c.action user legal left asks refl (grants_the_command policy history a r c c.action left asks refl granted)) (day_end_few policy c.action user)
+        (commanded_tells policy history a r c user legal left asks granted) (day_end_few policy c.action user)
 
     of_request : (q : Request) → a.request ≡ q → r.verdict ≡ verdicts.Granted → concerns_many q verdicts.Granted ≡ true → TellsAndLeaves policy history r user 2
     of_request (requests.Command c) asks granted many = of_command c asks granted
@@ -305,7 +311,7 @@ some_told policy history a r user legal left = by (concerns_many a.request r.ver
     of_verdict (verdicts.Expired number) is many = cc
 
     by : (b : Bool) → concerns_many a.request r.verdict ≡ b → TellsAndLeaves policy history r user 2
-    by false is = two _ _ (same_user a.user user) ((wants_few policy history a r legal left is).few user)
+    by false is = two _ _ (same_user a.user user) (tells_and_leaves policy history r user (cond (same_user a.user user) 2 0) ((wants_few policy history a r legal left is).0 user))
     by true is = of_verdict r.verdict refl is
 
 pub so_many_are_enough : (policy : PolicyData) (history : List RecordData) (a : Asked) (r : RecordData) (user : UserName)
@@ -319,9 +325,8 @@ kill_has_places : (policy : PolicyData) (history : List RecordData) (a : Asked) 
     → next policy history (steps.Asked a) ≡ Some r → r.verdict ≡ verdicts.Granted → a.request ≡ requests.Command c → c.action ≡ actions.Kill account
     → length (reports_of policy user (history, r)) + report_places policy (history ++ r ∷ []) user ≤ report_places policy history user
 kill_has_places policy history a r c account user legal left granted asks is =
-    let g : GrantsCommand r a (actions.Kill account) = grants_the_command policy history a r c (actions.Kill account) left asks is granted in
-    let finds : Kills policy history r a account = kill_finds policy history a r account left g in
-    at (same_user a.user user) refl finds (command policy history a r c (actions.Kill account) user legal left asks is g)
+    at (same_user a.user user) refl (kill_finds policy history a r c account legal left granted asks is)
+    (subst (λ (action : Action). TellsAndLeaves policy history r user (length (day_end policy action user) + cond (same_user a.user user) 1 0)) is (commanded_tells policy history a r c user legal left asks granted))
   where
     at : (b : Bool) → same_user a.user user ≡ b → Kills policy history r a account → TellsAndLeaves policy history r user (0 + cond (same_user a.user user) 1 0)
         → length (reports_of policy user (history, r)) + report_places policy (history ++ r ∷ []) user ≤ report_places policy history user
@@ -334,11 +339,17 @@ kill_has_places policy history a r c account user legal left granted asks is =
         let none : TellsAndLeaves policy history r user (0 + 0) = subst (λ (b : Bool). TellsAndLeaves policy history r user (0 + cond b 1 0)) another told in
         omega (arith, none, fewer_kills_left policy history (history ++ r ∷ []) user finds.stay)
 
-logout_has_places : (policy : PolicyData) (history : List RecordData) (a : Asked) (r : RecordData) (user : UserName) → next policy history (steps.Asked a) ≡ Some r → r.verdict ≡ verdicts.Granted → a.request ≡ requests.Logout
+-- a granted Logout
+logout_has_places : (policy : PolicyData) (history : List RecordData) (a : Asked) (r : RecordData) (user : UserName) → IsLegal policy history → next policy history (steps.Asked a) ≡ Some r → r.verdict ≡ verdicts.Granted → a.request ≡ requests.Logout
     → length (reports_of policy user (history, r)) + report_places policy (history ++ r ∷ []) user ≤ report_places policy history user
-logout_has_places policy history a r user left granted asks =
-    let is = logout_takes_effect policy history a r left asks granted in
-    omega (arith, line policy history a r None is user, fewer_kills_left policy history (history ++ r ∷ []) user (none_lifted policy history (history ++ r ∷ []) is.kills_kept))
+logout_has_places policy history a r user legal left granted asks =
+    let w : World = world policy history in
+    let now : world policy (history ++ r ∷ []) ≡ _ = logouts_put_off policy history a r left asks granted in
+    omega (
+      arith,
+      tells_and_leaves policy history r user 0 (subst (λ (after : World). Wants w after r user 0) (sym now) (nothing w r user 0)),
+      fewer_kills_left policy history (history ++ r ∷ []) user (subst (StayKilled w) (sym now) (λ account h. h)),
+    )
 
 -- a granted Kill or Logout, by which it is
 by_kept : (policy : PolicyData) (history : List RecordData) (a : Asked) (r : RecordData) (P : Type 0) → has_kept_places a.request r.verdict ≡ true
@@ -377,7 +388,7 @@ pub kept_places_are_enough : (policy : PolicyData) (history : List RecordData) (
     → length (reports_of policy user (history, r)) + report_places policy (history ++ r ∷ []) user ≤ report_places policy history user
 kept_places_are_enough policy history a r user legal left kept =
     by_kept policy history a r _ kept
-    (λ granted asks. logout_has_places policy history a r user left granted asks)
+    (λ granted asks. logout_has_places policy history a r user legal left granted asks)
     (λ granted c asks account is. kill_has_places policy history a r c account user legal left granted asks is)
 
 -- ---- places for records
@@ -396,32 +407,31 @@ known_if_on policy history user legal on = by (is_some (user_in policy.users use
 logout_takes_a_place : (policy : PolicyData) (history : List RecordData) (a : Asked) (r : RecordData) → IsLegal policy history → next policy history (steps.Asked a) ≡ Some r → r.verdict ≡ verdicts.Granted
     → a.request ≡ requests.Logout → record_places policy (history ++ r ∷ []) + 1 ≤ record_places policy history
 logout_takes_a_place policy history a r legal left granted asks =
-    let is : ChangesLine policy history (history ++ r ∷ []) a.user None = logout_takes_effect policy history a r left asks granted in
+    let w : World = world policy history in
+    let now : world policy (history ++ r ∷ []) ≡ _ = logouts_put_off policy history a r left asks granted in
+    let off : (user : UserName) → line_of (history ++ r ∷ []) user ≡ cond (same_user a.user user) None (line_of history user) = λ user. ap (λ (after : World). after.lines user) now in
     let on : is_some (line_of history a.user) ≡ true = was_on policy history a r left granted asks in
     let it = there (user_in policy.users a.user) (known_if_on policy history a.user legal on) in
     let less : length (filter (is_on (history ++ r ∷ [])) policy.users) + 1 ≤ length (filter (is_on history) policy.users) =
     one_less_passes (is_on history) (is_on (history ++ r ∷ [])) (λ (u : User). same_user u.name a.user)
-    (λ (u : User) h. still u (same_user a.user u.name) refl is h)
+    (λ (u : User) h. still (line_of history u.name) (same_user a.user u.name) (sym (ap is_some (off u.name)) ∙ h))
     (λ (u : User) h. let same : u.name ≡ a.user = user_is u.name a.user h in (
       ap (λ (n : UserName). is_some (line_of history n)) same ∙ on,
-      ap (λ (n : UserName). is_some (line_of (history ++ r ∷ []) n)) same ∙ ap is_some is.line_now,
+      ap is_some (off u.name) ∙ ap (λ (n : UserName). is_some (cond (same_user a.user n) None (line_of history n))) same ∙ ap (λ b. is_some (cond b None (line_of history a.user))) (user_is_itself a.user),
     )) policy.users it.0 it.1 in
-    omega (arith, less, fewer_alive policy history (history ++ r ∷ []) (none_lifted policy history (history ++ r ∷ []) is.kills_kept))
+    omega (arith, less, fewer_alive policy history (history ++ r ∷ []) (subst (StayKilled w) (sym now) (λ account h. h)))
   where
-    still : (u : User) (b : Bool) → same_user a.user u.name ≡ b → ChangesLine policy history (history ++ r ∷ []) a.user None → is_on (history ++ r ∷ []) u ≡ true → is_on history u ≡ true
-    still u true same is on =
-        let off : is_on (history ++ r ∷ []) u ≡ false = ap (λ (n : UserName). is_some (line_of (history ++ r ∷ []) n)) (sym (user_is a.user u.name same)) ∙ ap is_some is.line_now in
-        let clash : false ≡ true = sym off ∙ on in cc
-    still u false other is on = sym (ap is_some (is.lines_kept u.name other)) ∙ on
+    still : (line : Option ℕ) (b : Bool) → is_some (cond b None line) ≡ true → is_some line ≡ true
+    still line true on = cc
+    still line false on = on
 
 kill_takes_a_place : (policy : PolicyData) (history : List RecordData) (a : Asked) (r : RecordData) (c : Command) (account : AccountName) → IsLegal policy history → next policy history (steps.Asked a) ≡ Some r → r.verdict ≡ verdicts.Granted
     → a.request ≡ requests.Command c → c.action ≡ actions.Kill account → record_places policy (history ++ r ∷ []) + 1 ≤ record_places policy history
 kill_takes_a_place policy history a r c account legal left granted asks is =
-    let g : GrantsCommand r a (actions.Kill account) = grants_the_command policy history a r c (actions.Kill account) left asks is granted in
-    let finds : Kills policy history r a account = kill_finds policy history a r account left g in
+    let now : world policy (history ++ r ∷ []) ≡ _ = kills_leave_the_others c account is policy history a r legal left asks granted in
     let lines : length (filter (is_on (history ++ r ∷ [])) policy.users) ≤ length (filter (is_on history) policy.users) =
-    fewer_pass (is_on history) (is_on (history ++ r ∷ [])) (λ (u : User) h. sym (ap is_some ((kill_takes_effect policy history a r c account legal left asks is granted).in_force.lines_kept u.name)) ∙ h) policy.users in
-    omega (arith, one_less_alive policy history r a account finds, lines)
+    fewer_pass (is_on history) (is_on (history ++ r ∷ [])) (λ (u : User) h. sym (ap (λ (after : World). is_some (after.lines u.name)) now) ∙ h) policy.users in
+    omega (arith, one_less_alive policy history r a account (kill_finds policy history a r c account legal left granted asks is), lines)
 
 pub kept_records_take_places : (policy : PolicyData) (history : List RecordData) (a : Asked) (r : RecordData)
     → IsLegal policy history → next policy history (steps.Asked a) ≡ Some r → has_kept_places a.request r.verdict ≡ true
@@ -439,37 +449,22 @@ enough_is_more policy history user = omega (arith, no_more_kills policy history 
 
 -- ---- matching steps
 
-held_after_match : (policy : PolicyData) (before after : List RecordData) (open_now : Standing → ℕ) (user : UserName) → live_orders policy after ≡ still_open open_now (live_orders policy before)
-    → orders_held policy after user ≤ orders_held policy before user
-held_after_match policy before after open_now user left =
-    omega (arith, ap (λ (ss : List Standing). length (filter (is_of_user user) ss)) left, fewer_open open_now user (live_orders policy before))
+abbrev WantsNoMore : World → World → Type 0
+WantsNoMore before after = ((user : UserName) → held after user ≤ held before user) × StayKilled before after
+
+match_wants_no_more : (policy : PolicyData) (w : World) (r : RecordData) (handed : ℕ) (v : Verdict) → WantsNoMore w (moved policy r (move_by policy w r v (steps.Matching handed)) w)
+match_wants_no_more policy w r handed verdicts.Granted = (λ user. omega arith, λ account h. h)
+match_wants_no_more policy w r handed (verdicts.Denied rule) = (λ user. omega arith, λ account h. h)
+match_wants_no_more policy w r handed (verdicts.Filled f) = (λ user. omega (arith, held_turned (turns.Fills f) user w.live), λ account h. h)
+match_wants_no_more policy w r handed (verdicts.Rested number) = (λ user. omega (arith, held_turned (turns.Rests number) user w.live), λ account h. h)
+match_wants_no_more policy w r handed (verdicts.Expired number) = (λ user. omega (arith, held_turned (turns.Ends number) user w.live), λ account h. h)
 
 pub matches_want_no_more : (policy : PolicyData) (history : List RecordData) (handed : ℕ) (r : RecordData) (user : UserName)
     → IsLegal policy history → next policy history (steps.Matching handed) ≡ Some r
     → report_places policy (history ++ r ∷ []) user ≤ report_places policy history user
-matches_want_no_more policy history handed r user legal left = by r.verdict refl
-  where
-    now : List RecordData
-    now = history ++ r ∷ []
-
-    sum : StayKilled policy history now → orders_held policy now user ≤ orders_held policy history user → report_places policy now user ≤ report_places policy history user
-    sum stay held = omega (arith, held, fewer_kills_left policy history now user stay)
-
-    never : (v : Verdict) → r.verdict ≡ v → is_judged v ≡ true → ⊥
-    never v is judged = let clash : false ≡ true = sym (not_judged policy history handed r left) ∙ ap is_judged is ∙ judged in cc
-
-    filled : (f : Fill) → FillsOrders policy history now r f → report_places policy now user ≤ report_places policy history user
-    filled f is = sum (none_lifted policy history now is.in_force.kills_kept) (held_after_match policy history now (left_by_fill f) user is.live_left)
-
-    rested : (number : ℕ) → RestsOrder policy history now number → report_places policy now user ≤ report_places policy history user
-    rested number is = sum (none_lifted policy history now is.in_force.kills_kept) (held_same policy history now user is.live_kept)
-
-    expired : (number : ℕ) → ExpiresOrder policy history now r number → report_places policy now user ≤ report_places policy history user
-    expired number is = sum (none_lifted policy history now is.in_force.kills_kept) (held_after_match policy history now (shares_left number 0) user is.live_left)
-
-    by : (v : Verdict) → r.verdict ≡ v → report_places policy now user ≤ report_places policy history user
-    by verdicts.Granted is = absurd (never verdicts.Granted is refl)
-    by (verdicts.Denied rule) is = absurd (never (verdicts.Denied rule) is refl)
-    by (verdicts.Filled f) is = filled f (fill_takes_effect policy history handed r f (legal_is_orderly policy history legal) left is)
-    by (verdicts.Rested number) is = rested number (rest_takes_effect policy history handed r number (legal_is_orderly policy history legal) left is)
-    by (verdicts.Expired number) is = expired number (end_takes_effect policy history handed r number (legal_is_orderly policy history legal) left is)
+matches_want_no_more policy history handed r user legal left =
+    let w : World = world policy history in
+    let matches : WantsNoMore w (moved policy r (move_by policy w r r.verdict r.step) w) =
+    subst (λ (s : Step). WantsNoMore w (moved policy r (move_by policy w r r.verdict s) w)) (sym (step_left policy history (steps.Matching handed) r left)) (match_wants_no_more policy w r handed r.verdict) in
+    let is : WantsNoMore w (world policy (history ++ r ∷ [])) = subst (WantsNoMore w) (sym (world_next policy history (steps.Matching handed) r legal left)) matches in
+    omega (arith, is.0 user, fewer_kills_left policy history (history ++ r ∷ []) user is.1)

@@ -1,67 +1,15 @@
 -- How many of a list pass a test.
-use Rattle.std.proofs.Common.{◌≡◌, ℕ, ◌+◌, ◌≤◌, arith, true, false, not, Bool, List, [], ◌∷◌, ◌++◌, length, refl, ◌∙◌, sym, cond, map}
-use Rattle.std.specs.Prelude.{Some, find, ◌&&◌}
+use Rattle.std.proofs.Common.{◌≡◌, ◌+◌, ◌≤◌, arith, true, false, Bool, List, [], ◌∷◌, ◌++◌, length, refl, ◌∙◌, sym, cond}
+use Rattle.std.specs.Prelude.{Some, find}
 use Rattle.std.specs.List.{filter}
-use Rattle.gx_history.specs.Effects.{still_open, with_open}
-use Rattle.gx_history.specs.Executions.{Standing, is_live}
-use Rattle.gx_places.specs.Places.{is_of_user}
-use Rattle.gx_units.specs.declared.names.UserName.{UserName}
-use Rattle.gx_units.specs.Names.{same_user}
 
--- no more of those that are left than of all
-pub fewer_left : {X : Type 0} (p q : X → Bool) (xs : List X) → length (filter p (filter q xs)) ≤ length (filter p xs)
-fewer_left p q [] = omega arith
-fewer_left {X} p q (x ∷ xs) = at (q x) (fewer_left p q xs)
+-- of two lists
+pub together : {X : Type 0} (p : X → Bool) (xs ys : List X) → length (filter p (xs ++ ys)) ≡ length (filter p xs) + length (filter p ys)
+together p [] ys = omega arith
+together {X} p (x ∷ xs) ys = at (p x) (together p xs ys)
   where
-    kept : (c : Bool) → length (filter p (filter q xs)) ≤ length (filter p xs) → length (cond c (x ∷ filter p (filter q xs)) (filter p (filter q xs))) ≤ length (cond c (x ∷ filter p xs) (filter p xs))
-    kept true h = omega arith
-    kept false h = h
-
-    gone : (c : Bool) → length (filter p (filter q xs)) ≤ length (filter p xs) → length (filter p (filter q xs)) ≤ length (cond c (x ∷ filter p xs) (filter p xs))
-    gone true h = omega arith
-    gone false h = h
-
-    at : (b : Bool) → length (filter p (filter q xs)) ≤ length (filter p xs) → length (filter p (cond b (x ∷ filter q xs) (filter q xs))) ≤ length (filter p (x ∷ xs))
-    at true h = kept (p x) h
-    at false h = gone (p x) h
-
--- those that are left and those that are not make up all
-pub both_parts : {X : Type 0} (p q : X → Bool) (xs : List X)
-    → length (filter p (filter (λ x. not (q x)) xs)) + length (filter (λ x. p x && q x) xs) ≡ length (filter p xs)
-both_parts p q [] = refl
-both_parts {X} p q (x ∷ xs) = at (q x) (both_parts p q xs)
-  where
-    left : List X
-    left = filter (λ y. not (q y)) xs
-
-    gone : List X
-    gone = filter (λ y. p y && q y) xs
-
-    goes : (c : Bool) → length (filter p left) + length gone ≡ length (filter p xs) → length (filter p left) + length (cond (c && true) (x ∷ gone) gone) ≡ length (cond c (x ∷ filter p xs) (filter p xs))
-    goes true h = omega (arith, h)
-    goes false h = h
-
-    stays : (c : Bool) → length (filter p left) + length gone ≡ length (filter p xs)
-        → length (cond c (x ∷ filter p left) (filter p left)) + length (cond (c && false) (x ∷ gone) gone) ≡ length (cond c (x ∷ filter p xs) (filter p xs))
-    stays true h = omega (arith, h)
-    stays false h = h
-
-    at : (b : Bool) → length (filter p left) + length gone ≡ length (filter p xs)
-        → length (filter p (cond (not b) (x ∷ left) left)) + length (cond (p x && b) (x ∷ gone) gone) ≡ length (cond (p x) (x ∷ filter p xs) (filter p xs))
-    at true h = goes (p x) h
-    at false h = stays (p x) h
-
--- one more at the end is one more at most
-pub one_more_last : {X : Type 0} (p : X → Bool) (y : X) (xs : List X) → length (filter p (xs ++ y ∷ [])) ≡ length (filter p xs) + cond (p y) 1 0
-one_more_last p y [] = at (p y)
-  where
-    at : (b : Bool) → length (cond b (y ∷ []) []) ≡ 0 + cond b 1 0
-    at true = refl
-    at false = refl
-one_more_last {X} p y (x ∷ xs) = at (p x) (one_more_last p y xs)
-  where
-    at : (b : Bool) → length (filter p (xs ++ y ∷ [])) ≡ length (filter p xs) + cond (p y) 1 0
-        → length (cond b (x ∷ filter p (xs ++ y ∷ [])) (filter p (xs ++ y ∷ []))) ≡ length (cond b (x ∷ filter p xs) (filter p xs)) + cond (p y) 1 0
+    at : (b : Bool) → length (filter p (xs ++ ys)) ≡ length (filter p xs) + length (filter p ys)
+        → length (cond b (x ∷ filter p (xs ++ ys)) (filter p (xs ++ ys))) ≡ length (cond b (x ∷ filter p xs) (filter p xs)) + length (filter p ys)
     at true h = omega (arith, h)
     at false h = h
 
@@ -109,17 +57,3 @@ most_pass {X} p (x ∷ xs) = at (p x) (most_pass p xs)
     at : (b : Bool) → length (filter p xs) ≤ length xs → length (cond b (x ∷ filter p xs) (filter p xs)) ≤ length (x ∷ xs)
     at true h = omega arith
     at false h = omega arith
-
--- what is open of an order does not change whose it is
-same_users : (open_now : Standing → ℕ) (user : UserName) (ss : List Standing) → length (filter (is_of_user user) (map (with_open open_now) ss)) ≡ length (filter (is_of_user user) ss)
-same_users open_now user [] = refl
-same_users open_now user (s ∷ ss) = at (same_user s.order.user user) (same_users open_now user ss)
-  where
-    at : (b : Bool) → length (filter (is_of_user user) (map (with_open open_now) ss)) ≡ length (filter (is_of_user user) ss)
-        → length (cond b (with_open open_now s ∷ filter (is_of_user user) (map (with_open open_now) ss)) (filter (is_of_user user) (map (with_open open_now) ss)))
-        ≡ length (cond b (s ∷ filter (is_of_user user) ss) (filter (is_of_user user) ss))
-    at true h = omega (arith, h)
-    at false h = h
-
-pub fewer_open : (open_now : Standing → ℕ) (user : UserName) (ss : List Standing) → length (filter (is_of_user user) (still_open open_now ss)) ≤ length (filter (is_of_user user) ss)
-fewer_open open_now user ss = omega (arith, fewer_left (is_of_user user) is_live (map (with_open open_now) ss), same_users open_now user ss)

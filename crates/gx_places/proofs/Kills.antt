@@ -1,5 +1,5 @@
 -- Which accounts may still be killed, and who is logged in, after one more record.
-use Rattle.std.proofs.Common.{◌≡◌, ℕ, ◌+◌, ◌≤◌, arith, true, false, not, Bool, List, [], ◌∷◌, ◌++◌, length, refl, ◌∙◌, ap, sym, cond, drop}
+use Rattle.std.proofs.Common.{◌≡◌, ℕ, ◌+◌, ◌≤◌, arith, true, false, not, Bool, List, [], ◌∷◌, ◌++◌, length, refl, ◌∙◌, ap, sym, cond, subst, if◌then◌else◌}
 use Rattle.std.specs.Prelude.{Option, Some, None, is_some, ◌&&◌}
 use Rattle.std.proofs.lemmas.Bool.{not-false}
 use Rattle.std.specs.List.{filter}
@@ -14,42 +14,28 @@ use Rattle.gx_policy.specs.declared.policy.Role.{Role}
 use Rattle.gx_policy.specs.declared.policy.Role.TheVariants as roles
 use Rattle.gx_history.specs.declared.record.Asked.{Asked}
 use Rattle.gx_history.specs.declared.record.RecordData.{RecordData}
-use Rattle.gx_history.specs.declared.record.Request.{Request}
 use Rattle.gx_history.specs.declared.record.Request.TheVariants as requests
-use Rattle.gx_policy.specs.declared.rule_name.RuleName.{RuleName}
-use Rattle.gx_policy.specs.declared.rule_name.RuleName.TheVariants.{L1, L2, L3, G1, Q1, Q2, Q3, Q4}
+use Rattle.gx_policy.specs.declared.rule_name.RuleName.TheVariants.{G1}
 use Rattle.gx_history.specs.declared.record.Step.TheVariants as steps
 use Rattle.gx_history.specs.declared.record.Verdict.TheVariants as verdicts
-use Rattle.gx_history.specs.Asking.{are_his, changes, facts, has_power, is_on_line, of_command}
-use Rattle.gx_history.specs.InForce.{is_untouched, kill_after, kill_in_force, kill_or_lift_of, line_of}
-use Rattle.gx_policy.specs.Lists.{where_true}
+use Rattle.gx_history.specs.Asking.{are_his, facts, has_power, is_on_line}
+use Rattle.gx_history.specs.InForce.{is_untouched, line_of}
 use Rattle.gx_policy.specs.People.{account_named, covers, is_officer, role_in}
-use Rattle.gx_history.specs.Requests.{is_command}
-use Rattle.gx_policy.specs.RuleNames.{rules_before, rules_behind}
 use Rattle.gx_history.specs.Rules.{forbids}
-use Rattle.gx_history.specs.Verdicts.{facts_now, next, rules_now}
-use Rattle.gx_history_laws.proofs.Granting.{granted_passes, granted_passes_before, none_behind}
+use Rattle.gx_history.specs.Verdicts.{IsLegal, facts_now, next}
 use Rattle.gx_history_laws.proofs.Names.{account_is, account_is_itself}
-use Rattle.gx_history_laws.proofs.KillsNext.{kill_in_force_next}
-use Rattle.gx_history_laws.proofs.Order.{none_among}
-use Rattle.gx_effects.proofs.Allowed.{has_the_accounts, has_the_power, names_are_known}
-use Rattle.gx_effects.proofs.Commanding.{GrantsCommand, mark_granted}
+use Rattle.gx_history_laws.proofs.Granting.{is_no_bar}
+use Rattle.gx_effects.proofs.Allowed.{changes_something, has_the_accounts, has_the_power, names_are_known}
+use Rattle.gx_effects.proofs.ByKind.{kills_leave_the_others}
+use Rattle.gx_effects.proofs.Commanding.{GrantsCommand, grants_the_command}
+use Rattle.gx_desk.specs.declared.Command.{Command}
+use Rattle.gx_history.specs.World.{World, commanded, world}
 use Rattle.gx_places.specs.Places.{is_alive, is_whole, is_left_to, kills_left, may_kill, most_kills}
 use Rattle.gx_places.proofs.Counting.{fewer_pass, most_pass, one_less_passes}
 
 -- each account that was killed with nobody having lifted it is so still
-pub record StayKilled (policy : PolicyData) (before after : List RecordData) : Type 0 where
-  pub stays : (account : AccountName) → is_whole policy before account ≡ true → is_whole policy after account ≡ true
-
-pub none_lifted : (policy : PolicyData) (before after : List RecordData) → ((account : AccountName) → kill_in_force policy after account ≡ kill_in_force policy before account) → StayKilled policy before after
-none_lifted policy before after same = record { stays = λ (account : AccountName) whole. ap is_untouched (same account) ∙ whole }
-
--- what a granted command makes of an account
-killed_by : (policy : PolicyData) (history : List RecordData) (r : RecordData) (a : Asked) (action : Action) (account : AccountName) → GrantsCommand r a action
-    → is_whole policy (history ++ r ∷ []) account ≡ is_untouched (kill_after policy.lifters (kill_or_lift_of account a.user action) (kill_in_force policy history account))
-killed_by policy history r a action account g =
-    ap is_untouched (kill_in_force_next policy history r account)
-    ∙ ap (λ (m : Option (Option UserName)). is_untouched (kill_after policy.lifters m (kill_in_force policy history account))) (mark_granted (kill_or_lift_of account) r a action g)
+abbrev pub StayKilled : World → World → Type 0
+StayKilled before after = (account : AccountName) → is_untouched (before.kills account) ≡ true → is_untouched (after.kills account) ≡ true
 
 -- a Lift
 abbrev pub lifts : Action → Bool
@@ -57,29 +43,19 @@ lifts (actions.Lift account) = true
 lifts other = false
 
 -- any other command lifts none
-pub command_lifts_none : (policy : PolicyData) (history : List RecordData) (r : RecordData) (a : Asked) (action : Action) → GrantsCommand r a action → lifts action ≡ false → StayKilled policy history (history ++ r ∷ [])
-command_lifts_none policy history r a action g lifts_none = record {
-  stays = λ (account : AccountName) killed. killed_by policy history r a action account g ∙ by action lifts_none account killed;
-}
+pub commands_lift_none : (policy : PolicyData) (r : RecordData) (officer : UserName) (c : Command) (w : World) (action : Action) → lifts action ≡ false → StayKilled w (commanded policy r officer c action w)
+commands_lift_none policy r officer c w (actions.Kill named) none account h = at (same_account named account)
   where
-    marked : (b : Bool) (was : Option (List UserName)) → is_untouched was ≡ true → is_untouched (kill_after policy.lifters (where_true b None) was) ≡ true
-    marked true was h = refl
-    marked false was h = h
-
-    by : (action : Action) → lifts action ≡ false → (account : AccountName) → is_whole policy history account ≡ true → is_untouched (kill_after policy.lifters (kill_or_lift_of account a.user action) (kill_in_force policy history account)) ≡ true
-    by (actions.Kill named) none account h = marked (same_account named account) (kill_in_force policy history account) h
-    by (actions.Lift named) none account h = cc
-    by (actions.SetLimit rule limit) none account h = h
-    by (actions.Restrict rule stock) none account h = h
-    by (actions.Unrestrict rule stock) none account h = h
-    by (actions.Grant reader named) none account h = h
-    by (actions.Revoke reader named) none account h = h
-    by actions.CloseDay none account h = h
-
--- a Kill kills its account
-pub kill_kills : (policy : PolicyData) (history : List RecordData) (r : RecordData) (a : Asked) (account : AccountName) → GrantsCommand r a (actions.Kill account) → is_whole policy (history ++ r ∷ []) account ≡ true
-kill_kills policy history r a account g =
-    killed_by policy history r a (actions.Kill account) account g ∙ ap (λ b. is_untouched (kill_after policy.lifters (where_true b None) (kill_in_force policy history account))) (account_is_itself account)
+    at : (b : Bool) → is_untouched (if b then Some [] else w.kills account) ≡ true
+    at true = refl
+    at false = h
+commands_lift_none policy r officer c w (actions.Lift named) none account h = cc
+commands_lift_none policy r officer c w (actions.SetLimit rule limit) none account h = h
+commands_lift_none policy r officer c w (actions.Restrict rule stock) none account h = h
+commands_lift_none policy r officer c w (actions.Unrestrict rule stock) none account h = h
+commands_lift_none policy r officer c w (actions.Grant reader named) none account h = h
+commands_lift_none policy r officer c w (actions.Revoke reader named) none account h = h
+commands_lift_none policy r officer c w actions.CloseDay none account h = h
 
 -- what was not passed before is not passed after
 left_before : (m k l : Bool) → (k ≡ true → l ≡ true) → (m && not l) ≡ true → (m && not k) ≡ true
@@ -87,17 +63,17 @@ left_before false k l h e = e
 left_before true false l h e = refl
 left_before true true l h e = let clash : false ≡ true = sym (ap not (h refl)) ∙ e in clash
 
-pub fewer_kills_left : (policy : PolicyData) (before after : List RecordData) (user : UserName) → StayKilled policy before after → kills_left policy after user ≤ kills_left policy before user
+pub fewer_kills_left : (policy : PolicyData) (before after : List RecordData) (user : UserName) → StayKilled (world policy before) (world policy after) → kills_left policy after user ≤ kills_left policy before user
 fewer_kills_left policy before after user stay =
     fewer_pass (is_left_to policy before user) (is_left_to policy after user)
-    (λ (a : Account) h. left_before (may_kill (role_in policy.users user) a.name) (is_whole policy before a.name) (is_whole policy after a.name) (stay.stays a.name) h)
+    (λ (a : Account) h. left_before (may_kill (role_in policy.users user) a.name) (is_whole policy before a.name) (is_whole policy after a.name) (stay a.name) h)
     policy.accounts
 
-pub fewer_alive : (policy : PolicyData) (before after : List RecordData) → StayKilled policy before after
+pub fewer_alive : (policy : PolicyData) (before after : List RecordData) → StayKilled (world policy before) (world policy after)
     → length (filter (is_alive policy after) policy.accounts) ≤ length (filter (is_alive policy before) policy.accounts)
 fewer_alive policy before after stay =
     fewer_pass (is_alive policy before) (is_alive policy after)
-    (λ (a : Account) h. left_before true (is_whole policy before a.name) (is_whole policy after a.name) (stay.stays a.name) h)
+    (λ (a : Account) h. left_before true (is_whole policy before a.name) (is_whole policy after a.name) (stay a.name) h)
     policy.accounts
 
 -- an officer who has the power and the account may kill it
@@ -108,43 +84,31 @@ may policy history (Some (roles.Trader other)) account power his = cc
 may policy history (Some (roles.Reader names)) account power his = cc
 may policy history None account power his = cc
 
-change_is_no_bar : (policy : PolicyData) (history : List RecordData) (a : Asked) (r : RecordData)
-    → next policy history (steps.Asked a) ≡ Some r → r.verdict ≡ verdicts.Granted → forbids Q4 (facts_now policy history a) a.request ≡ false
-unfolding rules_behind
-change_is_no_bar policy history a r left granted =
-    none_among (λ (name : RuleName). forbids name (facts_now policy history a) a.request) (Q1 ∷ Q2 ∷ Q3 ∷ []) Q4 (drop 4 rules_behind)
-    (none_behind (rules_now policy history a) (facts_now policy history a) a.request (granted_passes policy history a r left granted))
-
--- a granted command changes something
-changes_something : (policy : PolicyData) (history : List RecordData) (a : Asked) (r : RecordData) (action : Action) → GrantsCommand r a action
-    → next policy history (steps.Asked a) ≡ Some r → changes policy history a.user action ≡ true
-unfolding facts
-changes_something policy history a r action g left =
-    let test : Action → Bool = changes policy history a.user in
-    ap test (sym g.is_for)
-    ∙ not-false (test g.command.action) (sym (ap (λ (q : Request). is_command q && not (of_command test q)) g.is_command) ∙ change_is_no_bar policy history a r left g.grants)
-
 -- what a granted Kill finds
 pub record Kills (policy : PolicyData) (history : List RecordData) (r : RecordData) (a : Asked) (account : AccountName) : Type 0 where
   pub is_known : is_some (account_named policy account) ≡ true
   pub may : may_kill (role_in policy.users a.user) account ≡ true
   pub was_alive : is_whole policy history account ≡ false
   pub is_whole_now : is_whole policy (history ++ r ∷ []) account ≡ true
-  pub stay : StayKilled policy history (history ++ r ∷ [])
+  pub stay : StayKilled (world policy history) (world policy (history ++ r ∷ []))
 
 not_true : (b : Bool) → not b ≡ true → b ≡ false
 not_true true h = cc
 not_true false h = refl
 
-pub kill_finds : (policy : PolicyData) (history : List RecordData) (a : Asked) (r : RecordData) (account : AccountName) → next policy history (steps.Asked a) ≡ Some r
-    → GrantsCommand r a (actions.Kill account) → Kills policy history r a account
-kill_finds policy history a r account left g = record {
-  is_known = names_are_known policy history a r (actions.Kill account) g left;
-  may = may policy history (role_in policy.users a.user) account (has_the_power policy history a r (actions.Kill account) g left) (has_the_accounts policy history a r (actions.Kill account) g left);
-  was_alive = not_true (is_whole policy history account) (changes_something policy history a r (actions.Kill account) g left);
-  is_whole_now = kill_kills policy history r a account g;
-  stay = command_lifts_none policy history r a (actions.Kill account) g refl;
-}
+pub kill_finds : (policy : PolicyData) (history : List RecordData) (a : Asked) (r : RecordData) (c : Command) (account : AccountName) → IsLegal policy history → next policy history (steps.Asked a) ≡ Some r
+    → r.verdict ≡ verdicts.Granted → a.request ≡ requests.Command c → c.action ≡ actions.Kill account → Kills policy history r a account
+kill_finds policy history a r c account legal left granted asks is =
+    let g : GrantsCommand r a (actions.Kill account) = grants_the_command policy history a r c (actions.Kill account) left asks is granted in
+    let w : World = world policy history in
+    let now : world policy (history ++ r ∷ []) ≡ _ = kills_leave_the_others c account is policy history a r legal left asks granted in
+    record {
+      is_known = names_are_known policy history a r (actions.Kill account) g left;
+      may = may policy history (role_in policy.users a.user) account (has_the_power policy history a r (actions.Kill account) g left) (has_the_accounts policy history a r (actions.Kill account) g left);
+      was_alive = not_true (is_whole policy history account) (changes_something policy history a r (actions.Kill account) g left);
+      is_whole_now = ap (λ (after : World). is_untouched (after.kills account)) now ∙ ap (λ b. is_untouched (if b then Some [] else w.kills account)) (account_is_itself account);
+      stay = subst (StayKilled w) (sym now) (commands_lift_none policy r a.user c w (actions.Kill account) refl);
+    }
 
 there : {X : Type 0} (found : Option X) → is_some found ≡ true → (x : X) × (found ≡ Some x)
 there None h = cc
@@ -156,7 +120,7 @@ pub one_kill_less : (policy : PolicyData) (history : List RecordData) (r : Recor
 one_kill_less policy history r a account k =
     let it = there (account_named policy account) k.is_known in
     one_less_passes (is_left_to policy history a.user) (is_left_to policy (history ++ r ∷ []) a.user) (λ (x : Account). same_account x.name account)
-    (λ (x : Account) h. left_before (may_kill (role_in policy.users a.user) x.name) (is_whole policy history x.name) (is_whole policy (history ++ r ∷ []) x.name) (k.stay.stays x.name) h)
+    (λ (x : Account) h. left_before (may_kill (role_in policy.users a.user) x.name) (is_whole policy history x.name) (is_whole policy (history ++ r ∷ []) x.name) (k.stay x.name) h)
     (λ (x : Account) h. this x (account_is x.name account h)) policy.accounts it.0 it.1
   where
     passes : Bool → Bool → Bool
@@ -176,7 +140,7 @@ pub one_less_alive : (policy : PolicyData) (history : List RecordData) (r : Reco
 one_less_alive policy history r a account k =
     let it = there (account_named policy account) k.is_known in
     one_less_passes (is_alive policy history) (is_alive policy (history ++ r ∷ [])) (λ (x : Account). same_account x.name account)
-    (λ (x : Account) h. left_before true (is_whole policy history x.name) (is_whole policy (history ++ r ∷ []) x.name) (k.stay.stays x.name) h)
+    (λ (x : Account) h. left_before true (is_whole policy history x.name) (is_whole policy (history ++ r ∷ []) x.name) (k.stay x.name) h)
     (λ (x : Account) h. let is : x.name ≡ account = account_is x.name account h in (
       ap (λ (n : AccountName). not (is_whole policy history n)) is ∙ ap not k.was_alive,
       ap (λ (n : AccountName). not (is_whole policy (history ++ r ∷ []) n)) is ∙ ap not k.is_whole_now,
@@ -201,13 +165,6 @@ no_more_kills policy history user = by (is_officer (role_in policy.users user)) 
 
 -- ---- who is logged in
 
-line_is_no_bar : (policy : PolicyData) (history : List RecordData) (a : Asked) (r : RecordData)
-    → next policy history (steps.Asked a) ≡ Some r → r.verdict ≡ verdicts.Granted → forbids G1 (facts_now policy history a) a.request ≡ false
-unfolding rules_before
-line_is_no_bar policy history a r left granted =
-    none_among (λ (name : RuleName). forbids name (facts_now policy history a) a.request) (L1 ∷ L2 ∷ L3 ∷ []) G1 (drop 4 rules_before)
-    (granted_passes_before policy history a r left granted)
-
 on_this_line : (policy : PolicyData) (history : List RecordData) (a : Asked) → (facts_now policy history a).is_on_this_line ≡ is_on_line (line_of history a.user) a.line
 unfolding facts
 on_this_line policy history a = refl
@@ -218,7 +175,7 @@ pub was_on : (policy : PolicyData) (history : List RecordData) (a : Asked) (r : 
 was_on policy history a r left granted asks =
     on (line_of history a.user)
     (sym (on_this_line policy history a)
-    ∙ not-false (facts_now policy history a).is_on_this_line (sym (ap (forbids G1 (facts_now policy history a)) asks) ∙ line_is_no_bar policy history a r left granted))
+    ∙ not-false (facts_now policy history a).is_on_this_line (sym (ap (forbids G1 (facts_now policy history a)) asks) ∙ is_no_bar policy history a r left granted G1))
   where
     on : (line : Option ℕ) → is_on_line line a.line ≡ true → is_some line ≡ true
     on None h = h

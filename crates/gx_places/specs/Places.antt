@@ -15,17 +15,18 @@ use Rattle.gx_history.specs.declared.record.Request.{Request}
 use Rattle.gx_history.specs.declared.record.Request.TheVariants as requests
 use Rattle.gx_history.specs.declared.record.Verdict.{Verdict}
 use Rattle.gx_history.specs.declared.record.Verdict.TheVariants as verdicts
-use Rattle.gx_history.specs.Executions.{Standing, live_orders}
+use Rattle.gx_history.specs.declared.live_order.LiveOrder.{LiveOrder}
+use Rattle.gx_history.specs.Live.{live}
 use Rattle.gx_history.specs.InForce.{is_untouched, kill_in_force, line_of}
 use Rattle.gx_policy.specs.People.{covers, is_officer, role_in}
 
 -- the order is the user's
-abbrev pub is_of_user : UserName → Standing → Bool
-is_of_user user s = same_user s.order.user user
+abbrev pub is_of_user : UserName → LiveOrder → Bool
+is_of_user user o = same_user o.user user
 
 -- how many orders of the user are live: a Kill may end each of them
 abbrev pub orders_held : PolicyData → List RecordData → UserName → ℕ
-orders_held policy history user = length (filter (is_of_user user) (live_orders policy history))
+orders_held policy history user = length (filter (is_of_user user) (live policy history))
 
 -- an officer who may kill the account
 abbrev pub may_kill : Option Role → AccountName → Bool

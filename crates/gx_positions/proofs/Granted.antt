@@ -1,5 +1,5 @@
 -- The shares and the price of a granted order are within bounds.
-use Rattle.std.proofs.Common.{◌≡◌, ℕ, ◌<◌, ◌≤◌, ◌^◌, Bool, true, false, List, [], ◌∷◌, refl, ◌∙◌, ap, sym, arith, drop}
+use Rattle.std.proofs.Common.{◌≡◌, ℕ, ◌<◌, ◌≤◌, ◌^◌, Bool, true, false, List, refl, ◌∙◌, ap, sym, arith}
 use Rattle.std.specs.Prelude.{Option, Some, ◌%◌, ◌&&◌, ◌||◌, ◌==◌, not, nat_lt, nat_le, option_map}
 use Rattle.std.specs.Option.{option_map_or}
 use Rattle.std.proofs.lemmas.Bool.{leb-false, ltb-false}
@@ -12,34 +12,14 @@ use Rattle.gx_policy.specs.declared.policy.PolicyData.{PolicyData}
 use Rattle.gx_history.specs.declared.record.Asked.{Asked}
 use Rattle.gx_history.specs.declared.record.RecordData.{RecordData}
 use Rattle.gx_history.specs.declared.record.Request.TheVariants as requests
-use Rattle.gx_policy.specs.declared.rule_name.RuleName.{RuleName}
-use Rattle.gx_policy.specs.declared.rule_name.RuleName.TheVariants.{L1, L2, L3, G1, G2, G3, I1, I2, I3, P1, P2, P3, P4, P5, P6}
+use Rattle.gx_policy.specs.declared.rule_name.RuleName.TheVariants.{P5, P6}
 use Rattle.gx_history.specs.declared.record.Step.TheVariants as steps
 use Rattle.gx_history.specs.declared.record.Verdict.TheVariants as verdicts
-use Rattle.gx_history.specs.Executions.{Standing, live_orders, standing_under}
-use Rattle.gx_policy.specs.RuleNames.{rules_before}
+use Rattle.gx_history.specs.Live.{live, live_under}
 use Rattle.gx_history.specs.Rules.{forbids}
 use Rattle.gx_history.specs.Verdicts.{facts_now, next}
-use Rattle.gx_history.specs.LiveOrders.{kept}
-use Rattle.gx_history_laws.proofs.Granting.{granted_passes_before}
-use Rattle.gx_history_laws.proofs.Order.{none_among}
+use Rattle.gx_history_laws.proofs.Granting.{is_no_bar}
 use Rattle.gx_effects.proofs.NamedOrders.{named_is}
-
-size_is_no_bar : (policy : PolicyData) (history : List RecordData) (a : Asked) (r : RecordData)
-    → next policy history (steps.Asked a) ≡ Some r → r.verdict ≡ verdicts.Granted → forbids P5 (facts_now policy history a) a.request ≡ false
-unfolding rules_before
-size_is_no_bar policy history a r e granted =
-    none_among (λ (name : RuleName). forbids name (facts_now policy history a) a.request)
-    (L1 ∷ L2 ∷ L3 ∷ G1 ∷ G2 ∷ G3 ∷ I1 ∷ I2 ∷ I3 ∷ P1 ∷ P2 ∷ P3 ∷ P4 ∷ []) P5 (drop 14 rules_before)
-    (granted_passes_before policy history a r e granted)
-
-price_is_no_bar : (policy : PolicyData) (history : List RecordData) (a : Asked) (r : RecordData)
-    → next policy history (steps.Asked a) ≡ Some r → r.verdict ≡ verdicts.Granted → forbids P6 (facts_now policy history a) a.request ≡ false
-unfolding rules_before
-price_is_no_bar policy history a r e granted =
-    none_among (λ (name : RuleName). forbids name (facts_now policy history a) a.request)
-    (L1 ∷ L2 ∷ L3 ∷ G1 ∷ G2 ∷ G3 ∷ I1 ∷ I2 ∷ I3 ∷ P1 ∷ P2 ∷ P3 ∷ P4 ∷ P5 ∷ []) P6 (drop 15 rules_before)
-    (granted_passes_before policy history a r e granted)
 
 few : (n : ℕ) → (n == 0 || nat_le 1000000 n) ≡ false → n < 2 ^ 32
 few n h = by (n == 0) (nat_le 1000000 n) refl h
@@ -60,16 +40,16 @@ low n h = by (n == 0) (nat_lt 1999999900 n) (nat_le 10000 n && not (n % 100 == 0
 pub entered_shares : (policy : PolicyData) (history : List RecordData) (a : Asked) (r : RecordData) (m : EnterOrder)
     → next policy history (steps.Asked a) ≡ Some r → r.verdict ≡ verdicts.Granted → a.request ≡ requests.Enter m → m.shares < 2 ^ 32
 entered_shares policy history a r m left granted asks =
-    few m.shares (sym (ap (forbids P5 (facts_now policy history a)) asks) ∙ size_is_no_bar policy history a r left granted)
+    few m.shares (sym (ap (forbids P5 (facts_now policy history a)) asks) ∙ is_no_bar policy history a r left granted P5)
 
 -- an Enter's price
 pub entered_price : (policy : PolicyData) (history : List RecordData) (a : Asked) (r : RecordData) (m : EnterOrder)
     → next policy history (steps.Asked a) ≡ Some r → r.verdict ≡ verdicts.Granted → a.request ≡ requests.Enter m → m.price < 2 ^ 32
 entered_price policy history a r m left granted asks =
-    low m.price (sym (ap (forbids P6 (facts_now policy history a)) asks) ∙ price_is_no_bar policy history a r left granted)
+    low m.price (sym (ap (forbids P6 (facts_now policy history a)) asks) ∙ is_no_bar policy history a r left granted P6)
 
 -- the order that a Replace proposes
-abbrev proposed_by : ReplaceOrder → LiveOrder → ProposedOrder
+abbrev pub proposed_by : ReplaceOrder → LiveOrder → ProposedOrder
 proposed_by m o = record {
   side = o.terms.side;
   stock = o.terms.stock;
@@ -90,17 +70,15 @@ abbrev has_bad_price : ProposedOrder → Bool
 has_bad_price w = is_bad_price w.price
 
 -- a granted Replace of the order
-module _ (policy : PolicyData) (history : List RecordData) (a : Asked) (r : RecordData) (m : ReplaceOrder) (s : Standing) (left : next policy history (steps.Asked a) ≡ Some r) (granted : r.verdict ≡ verdicts.Granted)
-    (asks : a.request ≡ requests.Replace m) (found : standing_under (live_orders policy history) a.user m.existing_token ≡ Some s) where
-  proposes : (test : ProposedOrder → Bool) → option_map_or test (option_map (proposed_by m) (facts_now policy history a).named) false ≡ test (proposed_by m (kept policy history s))
-  proposes test =
-      ap (λ (o : Option LiveOrder). option_map_or test (option_map (proposed_by m) o) false)
-      (named_is policy history a (requests.Replace m) m.existing_token asks refl ∙ ap (option_map (kept policy history)) found)
+module _ (policy : PolicyData) (history : List RecordData) (a : Asked) (r : RecordData) (m : ReplaceOrder) (o : LiveOrder) (left : next policy history (steps.Asked a) ≡ Some r) (granted : r.verdict ≡ verdicts.Granted)
+    (asks : a.request ≡ requests.Replace m) (found : live_under (live policy history) a.user m.existing_token ≡ Some o) where
+  proposes : (test : ProposedOrder → Bool) → option_map_or test (option_map (proposed_by m) (facts_now policy history a).named) false ≡ test (proposed_by m o)
+  proposes test = ap (λ (named : Option LiveOrder). option_map_or test (option_map (proposed_by m) named) false) (named_is policy history a (requests.Replace m) m.existing_token asks refl ∙ found)
 
   -- its shares
   pub replaced_shares : m.shares < 2 ^ 32
-  replaced_shares = few m.shares (sym (ap (forbids P5 (facts_now policy history a)) asks ∙ proposes is_bad_size) ∙ size_is_no_bar policy history a r left granted)
+  replaced_shares = few m.shares (sym (ap (forbids P5 (facts_now policy history a)) asks ∙ proposes is_bad_size) ∙ is_no_bar policy history a r left granted P5)
 
   -- its price
   pub replaced_price : m.price < 2 ^ 32
-  replaced_price = low m.price (sym (ap (forbids P6 (facts_now policy history a)) asks ∙ proposes has_bad_price) ∙ price_is_no_bar policy history a r left granted)
+  replaced_price = low m.price (sym (ap (forbids P6 (facts_now policy history a)) asks ∙ proposes has_bad_price) ∙ is_no_bar policy history a r left granted P6)

@@ -2,7 +2,6 @@ pub mod Granted
 pub mod Moments
 pub mod Coming
 pub mod GoingOn
-pub mod SameFigures
 pub mod Small
 pub mod Sized
 pub mod Sound

@@ -1,5 +1,5 @@
 -- No order is granted later than the last record.
-use Rattle.std.proofs.Common.{◌≡◌, ℕ, ◌≤◌, List, [], ◌∷◌, ◌++◌, refl, ap, sym, arith}
+use Rattle.std.proofs.Common.{◌≡◌, ℕ, ◌≤◌, List, [], ◌∷◌, ◌++◌, refl, sym, arith}
 use Rattle.std.proofs.Math.Path.{subst}
 use Rattle.std.proofs.Math.Nat.{le-max_right}
 use Rattle.std.specs.Prelude.{Option, Some, None}
@@ -20,11 +20,12 @@ use Rattle.gx_policy.specs.People.{account_of}
 use Rattle.gx_history.specs.Requests.{granted, handed_moment}
 use Rattle.gx_history.specs.Verdicts.{IsLegal, last_moment, next, Follows}
 use Rattle.gx_history_laws.proofs.Granting.{legal_keeps}
+use Rattle.gx_history_laws.proofs.NextInForce.{last_moment_next}
 use Rattle.gx_history_laws.proofs.NextOrders.{orders_none, orders_next}
 use Rattle.gx_history_laws.proofs.Numbers.{all_weaker}
 use Rattle.gx_history_laws.proofs.Owners.{all_both}
-use Rattle.gx_history_laws.proofs.Pushing.{last_or-append}
 use Rattle.gx_history_laws.proofs.Runs.{moment_left}
+use Rattle.gx_positions.specs.Sound.{IsNoLater}
 
 -- granted at this moment
 abbrev IsAt : RecordData → Order → Type 0
@@ -56,15 +57,11 @@ added_at policy known r None = tt
 added_at policy known r (Some a) = made_at policy known r a.user a.request
 
 -- a record is no earlier than the last
-pub no_earlier : (policy : PolicyData) (history : List RecordData) (step : Step) (r : RecordData)
+no_earlier : (policy : PolicyData) (history : List RecordData) (step : Step) (r : RecordData)
     → next policy history step ≡ Some r → last_moment history ≤ r.moment
 no_earlier policy history step r left =
     subst (λ (n : ℕ). last_moment history ≤ n) (sym (moment_left policy history step r left))
     (le-max_right (handed_moment step) (last_moment history))
-
-moment_now : (history : List RecordData) (r : RecordData) → last_moment (history ++ r ∷ []) ≡ r.moment
-moment_now history r =
-    ap (λ (found : Option RecordData). option_map_or (λ (x : RecordData). x.moment) found 0) (last_or-append None history (r ∷ []))
 
 -- each order was granted by this moment
 abbrev pub AreBy : ℕ → List Order → Type 0
@@ -74,7 +71,7 @@ one_more_by : (policy : PolicyData) (history : List RecordData) (r : RecordData)
     → Follows policy (history, r) → AreBy (last_moment (history ++ r ∷ [])) (orders policy (history ++ r ∷ []))
 one_more_by policy history r known follows =
     let later : last_moment history ≤ r.moment = no_earlier policy history r.step r follows.is_next in
-    let now : last_moment (history ++ r ∷ []) ≡ r.moment = moment_now history r in
+    let now : last_moment (history ++ r ∷ []) ≡ r.moment = last_moment_next history r in
     let added : List Order = orders_added policy (orders policy history) r in
     let then : ℕ = last_moment (history ++ r ∷ []) in
     subst (AreBy then) (sym (orders_next policy history r))
@@ -83,7 +80,16 @@ one_more_by policy history r known follows =
     (all_weaker (IsAt r) (λ (o : Order). o.moment ≤ then) (λ o h. omega (arith, h, now)) added (added_at policy (orders policy history) r (granted r))))
 
 -- so no order is granted later than the last record
-pub orders_by_now : (policy : PolicyData) (history : List RecordData) → IsLegal policy history → AreBy (last_moment history) (orders policy history)
+orders_by_now : (policy : PolicyData) (history : List RecordData) → IsLegal policy history → AreBy (last_moment history) (orders policy history)
 orders_by_now policy history legal =
     legal_keeps policy (λ (h : List RecordData). AreBy (last_moment h) (orders policy h)) (subst (AreBy 0) (sym (orders_none policy)) tt)
     (λ h r known follows. one_more_by policy h r known follows) history legal
+
+-- an order that a record grants is no earlier than those before
+pub granted_last : (policy : PolicyData) (history : List RecordData) (step : Step) (r : RecordData) → IsLegal policy history → next policy history step ≡ Some r
+    → AllByRecursion (λ (o : Order). AllByRecursion (IsNoLater o) (orders policy history)) (orders_added policy (orders policy history) r)
+granted_last policy history step r legal left =
+    let later : last_moment history ≤ r.moment = no_earlier policy history step r left in
+    all_weaker (IsAt r) (λ (o : Order). AllByRecursion (IsNoLater o) (orders policy history))
+    (λ o here. all_weaker (λ (x : Order). x.moment ≤ last_moment history) (IsNoLater o) (λ x h. omega (arith, h, later, here)) (orders policy history) (orders_by_now policy history legal))
+    (orders_added policy (orders policy history) r) (added_at policy (orders policy history) r (granted r))

@@ -1,32 +1,43 @@
 -- In every legal history orders and fills are few and small, and moments do not fall from grant to grant.
-use Rattle.std.proofs.Common.{◌≡◌, ℕ, ◌+◌, ◌≤◌, List, [], ◌∷◌, ◌++◌, sym, length, arith, inl, inr, ◌⊎◌}
+use Rattle.std.proofs.Common.{◌≡◌, ℕ, ◌+◌, ◌≤◌, true, List, [], ◌∷◌, ◌++◌, ap, sym, length, arith, inl, inr, ◌⊎◌, refl}
 use Rattle.std.proofs.Math.Path.{subst}
 use Rattle.std.specs.List.{AllByRecursion}
-use Rattle.std.proofs.lemmas.List.{length-append}
+use Rattle.std.proofs.lemmas.List.{append-nil, length-append}
 use Rattle.gx_policy.specs.declared.policy.PolicyData.{PolicyData}
+use Rattle.gx_history.specs.declared.record.Fill.{Fill}
 use Rattle.gx_history.specs.declared.record.RecordData.{RecordData}
-use Rattle.gx_history.specs.Executions.{Execution, executions, live_orders}
-use Rattle.gx_history.specs.Figures.{Positions}
+use Rattle.gx_history.specs.declared.record.Request.{Request}
+use Rattle.gx_history.specs.declared.record.Request.TheVariants as requests
+use Rattle.gx_history.specs.declared.record.Step.{Step}
+use Rattle.gx_history.specs.declared.record.Verdict.{Verdict}
+use Rattle.gx_history.specs.declared.record.Verdict.TheVariants as verdicts
+use Rattle.gx_history.specs.Executions.{Execution, executions, sides_in}
+use Rattle.gx_history.specs.Figures.{Positions, positions}
+use Rattle.gx_history.specs.Live.{live}
 use Rattle.gx_history.specs.Orders.{Order, orders}
-use Rattle.gx_history.specs.Verdicts.{day_limit, Follows, IsGrantedKillOrLogout, IsLegal}
+use Rattle.gx_history.specs.Requests.{is_order}
+use Rattle.gx_history.specs.Verdicts.{day_limit, Follows, IsGrantedKillOrLogout, IsKillOrLogout, IsLegal}
+use Rattle.gx_history_laws.proofs.Adding.{AddsNone, AddsOne, what_is_added}
 use Rattle.gx_history_laws.proofs.Granting.{legal_keeps}
-use Rattle.gx_history_laws.proofs.NextOrders.{executions_none, orders_none}
+use Rattle.gx_history_laws.proofs.NextOrders.{executions_next, executions_none, orders_next, orders_none}
 use Rattle.gx_history_laws.proofs.NextReports.{legal_next, legal_none}
 use Rattle.gx_history_laws.proofs.Numbers.{next_number}
-use Rattle.gx_effects.specs.OneMore.{Change, change_of}
-use Rattle.gx_effects.proofs.OneMore.{ByChange, one_more}
-use Rattle.gx_positions.specs.Changing.{executions_with, grants_with, live_positions}
-use Rattle.gx_positions.specs.Sound.{NeverFall}
-use Rattle.gx_positions.proofs.Coming.{Comes, Grows, IsSmall, one_comes}
-use Rattle.gx_positions.proofs.GoingOn.{live_none}
-use Rattle.gx_positions.proofs.Small.{AreFew, IsSmallSide, few_grants, live_then, moments_then, sides_then}
+use Rattle.gx_history_laws.proofs.Owners.{all_both}
+use Rattle.gx_history.specs.World.{turn_by, world}
+use Rattle.gx_positions.specs.Laws.{granted_after, turn_after}
+use Rattle.gx_positions.specs.Sound.{IsNoLater, MayChange, MayFill, NeverFall}
+use Rattle.gx_positions.proofs.Coming.{numbers_apart, records_may_come}
+use Rattle.gx_positions.proofs.GoingOn.{live_none, positions_go_on}
+use Rattle.gx_positions.proofs.Moments.{granted_last}
+use Rattle.gx_positions.proofs.Small.{AreFew, HasRoom, IsSmall, IsSmallSide, few_then, fill_small, live_then, never_fall_next}
+use Rattle.gx_positions.proofs.Sums.{sides_are}
 
 -- at most as many orders as records, twice as many sides of fills, and both as few as a day has
 pub record IsSized (policy : PolicyData) (history : List RecordData) : Type 0 where
   pub few_orders : AreFew (orders policy history) (length history) day_limit
   pub few_sides : AreFew (executions policy history) (length history + length history) (day_limit + day_limit)
   pub never_fall : NeverFall (orders policy history)
-  pub small_live : AllByRecursion IsSmall (live_orders policy history)
+  pub small_live : AllByRecursion IsSmall (live policy history)
   pub small_sides : AllByRecursion IsSmallSide (executions policy history)
 
 none_sized : (policy : PolicyData) → IsSized policy []
@@ -38,35 +49,90 @@ none_sized policy = record {
   small_sides = subst (AllByRecursion IsSmallSide) (sym (executions_none policy)) tt;
 }
 
--- where there is one more order or fill, the day has room for it
-has_room : (policy : PolicyData) (history : List RecordData) (r : RecordData) (change : Change) → Follows policy (history, r) → Comes policy history r change
-    → Grows change → length history + 1 ≤ day_limit
-has_room policy history r change follows comes grows = by follows.fits_day.fits
-  where
-    by : (r.number ≤ day_limit) ⊎ IsGrantedKillOrLogout r.verdict r.step → length history + 1 ≤ day_limit
-    by (inl h) = subst (λ (n : ℕ). n ≤ day_limit) (next_number policy history r follows) h
-    by (inr kills) = absurd (comes.is_of_day grows kills)
+module _ (policy : PolicyData) (history : List RecordData) (r : RecordData) (legal : IsLegal policy history) (follows : Follows policy (history, r)) (sized : IsSized policy history) where
+  -- the day has room for a record that is no Kill and no Logout
+  room : (IsGrantedKillOrLogout r.verdict r.step → ⊥) → length history + 1 ≤ day_limit
+  room never = by follows.fits_day.fits
+    where
+      by : (r.number ≤ day_limit) ⊎ IsGrantedKillOrLogout r.verdict r.step → length history + 1 ≤ day_limit
+      by (inl h) = subst (λ (n : ℕ). n ≤ day_limit) (next_number policy history r follows) h
+      by (inr kills) = absurd (never kills)
 
-one_more_sized : (policy : PolicyData) (history : List RecordData) (r : RecordData) (change : Change) → Follows policy (history, r) → Comes policy history r change
-    → ByChange policy history (history ++ r ∷ []) change → IsSized policy history → IsSized policy (history ++ r ∷ [])
-one_more_sized policy history r change follows comes by sized =
-    let held : Positions = live_positions policy history in
-    let now : List RecordData = history ++ r ∷ [] in
-    let size : length history + 1 ≡ length now = sym (length-append history (r ∷ [])) in
-    let room : Grows change → length history + 1 ≤ day_limit = has_room policy history r change follows comes in
-    let sides : AreFew (executions_with change held) ((length history + 1) + (length history + 1)) (day_limit + day_limit) × AllByRecursion IsSmallSide (executions_with change held) =
-    sides_then policy held change (length history) day_limit comes.may_come comes.brings_small sized.small_live sized.few_sides sized.small_sides room in
-    record {
-      few_orders =
-          subst (λ (os : List Order). AreFew os (length now) day_limit) (sym comes.grants_then)
-          (subst (λ (n : ℕ). AreFew (grants_with change (orders policy history)) n day_limit) size (few_grants change (orders policy history) (length history) day_limit sized.few_orders room));
-      few_sides =
-          subst (λ (es : List Execution). AreFew es (length now + length now) (day_limit + day_limit)) (sym comes.executions_then)
-          (subst (λ (n : ℕ). AreFew (executions_with change held) (n + n) (day_limit + day_limit)) size sides.0);
-      never_fall = subst NeverFall (sym comes.grants_then) (moments_then policy held change comes.may_come sized.never_fall);
-      small_live = subst (AllByRecursion IsSmall) (sym by.lives) (live_then policy held change comes.may_come comes.brings_small sized.small_live);
-      small_sides = subst (AllByRecursion IsSmallSide) (sym comes.executions_then) sides.1;
-    }
+  grants_no_kill : AddsOne policy history r → IsGrantedKillOrLogout r.verdict r.step → ⊥
+  grants_no_kill one kills =
+      of_request one.a.request one.is_for_order
+      (subst (λ (s : Step). IsGrantedKillOrLogout verdicts.Granted s) one.asks (subst (λ (v : Verdict). IsGrantedKillOrLogout v r.step) one.grants kills))
+    where
+      of_request : (q : Request) → is_order q ≡ true → IsKillOrLogout q → ⊥
+      of_request (requests.Enter m) is k = k
+      of_request (requests.Replace m) is k = k
+      of_request (requests.Cancel m) is k = k
+      of_request (requests.Login m) is k = k
+      of_request (requests.Unreadable m) is k = k
+      of_request requests.Logout is k = cc
+      of_request (requests.Command c) is k = cc
+
+  added : AddsNone policy history r ⊎ AddsOne policy history r
+  added = what_is_added policy history r follows
+
+  room_for_orders : HasRoom (granted_after policy history r) (length history) day_limit 1
+  room_for_orders = by added
+    where
+      by : AddsNone policy history r ⊎ AddsOne policy history r → HasRoom (granted_after policy history r) (length history) day_limit 1
+      by (inl none) = inl none.adds
+      by (inr one) = let single = ap length one.adds in inr (omega (arith, single), room (grants_no_kill one))
+
+  falls_never : NeverFall (orders policy history ++ granted_after policy history r)
+  falls_never = by added
+    where
+      by : AddsNone policy history r ⊎ AddsOne policy history r → NeverFall (orders policy history ++ granted_after policy history r)
+      by (inl none) = subst (λ (more : List Order). NeverFall (orders policy history ++ more)) (sym none.adds) (subst NeverFall (sym (append-nil (orders policy history))) sized.never_fall)
+      by (inr one) =
+          let last : AllByRecursion (λ (o : Order). AllByRecursion (IsNoLater o) (orders policy history)) (one.o ∷ []) =
+          subst (AllByRecursion (λ (o : Order). AllByRecursion (IsNoLater o) (orders policy history))) one.adds (granted_last policy history r.step r legal follows.is_next) in
+          subst (λ (more : List Order). NeverFall (orders policy history ++ more)) (sym one.adds) (never_fall_next (orders policy history) one.o sized.never_fall last.0)
+
+  may : MayChange policy (positions policy history) (turn_after policy history r) (granted_after policy history r)
+  may = records_may_come policy history r.step r legal follows.is_next
+
+  -- two sides of a fill at most, both small
+  abbrev AreTwo : List Execution → Type 0
+  AreTwo more = HasRoom more (length history + length history) (day_limit + day_limit) 2 × AllByRecursion IsSmallSide more
+
+  sides_made : AreTwo (sides_in (orders policy history) r.verdict)
+  sides_made = by r.verdict refl
+    where
+      of_fill : (f : Fill) → r.verdict ≡ verdicts.Filled f → MayFill (positions policy history) f → AreTwo (sides_in (orders policy history) (verdicts.Filled f))
+      of_fill f e fills =
+          let is = fill_small (positions policy history) f fills sized.small_live in
+          let space = room (λ kills. subst (λ (v : Verdict). IsGrantedKillOrLogout v r.step) e kills) in
+          subst AreTwo (sym (sides_are (positions policy history) f fills)) (inr (omega arith, omega (arith, space)), (is, (is, tt)))
+
+      by : (v : Verdict) → r.verdict ≡ v → AreTwo (sides_in (orders policy history) v)
+      by verdicts.Granted e = (inl refl, tt)
+      by (verdicts.Denied rule) e = (inl refl, tt)
+      by (verdicts.Rested number) e = (inl refl, tt)
+      by (verdicts.Expired number) e = (inl refl, tt)
+      by (verdicts.Filled f) e =
+          of_fill f e (subst (λ (v : Verdict). MayChange policy (positions policy history) (turn_by policy (world policy history) r v r.step) (granted_after policy history r)) e may)
+
+  one_more_sized : IsSized policy (history ++ r ∷ [])
+  one_more_sized =
+      let held : Positions = positions policy history in
+      let size : length (history ++ r ∷ []) ≡ length history + 1 = length-append history (r ∷ []) in
+      let few = few_then (orders policy history) (granted_after policy history r) (length history) day_limit 1 sized.few_orders room_for_orders in
+      let sides = few_then (executions policy history) (sides_in (orders policy history) r.verdict) (length history + length history) (day_limit + day_limit) 2 sized.few_sides sides_made.0 in
+      let granted_then = ap length (orders_next policy history r) in
+      let made_then = ap length (executions_next policy history r) in
+      record {
+        few_orders = (omega (arith, few.0, granted_then, size), omega (arith, few.1, granted_then));
+        few_sides = (omega (arith, sides.0, made_then, size), omega (arith, sides.1, made_then));
+        never_fall = subst NeverFall (sym (orders_next policy history r)) falls_never;
+        small_live =
+            subst (AllByRecursion IsSmall) (sym (ap (λ (p : Positions). p.live) (positions_go_on policy history r.step r legal follows.is_next)))
+            (live_then policy held (turn_after policy history r) (granted_after policy history r) (numbers_apart policy history legal) may sized.small_live);
+        small_sides = subst (AllByRecursion IsSmallSide) (sym (executions_next policy history r)) (all_both IsSmallSide (executions policy history) (sides_in (orders policy history) r.verdict) sized.small_sides sides_made.1);
+      }
 
 abbrev IsLegalAndSized : PolicyData → List RecordData → Type 0
 IsLegalAndSized policy history = IsLegal policy history × IsSized policy history
@@ -75,7 +141,4 @@ IsLegalAndSized policy history = IsLegal policy history × IsSized policy histor
 pub legal_is_sized : (policy : PolicyData) (history : List RecordData) → IsLegal policy history → IsSized policy history
 legal_is_sized policy history legal =
     (legal_keeps policy (IsLegalAndSized policy) (legal_none policy, none_sized policy)
-    (λ (h : List RecordData) (r : RecordData) both follows. (
-      legal_next policy h r both.0 follows,
-      one_more_sized policy h r (change_of policy h r) follows (one_comes policy h r.step r both.0 follows.is_next) (one_more policy h r.step r both.0 follows.is_next) both.1,
-    )) history legal).1
+    (λ (h : List RecordData) (r : RecordData) both follows. (legal_next policy h r both.0 follows, one_more_sized policy h r both.0 follows both.1)) history legal).1

@@ -1,160 +1,96 @@
--- A change of a small day leaves a small day: few orders and fills, each with few shares and a low price.
-use Rattle.std.proofs.Common.{◌≡◌, ℕ, ◌+◌, ◌-◌, ◌*◌, ◌<◌, ◌≤◌, ◌^◌, Bool, true, false, not, List, [], ◌∷◌, ◌++◌, map, cond, length, arith, sum_by}
+-- A turn of a small day leaves a small day: few orders and fills, each with few shares and a low price.
+use Rattle.std.proofs.Common.{◌≡◌, ℕ, ◌+◌, ◌*◌, ◌<◌, ◌≤◌, ◌^◌, Bool, true, false, List, [], ◌∷◌, ◌++◌, sym, ap, ◌∙◌, cond, length, arith, sum_by, inl, inr, ◌⊎◌}
+use Rattle.std.proofs.Math.Path.{subst}
 use Rattle.std.proofs.Math.Nat.{mul-le-mul_left}
-use Rattle.std.specs.Prelude.{Option, Some, None, ◌==◌, option_to_list}
-use Rattle.std.specs.List.{AllByRecursion, filter}
-use Rattle.std.proofs.lemmas.List.{length-append}
+use Rattle.std.specs.Prelude.{Some, nat_eq}
+use Rattle.std.specs.Option.{option_map_or}
+use Rattle.std.specs.List.{AllByRecursion, IsDistinct, filter, filter_map}
+use Rattle.std.proofs.lemmas.List.{append-nil, length-append}
 use Rattle.std.proofs.lemmas.List.Sums.{sum_by-cons}
 use Rattle.gx_units.specs.Money.{value}
-use Rattle.gx_ouch.specs.declared.letters.Liquidity.{Liquidity}
-use Rattle.gx_ouch.specs.declared.letters.Liquidity.TheVariants as liquidities
 use Rattle.gx_policy.specs.declared.policy.PolicyData.{PolicyData}
+use Rattle.gx_history.specs.declared.live_order.LiveOrder.{LiveOrder}
 use Rattle.gx_history.specs.declared.record.Fill.{Fill}
-use Rattle.gx_history.specs.Effects.{shares_left, still_open, with_open}
-use Rattle.gx_history.specs.Executions.{Execution, Standing, is_live, standing_numbered}
+use Rattle.gx_history.specs.Executions.{Execution}
 use Rattle.gx_history.specs.Figures.{Positions}
-use Rattle.gx_history.specs.Matched.{is_side_of, left_by_fill}
-use Rattle.gx_history.specs.Orders.{Order, ends_account}
-use Rattle.gx_history_laws.proofs.Numbers.{all_weaker}
-use Rattle.gx_history_laws.proofs.Owners.{all_both, filtered}
-use Rattle.gx_effects.specs.OneMore.{Change, Nothing, Adds, Leaves, Replaces, EndsAll, Fills, Rests, live_with}
-use Rattle.gx_effects.proofs.Entered.{all_mapped}
+use Rattle.gx_history.specs.LiveOrders.{shares_open}
+use Rattle.gx_history.specs.Orders.{Order}
+use Rattle.gx_history.specs.Turns.{Turn, Adds, EndsAll, Ends, Fills, Keeps, Replaces, Rests, Sizes, becomes, new_in, turned}
+use Rattle.gx_history_laws.proofs.Owners.{all_both}
+use Rattle.gx_effects.proofs.Among.{all_and}
+use Rattle.gx_effects.proofs.Entered.{all_found_of}
 use Rattle.gx_effects.proofs.NewOrders.{found_is}
-use Rattle.gx_positions.specs.Changing.{executions_with, grants_with, side_among}
-use Rattle.gx_positions.specs.Sound.{IsNoLater, MayChange, MayFill, NeverFall}
-use Rattle.gx_positions.proofs.Coming.{BringsSmall, Grows, IsPriced, IsSmall}
+use Rattle.gx_effects.proofs.Sides.{becomes_same}
+use Rattle.gx_positions.specs.Sound.{IsNoLater, IsThere, MayChange, MayFill, NeverFall, numbers_of}
+use Rattle.gx_positions.proofs.Sums.{IsNoMore, none_gains}
+
+-- few shares open and a low price
+abbrev pub IsSmall : LiveOrder → Type 0
+IsSmall o = (shares_open o < 2 ^ 32) × (o.terms.price < 2 ^ 32)
 
 -- few shares at a low price
 abbrev pub IsSmallSide : Execution → Type 0
 IsSmallSide e = (e.fill.shares < 2 ^ 32) × (e.fill.price < 2 ^ 32)
 
 -- one more, no earlier than those before
-never_fall_next : (os : List Order) (o : Order) → NeverFall os → AllByRecursion (IsNoLater o) os → NeverFall (os ++ o ∷ [])
+pub never_fall_next : (os : List Order) (o : Order) → NeverFall os → AllByRecursion (IsNoLater o) os → NeverFall (os ++ o ∷ [])
 never_fall_next [] o h k = (tt, tt)
 never_fall_next (x ∷ os) o h k = (all_both (λ (later : Order). IsNoLater later x) os (o ∷ []) h.0 (k.0, tt), never_fall_next os o h.1 k.1)
 
--- moments do not fall after the change
-pub moments_then : (policy : PolicyData) (held : Positions) (change : Change) → MayChange policy held change → NeverFall held.grants → NeverFall (grants_with change held.grants)
-moments_then policy held Nothing may h = h
-moments_then policy held (Adds new) may h = never_fall_next held.grants new.order h may.is_last
-moments_then policy held (Leaves number left) may h = h
-moments_then policy held (Replaces number new) may h = never_fall_next held.grants new.order h may.may_come.is_last
-moments_then policy held (EndsAll action) may h = h
-moments_then policy held (Fills f) may h = h
-moments_then policy held (Rests s) may h = h
+-- an order that comes new
+new_small : (policy : PolicyData) (held : Positions) (turn : Turn) (granted : List Order) → MayChange policy held turn granted → AllByRecursion IsSmall (new_in turn)
+new_small policy held Keeps granted may = tt
+new_small policy held (Adds new) granted may = let few = may.is_small in ((omega (arith, few), may.is_cheap), tt)
+new_small policy held (Sizes number size) granted may = tt
+new_small policy held (Replaces number new) granted may = let few = may.may_come.is_small in ((omega (arith, few), may.may_come.is_cheap), tt)
+new_small policy held (EndsAll action) granted may = tt
+new_small policy held (Fills f) granted may = tt
+new_small policy held (Rests number) granted may = tt
+new_small policy held (Ends number) granted may = tt
 
--- with what is open of them now
-small_open : (open_now : Standing → ℕ) (ss : List Standing) → AllByRecursion (λ (s : Standing). IsSmall (with_open open_now s)) ss → AllByRecursion IsSmall (still_open open_now ss)
-small_open open_now ss h = filtered IsSmall is_live (map (with_open open_now) ss) (all_mapped IsSmall (with_open open_now) ss h)
-
-small_left : (number left : ℕ) (ss : List Standing) → left < 2 ^ 32 → AllByRecursion IsSmall ss → AllByRecursion IsSmall (still_open (shares_left number left) ss)
-small_left number left ss few h =
-    small_open (shares_left number left) ss
-    (all_weaker IsSmall (λ (s : Standing). IsSmall (with_open (shares_left number left) s)) (λ s small. (by (s.order.number == number) s.open_shares small.0, small.1)) ss h)
+-- live orders are small then
+pub live_then : (policy : PolicyData) (held : Positions) (turn : Turn) (granted : List Order) → IsDistinct nat_eq (numbers_of held.live) → MayChange policy held turn granted → AllByRecursion IsSmall held.live
+    → AllByRecursion IsSmall (turned turn held.live)
+live_then policy held turn granted distinct may small =
+    all_both IsSmall (filter_map (becomes turn) held.live) (new_in turn)
+    (all_found_of (λ (x : LiveOrder). IsNoMore turn x × IsSmall x) IsSmall (becomes turn) (λ x o h e. goes_on x o h.0 h.1 e) held.live
+    (all_and (IsNoMore turn) IsSmall held.live (none_gains policy held turn granted distinct may) small))
+    (new_small policy held turn granted may)
   where
-    by : (b : Bool) (n : ℕ) → n < 2 ^ 32 → cond b left n < 2 ^ 32
-    by true n small = few
-    by false n small = small
+    goes_on : (x o : LiveOrder) → IsNoMore turn x → IsSmall x → becomes turn x ≡ Some o → IsSmall o
+    goes_on x o less was e =
+        let same = ap (λ found. option_map_or shares_open found 0) e in
+        let few = was.0 in
+        (omega (arith, same, few, less), subst (λ terms. terms.price < 2 ^ 32) (sym (becomes_same turn x o e).1) was.1)
 
-small_filled : (f : Fill) (ss : List Standing) → AllByRecursion IsSmall ss → AllByRecursion IsSmall (still_open (left_by_fill f) ss)
-small_filled f ss h =
-    small_open (left_by_fill f) ss (all_weaker IsSmall (λ (s : Standing). IsSmall (with_open (left_by_fill f) s)) (λ s small. (fewer s.open_shares (cond (is_side_of f s) f.shares 0) small.0, small.1)) ss h)
-  where
-    fewer : (n m : ℕ) → n < 2 ^ 32 → n - m < 2 ^ 32
-    fewer n m small = omega (arith, small)
-
--- found by a number
-small_found : (live : List Standing) (number : ℕ) (s : Standing) → AllByRecursion IsSmall live → standing_numbered live number ≡ Some s → IsSmall s
-small_found live number s h found = found_is IsSmall (λ (x : Standing). x.order.number == number) live s h found
-
--- live orders are small after the change
-pub live_then : (policy : PolicyData) (held : Positions) (change : Change) → MayChange policy held change → BringsSmall held.standings change → AllByRecursion IsSmall held.standings
-    → AllByRecursion IsSmall (live_with change held.standings)
-live_then policy held Nothing may brings h = h
-live_then policy held (Adds new) may brings h = all_both IsSmall held.standings (new ∷ []) h (brings, tt)
-live_then policy held (Leaves number left) may brings h =
-    let few : may.standing.open_shares < 2 ^ 32 = (small_found held.standings number may.standing h may.is_found).0 in
-    let less : left ≤ may.standing.open_shares = may.is_less in
-    small_left number left held.standings (omega (arith, few, less)) h
-live_then policy held (Replaces number new) may brings h =
-    let others : Standing → Bool = λ (s : Standing). not (s.order.number == number) in
-    all_both IsSmall (filter others held.standings) (new ∷ []) (filtered IsSmall others held.standings h) (brings, tt)
-live_then policy held (EndsAll action) may brings h = filtered IsSmall (λ (s : Standing). not (ends_account s.order.account action)) held.standings h
-live_then policy held (Fills f) may brings h = small_filled f held.standings h
-live_then policy held (Rests s) may brings h = h
-
--- the side of a fill: at most one, and small
-side_small : (live : List Standing) (f : Fill) (liquidity : Liquidity) (number : ℕ) → f.shares < 2 ^ 32 → f.price < 2 ^ 32
-    → (length (side_among live f liquidity number) ≤ 1) × AllByRecursion IsSmallSide (side_among live f liquidity number)
-side_small live f liquidity number few low = at (standing_numbered live number)
-  where
-    made : Standing → Execution
-    made s = record { fill = f; liquidity = liquidity; order = s.order }
-
-    at : (found : Option Standing) → (length (map made (option_to_list found)) ≤ 1) × AllByRecursion IsSmallSide (map made (option_to_list found))
-    at None = (omega arith, tt)
-    at (Some s) = (omega arith, ((few, low), tt))
+-- one that is there
+small_there : (held : Positions) (number : ℕ) (there : IsThere held number) → AllByRecursion IsSmall held.live → IsSmall there.order
+small_there held number there small = found_is IsSmall (λ (x : LiveOrder). nat_eq x.number number) held.live there.order small there.is_found
 
 -- the shares and the price of a fill between small orders
-fill_small : (held : Positions) (f : Fill) → MayFill held f → IsPriced held.standings f → AllByRecursion IsSmall held.standings → (f.shares < 2 ^ 32) × (f.price < 2 ^ 32)
-fill_small held f may priced h =
-    let few : may.taker.open_shares < 2 ^ 32 = (small_found held.standings f.taker may.taker h may.taker_is_found).0 in
-    let has : f.shares ≤ may.taker.open_shares = may.taker_has in
-    let low : priced.maker.order.terms.price < 2 ^ 32 = (small_found held.standings f.maker priced.maker h priced.is_found).1 in
-    let same : f.price ≡ priced.maker.order.terms.price = priced.at_its_price in
+pub fill_small : (held : Positions) (f : Fill) → MayFill held f → AllByRecursion IsSmall held.live → (f.shares < 2 ^ 32) × (f.price < 2 ^ 32)
+fill_small held f may small =
+    let few = (small_there held f.taker may.taker small).0 in
+    let has = may.taker_has in
+    let low = (small_there held f.maker may.maker small).1 in
+    let same = may.at_its_price in
     (omega (arith, few, has), omega (arith, low, same))
 
 -- at most so many, and at most the limit
 abbrev pub AreFew : {X : Type 0} → List X → ℕ → ℕ → Type 0
 AreFew xs most limit = (length xs ≤ most) × (length xs ≤ limit)
 
-as_many : {X : Type 0} (xs : List X) (most limit : ℕ) → AreFew xs most limit → AreFew xs (most + 1) limit
-as_many xs most limit h = let few : length xs ≤ most = h.0 in (omega (arith, few), h.1)
+-- none more, or so many where there is room for them
+abbrev pub HasRoom : {X : Type 0} → List X → ℕ → ℕ → ℕ → Type 0
+HasRoom more most limit count = (more ≡ []) ⊎ ((length more ≤ count) × (most + count ≤ limit))
 
-one_more : {X : Type 0} (xs : List X) (x : X) (most limit : ℕ) → AreFew xs most limit → most + 1 ≤ limit → AreFew (xs ++ x ∷ []) (most + 1) limit
-one_more xs x most limit h room =
-    let few : length xs ≤ most = h.0 in
-    let more : length (xs ++ x ∷ []) ≡ length xs + 1 = length-append xs (x ∷ []) in
-    (omega (arith, few, more), omega (arith, few, more, room))
-
--- one order more at most, and within the limit where there is one more
-pub few_grants : (change : Change) (grants : List Order) (most limit : ℕ) → AreFew grants most limit → (Grows change → most + 1 ≤ limit) → AreFew (grants_with change grants) (most + 1) limit
-few_grants Nothing grants most limit h room = as_many grants most limit h
-few_grants (Adds new) grants most limit h room = one_more grants new.order most limit h (room tt)
-few_grants (Leaves number left) grants most limit h room = as_many grants most limit h
-few_grants (Replaces number new) grants most limit h room = one_more grants new.order most limit h (room tt)
-few_grants (EndsAll action) grants most limit h room = as_many grants most limit h
-few_grants (Fills f) grants most limit h room = as_many grants most limit h
-few_grants (Rests s) grants most limit h room = as_many grants most limit h
-
-no_more_sides : (made : List Execution) (most limit : ℕ) → AreFew made (most + most) (limit + limit) → AreFew made ((most + 1) + (most + 1)) (limit + limit)
-no_more_sides made most limit few = let within : length made ≤ most + most = few.0 in (omega (arith, within), few.1)
-
--- two sides of fills more at most, all small
-pub sides_then : (policy : PolicyData) (held : Positions) (change : Change) (most limit : ℕ) → MayChange policy held change → BringsSmall held.standings change → AllByRecursion IsSmall held.standings
-    → AreFew held.executions (most + most) (limit + limit) → AllByRecursion IsSmallSide held.executions → (Grows change → most + 1 ≤ limit)
-    → AreFew (executions_with change held) ((most + 1) + (most + 1)) (limit + limit) × AllByRecursion IsSmallSide (executions_with change held)
-sides_then policy held Nothing most limit may brings small few h room = (no_more_sides held.executions most limit few, h)
-sides_then policy held (Adds new) most limit may brings small few h room = (no_more_sides held.executions most limit few, h)
-sides_then policy held (Leaves number left) most limit may brings small few h room = (no_more_sides held.executions most limit few, h)
-sides_then policy held (Replaces number new) most limit may brings small few h room = (no_more_sides held.executions most limit few, h)
-sides_then policy held (EndsAll action) most limit may brings small few h room = (no_more_sides held.executions most limit few, h)
-sides_then policy held (Fills f) most limit may brings small few h room =
-    let is : (f.shares < 2 ^ 32) × (f.price < 2 ^ 32) = fill_small held f may brings small in
-    let takers : List Execution = side_among held.standings f liquidities.Removed f.taker in
-    let makers : List Execution = side_among held.standings f liquidities.Added f.maker in
-    let of_taker : (length takers ≤ 1) × AllByRecursion IsSmallSide takers = side_small held.standings f liquidities.Removed f.taker is.0 is.1 in
-    let of_maker : (length makers ≤ 1) × AllByRecursion IsSmallSide makers = side_small held.standings f liquidities.Added f.maker is.0 is.1 in
-    let within : length held.executions ≤ most + most = few.0 in
-    let one : length takers ≤ 1 = of_taker.0 in
-    let other : length makers ≤ 1 = of_maker.0 in
-    let both : length (takers ++ makers) ≡ length takers + length makers = length-append takers makers in
-    let all : length (held.executions ++ (takers ++ makers)) ≡ length held.executions + length (takers ++ makers) = length-append held.executions (takers ++ makers) in
-    let space : most + 1 ≤ limit = room tt in (
-      (omega (arith, within, one, other, both, all), omega (arith, within, one, other, both, all, space)),
-      all_both IsSmallSide held.executions (takers ++ makers) h (all_both IsSmallSide takers makers of_taker.1 of_maker.1),
-    )
-sides_then policy held (Rests s) most limit may brings small few h room = (no_more_sides held.executions most limit few, h)
+pub few_then : {X : Type 0} (xs more : List X) (most limit count : ℕ) → AreFew xs most limit → HasRoom more most limit count → AreFew (xs ++ more) (most + count) limit
+few_then xs more most limit count few (inl none) =
+    let same = ap length (ap (λ ys. xs ++ ys) none ∙ append-nil xs) in
+    (omega (arith, same, few.0), omega (arith, same, few.1))
+few_then xs more most limit count few (inr room) =
+    let both = length-append xs more in
+    (omega (arith, both, few.0, room.0), omega (arith, both, few.0, room.0, room.1))
 
 -- a sum over small ones
 pub sum_within : {X : Type 0} (m : X → ℕ) (P : X → Type 0) → ((x : X) → P x → m x ≤ 2 ^ 64) → (p : X → Bool) (xs : List X) → AllByRecursion P xs → sum_by m (filter p xs) ≤ length xs * 2 ^ 64

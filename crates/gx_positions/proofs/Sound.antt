@@ -1,55 +1,41 @@
 -- Live orders, executions and grants of a legal history are sound.
-use Rattle.std.proofs.Common.{◌≡◌, ℕ, ◌+◌, ◌*◌, ◌<◌, ◌≤◌, ◌^◌, false, List, [], ◌∷◌, sym, length, arith}
-use Rattle.std.specs.Prelude.{is_some, IsTrue, nat_eq}
-use Rattle.std.specs.List.{AllByRecursion, IsDistinct}
-use Rattle.std.proofs.lemmas.Bool.{ne_eqb}
-use Rattle.std.proofs.lemmas.List.{length-map}
+use Rattle.std.proofs.Common.{ℕ, ◌+◌, ◌*◌, ◌<◌, ◌≤◌, ◌^◌, List, [], ◌∷◌, length, arith}
+use Rattle.std.specs.Prelude.{Option, Some, None}
+use Rattle.std.specs.List.{AllByRecursion, cons_option, filter_map}
 use Rattle.gx_units.specs.Money.{value}
 use Rattle.gx_policy.specs.declared.policy.PolicyData.{PolicyData}
+use Rattle.gx_history.specs.declared.live_order.LiveOrder.{LiveOrder}
 use Rattle.gx_history.specs.declared.record.RecordData.{RecordData}
-use Rattle.gx_history.specs.Executions.{Execution, Standing, executions, is_live, live_orders, standing, standings}
-use Rattle.gx_history.specs.Figures.{done_of_chosen, done_value, live_value, open_of_chosen, open_value}
-use Rattle.gx_history.specs.Orders.{Order, orders}
-use Rattle.gx_policy.specs.People.{stock_named}
-use Rattle.gx_history.specs.Verdicts.{day_limit, IsLegal}
-use Rattle.gx_history_laws.proofs.Adding.{all_pass}
-use Rattle.gx_history_laws.proofs.Listed.{orders_are_listed}
+use Rattle.gx_history.specs.Executions.{Execution, executions}
+use Rattle.gx_history.specs.Figures.{done_of_chosen, done_value, live_value, open_of_chosen, open_value, positions}
+use Rattle.gx_history.specs.Live.{live, open_now}
+use Rattle.gx_history.specs.LiveOrders.{shares_open}
+use Rattle.gx_history.specs.Orders.{orders}
+use Rattle.gx_history.specs.Verdicts.{day_limit}
 use Rattle.gx_history_laws.proofs.Numbers.{all_weaker}
-use Rattle.gx_effects.proofs.Apart.{AreApart, IsApartFrom, apart_filter}
-use Rattle.gx_effects.proofs.Entered.{all_mapped}
-use Rattle.gx_effects.proofs.Known.{number_in, standings_apart}
-use Rattle.gx_effects.proofs.Orderly.{legal_is_orderly}
-use Rattle.gx_positions.specs.Changing.{live_positions}
+use Rattle.gx_effects.proofs.Naming.{IsOfKnown, live_of_known}
 use Rattle.gx_positions.specs.Laws.{LiveOrdersAreFew, PositionsAreSound}
-use Rattle.gx_positions.specs.Sound.{IsLive, SumsFit, anyone, numbers_of}
-use Rattle.gx_positions.proofs.Coming.{IsSmall, of_live}
+use Rattle.gx_positions.specs.Sound.{IsLive, SumsFit, anyone}
+use Rattle.gx_positions.proofs.Coming.{live_are_listed, numbers_apart}
 use Rattle.gx_positions.proofs.Sized.{IsSized, legal_is_sized}
-use Rattle.gx_positions.proofs.Small.{IsSmallSide, below, few_pass, product, sum_within}
+use Rattle.gx_positions.proofs.Small.{IsSmall, IsSmallSide, below, product, sum_within}
+use Rattle.std.proofs.Math.Path.{subst}
 
-distinct : (ss : List Standing) → AreApart number_in ss → IsDistinct nat_eq (numbers_of ss)
-unfolding IsDistinct
-distinct [] h = tt
-distinct (s ∷ ss) h = (
-  all_mapped (λ (n : ℕ). nat_eq s.order.number n ≡ false) number_in ss
-      (all_weaker (IsApartFrom number_in s) (λ (x : Standing). nat_eq s.order.number x.order.number ≡ false) (λ x apart. ne_eqb s.order.number x.order.number (λ e. apart (sym e))) ss h.0),
-  distinct ss h.1,
-)
+live_are_live : (policy : PolicyData) (history : List RecordData) → AllByRecursion IsLive (live policy history)
+live_are_live policy history = all_weaker (IsOfKnown policy history) IsLive (λ o known. subst IsLive known.is_it known.has_some) (live policy history) (live_of_known policy history)
 
-live_apart : (policy : PolicyData) (history : List RecordData) → IsLegal policy history → AreApart number_in (live_orders policy history)
-unfolding live_orders
-live_apart policy history legal = apart_filter number_in is_live (standings policy history) (standings_apart policy history (legal_is_orderly policy history legal))
+-- no more are found than there are
+few_found : {X Y : Type 0} (f : X → Option Y) (xs : List X) → length (filter_map f xs) ≤ length xs
+few_found f [] = omega arith
+few_found {X} {Y} f (x ∷ xs) = at (f x) (few_found f xs)
+  where
+    at : (found : Option Y) → length (filter_map f xs) ≤ length xs → length (cons_option found (filter_map f xs)) ≤ length (x ∷ xs)
+    at None deeper = omega (arith, deeper)
+    at (Some y) deeper = omega (arith, deeper)
 
-live_are_live : (policy : PolicyData) (history : List RecordData) → AllByRecursion IsLive (live_orders policy history)
-unfolding live_orders
-live_are_live policy history = all_pass is_live (standings policy history)
-
--- no more live orders than orders
-few_live : (policy : PolicyData) (history : List RecordData) → length (live_orders policy history) ≤ length (orders policy history)
-unfolding live_orders standings
-few_live policy history =
-    let some : length (live_orders policy history) ≤ length (standings policy history) = few_pass is_live (standings policy history) in
-    let all : length (standings policy history) ≡ length (orders policy history) = length-map (orders policy history) (standing (executions policy history) history) in
-    omega (arith, some, all)
+few_live : (policy : PolicyData) (history : List RecordData) → length (live policy history) ≤ length (orders policy history)
+unfolding live
+few_live policy history = few_found (open_now (executions policy history) history) (orders policy history)
 
 -- nor than a day has records
 pub live_are_few : LiveOrdersAreFew
@@ -61,19 +47,17 @@ fits sum n within few = omega (arith, within, few)
 fits_signed : (sum n : ℕ) → sum ≤ n * 2 ^ 64 → n ≤ day_limit + day_limit → sum < 2 ^ 127
 fits_signed sum n within few = omega (arith, within, few)
 
-sums_fit : (policy : PolicyData) (history : List RecordData) → IsSized policy history → SumsFit (live_positions policy history)
+sums_fit : (policy : PolicyData) (history : List RecordData) → IsSized policy history → SumsFit (positions policy history)
 unfolding open_of_chosen live_value done_of_chosen done_value
 sums_fit policy history sized =
-    let live : List Standing = live_orders policy history in
+    let found : List LiveOrder = live policy history in
     let made : List Execution = executions policy history in
-    let some : length live ≤ length (orders policy history) = few_live policy history in
+    let some : length found ≤ length (orders policy history) = few_live policy history in
     let all : length (orders policy history) ≤ day_limit = sized.few_orders.1 in
-    let few : length live ≤ day_limit + day_limit = omega (arith, some, all) in
+    let few : length found ≤ day_limit + day_limit = omega (arith, some, all) in
     record {
-      live_shares =
-          fits _ (length live) (sum_within (λ (s : Standing). s.open_shares) IsSmall (λ s h. below s.open_shares h.0) (λ (s : Standing). anyone s.order.account) live sized.small_live) few;
-      live_value =
-          fits _ (length live) (sum_within open_value IsSmall (λ s h. product s.open_shares s.order.terms.price h.0 h.1) (λ (s : Standing). anyone s.order.account) live sized.small_live) few;
+      live_shares = fits _ (length found) (sum_within shares_open IsSmall (λ o h. below (shares_open o) h.0) (λ (o : LiveOrder). anyone o.account) found sized.small_live) few;
+      live_value = fits _ (length found) (sum_within open_value IsSmall (λ o h. product (shares_open o) o.terms.price h.0 h.1) (λ (o : LiveOrder). anyone o.account) found sized.small_live) few;
       done_shares =
           fits_signed _ (length made) (sum_within (λ (e : Execution). e.fill.shares) IsSmallSide (λ e h. below e.fill.shares h.0) (λ (e : Execution). anyone e.order.account) made sized.small_sides)
           sized.few_sides.1;
@@ -88,9 +72,9 @@ pub positions_are_sound : PositionsAreSound
 positions_are_sound policy history legal =
     let sized : IsSized policy history = legal_is_sized policy history legal in
     record {
-      numbers_differ = distinct (live_orders policy history) (live_apart policy history legal);
+      numbers_differ = numbers_apart policy history legal;
       all_live = live_are_live policy history;
-      all_listed = of_live policy history (λ (o : Order). IsTrue (is_some (stock_named policy o.terms.stock))) (orders_are_listed policy history legal);
+      all_listed = live_are_listed policy history legal;
       never_fall = sized.never_fall;
       fit = sums_fit policy history sized;
     }

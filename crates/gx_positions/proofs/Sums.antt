@@ -1,7 +1,8 @@
--- What each change makes of the sums over the live orders and the fills of accounts.
-use Rattle.std.proofs.Common.{◌≡◌, ℕ, ◌+◌, ◌-◌, ◌≤◌, Bool, true, false, cond, not, List, [], ◌∷◌, ◌++◌, map, refl, sym, ap, ◌∙◌, arith, sum_by, zero-add, true≢false}
-use Rattle.std.specs.Prelude.{Some, nat_eq, nat_lt, ◌==◌, ◌||◌, IsFalse, option_to_list}
-use Rattle.std.specs.List.{filter, AllByRecursion, IsDistinct}
+-- What a turn of the live orders makes of the sums over the live orders and the fills of accounts.
+use Rattle.std.proofs.Common.{◌≡◌, ℕ, ◌+◌, ◌-◌, ◌<◌, ◌≤◌, Bool, true, false, cond, List, [], ◌∷◌, ◌++◌, map, refl, sym, ap, ◌∙◌, arith, sum_by, zero-add, true≢false}
+use Rattle.std.specs.Prelude.{Option, Some, None, nat_eq, nat_lt, ◌==◌, ◌||◌, option_to_list}
+use Rattle.std.specs.Option.{option_map_or}
+use Rattle.std.specs.List.{filter, filter_map, cons_option, AllByRecursion, IsDistinct}
 use Rattle.std.specs.Cmp.{nat_eq_equiv}
 use Rattle.std.proofs.lemmas.Bool.{eqb-true, ltb-false, eq-eqb}
 use Rattle.std.proofs.lemmas.List.Sums.{sum_by-cons}
@@ -9,19 +10,24 @@ use Rattle.gx_units.specs.Money.{value}
 use Rattle.gx_units.specs.declared.names.AccountName.{AccountName}
 use Rattle.gx_ouch.specs.declared.letters.Liquidity.{Liquidity}
 use Rattle.gx_ouch.specs.declared.letters.Liquidity.TheVariants as liquidities
-use Rattle.gx_desk.specs.declared.Action.{Action}
+use Rattle.gx_ouch.specs.declared.outbound.OrderTerms.{OrderTerms}
+use Rattle.gx_policy.specs.declared.policy.PolicyData.{PolicyData}
+use Rattle.gx_history.specs.declared.live_order.LiveOrder.{LiveOrder}
 use Rattle.gx_history.specs.declared.record.Fill.{Fill}
-use Rattle.gx_history.specs.Effects.{with_open, still_open, shares_left, with_left, without}
-use Rattle.gx_history.specs.Executions.{Execution, Standing, standing_numbered}
-use Rattle.gx_history.specs.Figures.{Positions, live_value, of_accounts, open_of_chosen, open_value, done_of_chosen, done_value}
-use Rattle.gx_history.specs.Matched.{left_by_fill, taker_side, maker_side}
-use Rattle.gx_history.specs.Orders.{Order, ends_account}
-use Rattle.gx_effects.specs.OneMore.{Fills, not_ended}
+use Rattle.gx_history.specs.Executions.{Execution, side_of}
+use Rattle.gx_history.specs.Figures.{Positions, live_value, of_accounts, open_of_chosen, done_of_chosen, done_value}
+use Rattle.gx_history.specs.Live.{live_numbered}
+use Rattle.gx_history.specs.LiveOrders.{shares_open}
+use Rattle.gx_history.specs.Orders.{Order, ends_account, order_numbered}
+use Rattle.gx_history.specs.Turns.{Turn, Keeps, Adds, Sizes, Replaces, EndsAll, Fills, Rests, Ends, becomes, while_open}
 use Rattle.gx_history_laws.proofs.NextFigures.{done_more, done_value_more}
 use Rattle.gx_history_laws.proofs.Numbers.{all_weaker}
 use Rattle.gx_history_laws.proofs.Order.{some_same}
-use Rattle.gx_positions.specs.Changing.{executions_with, side_among}
-use Rattle.gx_positions.specs.Sound.{numbers_of, MayFill, MayLeave}
+use Rattle.gx_effects.proofs.Fills.{both_sides}
+use Rattle.gx_effects.proofs.Known.{number_found}
+use Rattle.gx_effects.proofs.Sides.{becomes_same}
+use Rattle.gx_positions.specs.Changing.{executed_by}
+use Rattle.gx_positions.specs.Sound.{MayChange, MayFill, numbers_of}
 
 -- the sum over those that pass
 abbrev pub sum_where : {X : Type 0} → (X → Bool) → (X → ℕ) → List X → ℕ
@@ -42,23 +48,25 @@ pub sum_where-append : {X : Type 0} (p : X → Bool) (m : X → ℕ) (xs ys : Li
 sum_where-append p m [] ys = sym (zero-add (sum_where p m ys))
 sum_where-append p m (x ∷ xs) ys = let deeper = sum_where-append p m xs ys in omega (arith, deeper)
 
+-- none that passes, nothing
+pub sum_of_none : {X : Type 0} (p : X → Bool) (m : X → ℕ) (xs : List X) → AllByRecursion (λ (x : X). p x ≡ false) xs → sum_where p m xs ≡ 0
+sum_of_none p m [] h = refl
+sum_of_none p m (x ∷ xs) h =
+    let here = ap (λ b. cond b (m x) 0) h.0 in
+    let rest = sum_of_none p m xs h.1 in
+    omega (arith, here, rest)
+
 -- nothing, whatever the test says
-pub nothing_either_way : (b : Bool) → cond {A = ℕ} b 0 0 ≡ 0
+nothing_either_way : (b : Bool) → cond {A = ℕ} b 0 0 ≡ 0
 nothing_either_way true = refl
 nothing_either_way false = refl
 
--- what a filter leaves and what it takes
-pub sum_left : {X : Type 0} (p q : X → Bool) (m : X → ℕ) (xs : List X) → sum_where p m (filter q xs) + sum_where p (λ x. cond (q x) 0 (m x)) xs ≡ sum_where p m xs
-sum_left p q m [] = refl
-sum_left {X} p q m (x ∷ xs) = at (q x) (sum_left p q m xs)
-  where
-    at : (b : Bool) → sum_where p m (filter q xs) + sum_where p (λ x. cond (q x) 0 (m x)) xs ≡ sum_where p m xs
-        → sum_where p m (cond b (x ∷ filter q xs) (filter q xs)) + (cond (p x) (cond b 0 (m x)) 0 + sum_where p (λ x. cond (q x) 0 (m x)) xs) ≡ cond (p x) (m x) 0 + sum_where p m xs
-    at true deeper = let none = nothing_either_way (p x) in omega (arith, deeper, none)
-    at false deeper = omega (arith, deeper)
+nothing_of : {X : Type 0} (p : X → Bool) (xs : List X) → sum_where p (λ x. 0) xs ≡ 0
+nothing_of p [] = refl
+nothing_of p (x ∷ xs) = let here = nothing_either_way (p x) in let rest = nothing_of p xs in omega (arith, here, rest)
 
 -- a sum of sums
-pub sum_of_both : {X : Type 0} (p : X → Bool) (m n : X → ℕ) (xs : List X) → sum_where p (λ x. m x + n x) xs ≡ sum_where p m xs + sum_where p n xs
+sum_of_both : {X : Type 0} (p : X → Bool) (m n : X → ℕ) (xs : List X) → sum_where p (λ x. m x + n x) xs ≡ sum_where p m xs + sum_where p n xs
 sum_of_both p m n [] = refl
 sum_of_both {X} p m n (x ∷ xs) = at (p x) (sum_of_both p m n xs)
   where
@@ -68,344 +76,358 @@ sum_of_both {X} p m n (x ∷ xs) = at (p x) (sum_of_both p m n xs)
     at false deeper = omega (arith, deeper)
 
 -- the order has this number
-abbrev pub is_numbered : ℕ → Standing → Bool
-is_numbered number s = s.order.number == number
+abbrev pub is_numbered : ℕ → LiveOrder → Bool
+is_numbered number o = o.number == number
 
 -- it is the one that has this number, or has another
-abbrev pub IsItIfNumbered : ℕ → Standing → Standing → Type 0
-IsItIfNumbered number s t = is_numbered number t ≡ true → t ≡ s
+abbrev pub IsItIfNumbered : ℕ → LiveOrder → LiveOrder → Type 0
+IsItIfNumbered number o x = is_numbered number x ≡ true → x ≡ o
 
-others_differ : (number other : ℕ) (ss : List Standing) → other ≡ number → AllByRecursion (λ k. nat_eq other k ≡ false) (numbers_of ss) → AllByRecursion (λ (t : Standing). is_numbered number t ≡ false) ss
+others_differ : (number other : ℕ) (os : List LiveOrder) → other ≡ number → AllByRecursion (λ k. nat_eq other k ≡ false) (numbers_of os) → AllByRecursion (λ (x : LiveOrder). is_numbered number x ≡ false) os
 others_differ number other [] same h = tt
-others_differ number other (t ∷ ss) same h =
-    (nat_eq_equiv.symm t.order.number number ∙ ap (λ n. nat_eq n t.order.number) (sym same) ∙ h.0, others_differ number other ss same h.1)
+others_differ number other (x ∷ os) same h =
+    (nat_eq_equiv.symm x.number number ∙ ap (λ n. nat_eq n x.number) (sym same) ∙ h.0, others_differ number other os same h.1)
 
 -- where numbers differ, the order found under a number is the only one that has it
-pub only_one_numbered : (ss : List Standing) (number : ℕ) (s : Standing) → IsDistinct nat_eq (numbers_of ss) → standing_numbered ss number ≡ Some s → AllByRecursion (IsItIfNumbered number s) ss
+only_one_numbered : (os : List LiveOrder) (number : ℕ) (o : LiveOrder) → IsDistinct nat_eq (numbers_of os) → live_numbered os number ≡ Some o → AllByRecursion (IsItIfNumbered number o) os
 unfolding IsDistinct
-only_one_numbered [] number s distinct found = tt
-only_one_numbered (t ∷ ss) number s distinct found = at (is_numbered number t) refl found (only_one_numbered ss number s distinct.1)
+only_one_numbered [] number o distinct found = tt
+only_one_numbered (x ∷ os) number o distinct found = at (is_numbered number x) refl found (only_one_numbered os number o distinct.1)
   where
-    at : (b : Bool) → is_numbered number t ≡ b → cond b (Some t) (standing_numbered ss number) ≡ Some s
-        → (standing_numbered ss number ≡ Some s → AllByRecursion (IsItIfNumbered number s) ss) → AllByRecursion (IsItIfNumbered number s) (t ∷ ss)
+    at : (b : Bool) → is_numbered number x ≡ b → cond b (Some x) (live_numbered os number) ≡ Some o
+        → (live_numbered os number ≡ Some o → AllByRecursion (IsItIfNumbered number o) os) → AllByRecursion (IsItIfNumbered number o) (x ∷ os)
     at true h found deeper = (
       λ _. some_same found,
-      all_weaker (λ (u : Standing). is_numbered number u ≡ false) (IsItIfNumbered number s) (λ u other this. absurd (true≢false (sym this ∙ other))) ss
-          (others_differ number t.order.number ss (eqb-true t.order.number number h) distinct.0),
+      all_weaker (λ (y : LiveOrder). is_numbered number y ≡ false) (IsItIfNumbered number o) (λ y other this. absurd (true≢false (sym this ∙ other))) os
+          (others_differ number x.number os (eqb-true x.number number h) distinct.0),
     )
     at false h found deeper = (λ this. absurd (true≢false (sym this ∙ h)), deeper found)
 
-none_numbered : (p : Standing → Bool) (m : Standing → ℕ) (ss : List Standing) (number : ℕ) → AllByRecursion (λ (t : Standing). is_numbered number t ≡ false) ss
-    → sum_where p (λ t. cond (is_numbered number t) (m t) 0) ss ≡ 0
+none_numbered : (p : LiveOrder → Bool) (m : LiveOrder → ℕ) (os : List LiveOrder) (number : ℕ) → AllByRecursion (λ (x : LiveOrder). is_numbered number x ≡ false) os
+    → sum_where p (λ x. cond (is_numbered number x) (m x) 0) os ≡ 0
 none_numbered p m [] number h = refl
-none_numbered p m (t ∷ ss) number h =
-    ap (λ b. cond (p t) (cond b (m t) 0) 0 + sum_where p (λ t. cond (is_numbered number t) (m t) 0) ss) h.0
-    ∙ ap (λ n. cond (p t) 0 0 + n) (none_numbered p m ss number h.1)
-    ∙ ap (λ n. n + 0) (nothing_either_way (p t))
+none_numbered p m (x ∷ os) number h =
+    ap (λ b. cond (p x) (cond b (m x) 0) 0 + sum_where p (λ x. cond (is_numbered number x) (m x) 0) os) h.0
+    ∙ ap (λ n. cond (p x) 0 0 + n) (none_numbered p m os number h.1)
+    ∙ ap (λ n. n + 0) (nothing_either_way (p x))
 
 -- the sum over the order of a number alone
-pub sum_of_one : (p : Standing → Bool) (m : Standing → ℕ) (ss : List Standing) (number : ℕ) (s : Standing) → IsDistinct nat_eq (numbers_of ss) → standing_numbered ss number ≡ Some s
-    → sum_where p (λ t. cond (is_numbered number t) (m t) 0) ss ≡ cond (p s) (m s) 0
+sum_of_one : (p : LiveOrder → Bool) (m : LiveOrder → ℕ) (os : List LiveOrder) (number : ℕ) (o : LiveOrder) → IsDistinct nat_eq (numbers_of os) → live_numbered os number ≡ Some o
+    → sum_where p (λ x. cond (is_numbered number x) (m x) 0) os ≡ cond (p o) (m o) 0
 unfolding IsDistinct
-sum_of_one p m [] number s distinct found = cc
-sum_of_one p m (t ∷ ss) number s distinct found = at (is_numbered number t) refl found (sum_of_one p m ss number s distinct.1)
+sum_of_one p m [] number o distinct found = cc
+sum_of_one p m (x ∷ os) number o distinct found = at (is_numbered number x) refl found (sum_of_one p m os number o distinct.1)
   where
-    others : ℕ
-    others = sum_where p (λ t. cond (is_numbered number t) (m t) 0) ss
-
-    at : (b : Bool) → is_numbered number t ≡ b → cond b (Some t) (standing_numbered ss number) ≡ Some s
-        → (standing_numbered ss number ≡ Some s → sum_where p (λ t. cond (is_numbered number t) (m t) 0) ss ≡ cond (p s) (m s) 0)
-        → cond (p t) (cond b (m t) 0) 0 + sum_where p (λ t. cond (is_numbered number t) (m t) 0) ss ≡ cond (p s) (m s) 0
+    at : (b : Bool) → is_numbered number x ≡ b → cond b (Some x) (live_numbered os number) ≡ Some o
+        → (live_numbered os number ≡ Some o → sum_where p (λ x. cond (is_numbered number x) (m x) 0) os ≡ cond (p o) (m o) 0)
+        → cond (p x) (cond b (m x) 0) 0 + sum_where p (λ x. cond (is_numbered number x) (m x) 0) os ≡ cond (p o) (m o) 0
     at true h found deeper =
-        let none = none_numbered p m ss number (others_differ number t.order.number ss (eqb-true t.order.number number h) distinct.0) in
-        let here : cond (p t) (m t) 0 ≡ cond (p s) (m s) 0 = ap (λ (u : Standing). cond (p u) (m u) 0) (some_same found) in
+        let none = none_numbered p m os number (others_differ number x.number os (eqb-true x.number number h) distinct.0) in
+        let here : cond (p x) (m x) 0 ≡ cond (p o) (m o) 0 = ap (λ (y : LiveOrder). cond (p y) (m y) 0) (some_same found) in
         omega (arith, none, here)
     at false h found deeper =
-        let none = nothing_either_way (p t) in
+        let none = nothing_either_way (p x) in
         let there = deeper found in
         omega (arith, none, there)
 
+-- what the turn leaves open of a live order
+abbrev pub left_by : Turn → LiveOrder → ℕ
+left_by turn o = option_map_or shares_open (becomes turn o) 0
+
+open_left : (o : LiveOrder) → option_map_or shares_open (while_open o) 0 ≡ shares_open o
+open_left o = at (nat_lt o.done o.total) refl
+  where
+    at : (b : Bool) → nat_lt o.done o.total ≡ b → option_map_or shares_open (cond b (Some o) None) 0 ≡ shares_open o
+    at true h = refl
+    at false h = let few = ltb-false o.done o.total h in omega (arith, few)
+
+-- changed, or as it was
+left_if : (b : Bool) (o x : LiveOrder) → option_map_or shares_open (cond b (while_open x) (Some o)) 0 ≡ cond b (shares_open x) (shares_open o)
+left_if true o x = open_left x
+left_if false o x = refl
+
+-- gone, or as it was
+gone_if : (b : Bool) (o : LiveOrder) → option_map_or shares_open (cond b None (Some o)) 0 ≡ cond b 0 (shares_open o)
+gone_if true o = refl
+gone_if false o = refl
+
+-- of one order so many shares are open no more, and of all others as many as before
+pub record Loses (turn : Turn) (number : ℕ) (os : List LiveOrder) (o : LiveOrder) (lost : ℕ) : Type 0 where
+  pub is_found : live_numbered os number ≡ Some o
+  pub of_it : left_by turn o + lost ≡ shares_open o
+  pub of_others : (x : LiveOrder) → is_numbered number x ≡ false → left_by turn x ≡ shares_open x
+
+-- an order that is sized
+pub sized_loses : (held : Positions) (number size : ℕ) (o : LiveOrder) → live_numbered held.live number ≡ Some o → size - o.done ≤ shares_open o
+    → Loses (Sizes number size) number held.live o (shares_open o - (size - o.done))
+sized_loses held number size o found less = record {
+  is_found = found;
+  of_it = let left = left_if (o.number == number) o (record o { total = size }) ∙ ap (λ b. cond b (size - o.done) (shares_open o)) (number_found held.live number o found) in omega (arith, left, less);
+  of_others = λ x other. left_if (x.number == number) x (record x { total = size }) ∙ ap (λ b. cond b (size - x.done) (shares_open x)) other;
+}
+
+-- an order that ends
+pub ended_loses : (held : Positions) (number : ℕ) (o : LiveOrder) → live_numbered held.live number ≡ Some o → Loses (Ends number) number held.live o (shares_open o)
+ended_loses held number o found = record {
+  is_found = found;
+  of_it = let left = gone_if (number == o.number) o ∙ ap (λ b. cond b 0 (shares_open o)) (nat_eq_equiv.symm number o.number ∙ number_found held.live number o found) in omega (arith, left);
+  of_others = λ x other. gone_if (number == x.number) x ∙ ap (λ b. cond b 0 (shares_open x)) (nat_eq_equiv.symm number x.number ∙ other);
+}
+
+-- an order that is replaced
+pub replaced_loses : (held : Positions) (number : ℕ) (new o : LiveOrder) → live_numbered held.live number ≡ Some o → Loses (Replaces number new) number held.live o (shares_open o)
+replaced_loses held number new o found = record {
+  is_found = found;
+  of_it = let left = gone_if (o.number == number) o ∙ ap (λ b. cond b 0 (shares_open o)) (number_found held.live number o found) in omega (arith, left);
+  of_others = λ x other. gone_if (x.number == number) x ∙ ap (λ b. cond b 0 (shares_open x)) other;
+}
+
+each_loses : (turn : Turn) (number : ℕ) (os : List LiveOrder) (o : LiveOrder) (lost : ℕ) → IsDistinct nat_eq (numbers_of os) → (is : Loses turn number os o lost)
+    → AllByRecursion (λ (x : LiveOrder). left_by turn x + cond (is_numbered number x) lost 0 ≡ shares_open x) os
+each_loses turn number os o lost distinct is =
+    all_weaker (IsItIfNumbered number o) (λ (x : LiveOrder). left_by turn x + cond (is_numbered number x) lost 0 ≡ shares_open x)
+    (λ x one. at (is_numbered number x) x refl one) os (only_one_numbered os number o distinct is.is_found)
+  where
+    at : (b : Bool) (x : LiveOrder) → is_numbered number x ≡ b → (b ≡ true → x ≡ o) → left_by turn x + cond b lost 0 ≡ shares_open x
+    at true x h one = ap (λ (y : LiveOrder). left_by turn y + lost) (one refl) ∙ is.of_it ∙ ap (λ (y : LiveOrder). shares_open y) (sym (one refl))
+    at false x h one = let same = is.of_others x h in omega (arith, same)
+
+-- two orders trade so many shares
+each_fills : (held : Positions) (f : Fill) → IsDistinct nat_eq (numbers_of held.live) → MayFill held f
+    → AllByRecursion (λ (x : LiveOrder). left_by (Fills f) x + (cond (is_numbered f.taker x) f.shares 0 + cond (is_numbered f.maker x) f.shares 0) ≡ shares_open x) held.live
+each_fills held f distinct may =
+    all held.live (only_one_numbered held.live f.taker may.taker.order distinct may.taker.is_found) (only_one_numbered held.live f.maker may.maker.order distinct may.maker.is_found)
+  where
+    not_both : (x : LiveOrder) → is_numbered f.taker x ≡ true → is_numbered f.maker x ≡ true → ⊥
+    not_both x a b = absurd (true≢false (sym (eq-eqb f.taker f.maker (sym (eqb-true x.number f.taker a) ∙ eqb-true x.number f.maker b)) ∙ may.they_differ))
+
+    each : (a b : Bool) (x : LiveOrder) → (a ≡ true → x ≡ may.taker.order) → (b ≡ true → x ≡ may.maker.order) → (a ≡ true → b ≡ true → ⊥)
+        → option_map_or shares_open (cond (a || b) (while_open (record x { done = x.done + f.shares })) (Some x)) 0 + (cond a f.shares 0 + cond b f.shares 0) ≡ shares_open x
+    each true true x a b never = absurd (never refl refl)
+    each true false x a b never =
+        let same = ap (λ (y : LiveOrder). shares_open y) (a refl) in
+        let left = open_left (record x { done = x.done + f.shares }) in
+        let has = may.taker_has in
+        omega (arith, same, left, has)
+    each false true x a b never =
+        let same = ap (λ (y : LiveOrder). shares_open y) (b refl) in
+        let left = open_left (record x { done = x.done + f.shares }) in
+        let has = may.maker_has in
+        omega (arith, same, left, has)
+    each false false x a b never = omega arith
+
+    all : (os : List LiveOrder) → AllByRecursion (IsItIfNumbered f.taker may.taker.order) os → AllByRecursion (IsItIfNumbered f.maker may.maker.order) os
+        → AllByRecursion (λ (x : LiveOrder). left_by (Fills f) x + (cond (is_numbered f.taker x) f.shares 0 + cond (is_numbered f.maker x) f.shares 0) ≡ shares_open x) os
+    all [] a b = tt
+    all (x ∷ os) a b = (each (is_numbered f.taker x) (is_numbered f.maker x) x a.0 b.0 (not_both x), all os a.1 b.1)
+
+-- no more of it is open
+abbrev pub IsNoMore : Turn → LiveOrder → Type 0
+IsNoMore turn x = left_by turn x ≤ shares_open x
+
+every : (P : LiveOrder → Type 0) → ((x : LiveOrder) → P x) → (os : List LiveOrder) → AllByRecursion P os
+every P h [] = tt
+every P h (x ∷ os) = (h x, every P h os)
+
+pub none_if_gone : (turn : Turn) (gone : LiveOrder → Bool) → ((x : LiveOrder) → becomes turn x ≡ cond (gone x) None (Some x)) → (os : List LiveOrder) → AllByRecursion (IsNoMore turn) os
+none_if_gone turn gone is os = every (IsNoMore turn) (λ x. at (gone x) x (is x)) os
+  where
+    at : (b : Bool) (x : LiveOrder) → becomes turn x ≡ cond b None (Some x) → left_by turn x ≤ shares_open x
+    at true x e = let none = ap (λ found. option_map_or shares_open found 0) e in omega (arith, none)
+    at false x e = let same = ap (λ found. option_map_or shares_open found 0) e in omega (arith, same)
+
+-- of no order more is open than before
+pub none_gains : (policy : PolicyData) (held : Positions) (turn : Turn) (granted : List Order) → IsDistinct nat_eq (numbers_of held.live) → MayChange policy held turn granted
+    → AllByRecursion (IsNoMore turn) held.live
+none_gains policy held Keeps granted distinct may = none_if_gone Keeps (λ x. false) (λ x. refl) held.live
+none_gains policy held (Adds new) granted distinct may = none_if_gone (Adds new) (λ x. false) (λ x. refl) held.live
+none_gains policy held (Sizes number size) granted distinct may =
+    let o : LiveOrder = may.is_there.order in
+    let fewer : size - o.done < shares_open o = may.is_less in
+    let lost : ℕ = shares_open o - (size - o.done) in
+    all_weaker (λ (x : LiveOrder). left_by (Sizes number size) x + cond (is_numbered number x) lost 0 ≡ shares_open x) (IsNoMore (Sizes number size)) (λ x h. omega (arith, h)) held.live
+    (each_loses (Sizes number size) number held.live o lost distinct (sized_loses held number size o may.is_there.is_found (omega (arith, fewer))))
+none_gains policy held (Replaces number new) granted distinct may = none_if_gone (Replaces number new) (is_numbered number) (λ x. refl) held.live
+none_gains policy held (EndsAll action) granted distinct may = none_if_gone (EndsAll action) (λ x. ends_account x.account action) (λ x. refl) held.live
+none_gains policy held (Fills f) granted distinct may =
+    all_weaker (λ (x : LiveOrder). left_by (Fills f) x + (cond (is_numbered f.taker x) f.shares 0 + cond (is_numbered f.maker x) f.shares 0) ≡ shares_open x) (IsNoMore (Fills f))
+    (λ x h. omega (arith, h)) held.live (each_fills held f distinct may)
+none_gains policy held (Rests number) granted distinct may = every (IsNoMore (Rests number)) (λ x. at (number == x.number) x) held.live
+  where
+    at : (b : Bool) (x : LiveOrder) → shares_open (cond b (record x { waits = false }) x) ≤ shares_open x
+    at true x = omega arith
+    at false x = omega arith
+none_gains policy held (Ends number) granted distinct may = none_if_gone (Ends number) (λ x. number == x.number) (λ x. refl) held.live
+
 -- the order is one of those chosen
-abbrev pub is_chosen : (Order → Bool) → Standing → Bool
-is_chosen chosen s = chosen s.order
+abbrev pub is_chosen : (AccountName → OrderTerms → Bool) → LiveOrder → Bool
+is_chosen chosen o = chosen o.account o.terms
 
--- of an order, so many shares, at its price
-abbrev pub part_of : (ℕ → ℕ → ℕ) → ℕ → Standing → ℕ
-part_of weight shares s = weight shares s.order.terms.price
+-- all open shares of an order, weighed at its price
+abbrev pub open_of : (ℕ → ℕ → ℕ) → LiveOrder → ℕ
+open_of weight o = weight (shares_open o) o.terms.price
 
--- all open shares of an order, at its price
-abbrev pub open_of : (ℕ → ℕ → ℕ) → Standing → ℕ
-open_of weight s = weight s.open_shares s.order.terms.price
-
--- the sum over those orders
-abbrev pub sum_chosen : (Order → Bool) → (Standing → ℕ) → List Standing → ℕ
-sum_chosen chosen m ss = sum_where (is_chosen chosen) m ss
-
--- two parts of the shares weigh what they weigh together
-pub record IsAdditive (weight : ℕ → ℕ → ℕ) : Type 0 where
+-- a figure that is the sum of what the chosen orders have open, so weighed that two parts of the shares weigh what they weigh together
+pub record IsOpenSum (figure : List LiveOrder → ℕ) (chosen : AccountName → OrderTerms → Bool) (weight : ℕ → ℕ → ℕ) : Type 0 where
   pub adds : (m n price : ℕ) → weight (m + n) price ≡ weight m price + weight n price
+  pub is_sum : (os : List LiveOrder) → figure os ≡ sum_where (is_chosen chosen) (open_of weight) os
 
--- no shares weigh nothing
-pub weighs_nothing : (weight : ℕ → ℕ → ℕ) → IsAdditive weight → (price : ℕ) → weight 0 price ≡ 0
-weighs_nothing weight is price = let twice = is.adds 0 0 price in omega (arith, twice)
+module _ {figure : List LiveOrder → ℕ} {chosen : AccountName → OrderTerms → Bool} {weight : ℕ → ℕ → ℕ} (is : IsOpenSum figure chosen weight) where
+  -- the sum of so many shares of each
+  abbrev sum_of : (LiveOrder → ℕ) → List LiveOrder → ℕ
+  sum_of shares os = sum_where (is_chosen chosen) (λ x. weight (shares x) x.terms.price) os
 
-module _ (weight : ℕ → ℕ → ℕ) (is : IsAdditive weight) where
+  -- no shares weigh nothing
+  weighs_nothing : (price : ℕ) → weight 0 price ≡ 0
+  weighs_nothing price = let twice = is.adds 0 0 price in omega (arith, twice)
+
   -- where some shares of each order are taken, the sum falls by what is taken
-  pub sum_taken : (chosen : Order → Bool) (open_now taken : Standing → ℕ) (ss : List Standing) → AllByRecursion (λ (t : Standing). open_now t + taken t ≡ t.open_shares) ss
-      → sum_chosen chosen (open_of weight) (still_open open_now ss) + sum_chosen chosen (λ t. part_of weight (taken t) t) ss ≡ sum_chosen chosen (open_of weight) ss
-  sum_taken chosen open_now taken [] h = refl
-  sum_taken chosen open_now taken (t ∷ ss) h = at (nat_lt 0 (open_now t)) refl (sum_taken chosen open_now taken ss h.1)
+  sum_taken : (turn : Turn) (taken : LiveOrder → ℕ) (os : List LiveOrder) → AllByRecursion (λ (x : LiveOrder). left_by turn x + taken x ≡ shares_open x) os
+      → sum_of shares_open (filter_map (becomes turn) os) + sum_of taken os ≡ sum_of shares_open os
+  sum_taken turn taken [] h = refl
+  sum_taken turn taken (o ∷ os) h = at (becomes turn o) refl h.0 (sum_taken turn taken os h.1)
     where
-      whole : open_of weight t ≡ part_of weight (open_now t) t + part_of weight (taken t) t
-      whole = ap (λ n. part_of weight n t) (sym h.0) ∙ is.adds (open_now t) (taken t) t.order.terms.price
+      parts : (b : Bool) (left gone whole price : ℕ) → left + gone ≡ whole → cond b (weight left price) 0 + cond b (weight gone price) 0 ≡ cond b (weight whole price) 0
+      parts true left gone whole price e = sym (is.adds left gone price) ∙ ap (λ n. weight n price) e
+      parts false left gone whole price e = refl
 
-      here : (b : Bool) → cond b (part_of weight (open_now t) t) 0 + cond b (part_of weight (taken t) t) 0 ≡ cond b (open_of weight t) 0
-      here true = sym whole
-      here false = refl
+      none : (b : Bool) (price : ℕ) → cond b (weight 0 price) 0 ≡ 0
+      none true price = weighs_nothing price
+      none false price = refl
 
-      gone : nat_lt 0 (open_now t) ≡ false → part_of weight (open_now t) t ≡ 0
-      gone e = let few = ltb-false 0 (open_now t) e in ap (λ n. part_of weight n t) (none few) ∙ weighs_nothing weight is t.order.terms.price
-        where
-          none : open_now t ≤ 0 → open_now t ≡ 0
-          none few = omega arith
+      at : (found : Option LiveOrder) → becomes turn o ≡ found → option_map_or shares_open found 0 + taken o ≡ shares_open o
+          → sum_of shares_open (filter_map (becomes turn) os) + sum_of taken os ≡ sum_of shares_open os
+          → sum_of shares_open (cons_option found (filter_map (becomes turn) os)) + sum_of taken (o ∷ os) ≡ sum_of shares_open (o ∷ os)
+      at None e all deeper =
+          let here = parts (is_chosen chosen o) 0 (taken o) (shares_open o) o.terms.price all in
+          let gone = none (is_chosen chosen o) o.terms.price in
+          omega (arith, here, gone, deeper)
+      at (Some x) e all deeper =
+          let same = becomes_same turn o x e in
+          let here = parts (is_chosen chosen o) (shares_open x) (taken o) (shares_open o) o.terms.price all in
+          let stays : cond (is_chosen chosen x) (open_of weight x) 0 ≡ cond (is_chosen chosen o) (weight (shares_open x) o.terms.price) 0 =
+          (λ i. cond (chosen (same.3 i) (same.1 i)) (weight (shares_open x) (same.1 i).price) 0) in
+          omega (arith, here, stays, deeper)
 
-      at : (b : Bool) → nat_lt 0 (open_now t) ≡ b
-          → sum_chosen chosen (open_of weight) (still_open open_now ss) + sum_chosen chosen (λ t. part_of weight (taken t) t) ss ≡ sum_chosen chosen (open_of weight) ss
-          → sum_chosen chosen (open_of weight) (cond b (with_open open_now t ∷ still_open open_now ss) (still_open open_now ss))
-          + (cond (is_chosen chosen t) (part_of weight (taken t) t) 0 + sum_chosen chosen (λ t. part_of weight (taken t) t) ss)
-          ≡ cond (is_chosen chosen t) (open_of weight t) 0 + sum_chosen chosen (open_of weight) ss
-      at true e deeper = let this = here (is_chosen chosen t) in omega (arith, this, deeper)
-      at false e deeper =
-          let this = here (is_chosen chosen t) in
-          let none = ap (λ n. cond (is_chosen chosen t) n 0) (gone e) ∙ nothing_either_way (is_chosen chosen t) in
-          omega (arith, this, none, deeper)
-
-  cut_part : (b : Bool) (shares price : ℕ) → weight (cond b shares 0) price ≡ cond b (weight shares price) 0
-  cut_part true shares price = refl
-  cut_part false shares price = weighs_nothing weight is price
+  -- and so does the figure
+  falls_by : (turn : Turn) (taken : LiveOrder → ℕ) (os : List LiveOrder) → AllByRecursion (λ (x : LiveOrder). left_by turn x + taken x ≡ shares_open x) os
+      → figure (filter_map (becomes turn) os) + sum_of taken os ≡ figure os
+  falls_by turn taken os h = ap (λ n. n + sum_of taken os) (is.is_sum (filter_map (becomes turn) os)) ∙ sum_taken turn taken os h ∙ sym (is.is_sum os)
 
   -- so many shares of the order of a number alone
-  sum_of_part : (chosen : Order → Bool) (shares number : ℕ) (s : Standing) (ss : List Standing) → IsDistinct nat_eq (numbers_of ss) → standing_numbered ss number ≡ Some s
-      → sum_chosen chosen (λ t. part_of weight (cond (is_numbered number t) shares 0) t) ss ≡ cond (is_chosen chosen s) (part_of weight shares s) 0
-  sum_of_part chosen shares number s ss distinct found =
-      (λ i. sum_chosen chosen (λ t. cut_part (is_numbered number t) shares t.order.terms.price i) ss)
-      ∙ sum_of_one (is_chosen chosen) (part_of weight shares) ss number s distinct found
-
-  -- one order is left fewer shares
-  pub sum_leaves : (chosen : Order → Bool) (number left : ℕ) (s : Standing) (ss : List Standing) → IsDistinct nat_eq (numbers_of ss) → standing_numbered ss number ≡ Some s → left ≤ s.open_shares
-      → sum_chosen chosen (open_of weight) (with_left number left ss) + cond (is_chosen chosen s) (part_of weight (s.open_shares - left) s) 0 ≡ sum_chosen chosen (open_of weight) ss
-  sum_leaves chosen number left s ss distinct found less =
-      let lost : ℕ = s.open_shares - left in
-      let fall = sum_taken chosen (shares_left number left) (λ t. cond (is_numbered number t) lost 0) ss
-      (all_weaker (IsItIfNumbered number s) (λ (t : Standing). shares_left number left t + cond (is_numbered number t) lost 0 ≡ t.open_shares) (λ t one. at (is_numbered number t) t one) ss (only_one_numbered ss number s distinct found)) in
-      let one = sum_of_part chosen lost number s ss distinct found in
-      omega (arith, fall, one)
+  sum_of_part : (shares number : ℕ) (o : LiveOrder) (os : List LiveOrder) → IsDistinct nat_eq (numbers_of os) → live_numbered os number ≡ Some o
+      → sum_of (λ x. cond (is_numbered number x) shares 0) os ≡ cond (is_chosen chosen o) (weight shares o.terms.price) 0
+  sum_of_part shares number o os distinct found =
+      (λ i. sum_where (is_chosen chosen) (λ x. cut (is_numbered number x) x.terms.price i) os) ∙ sum_of_one (is_chosen chosen) (λ x. weight shares x.terms.price) os number o distinct found
     where
-      at : (b : Bool) (t : Standing) → (b ≡ true → t ≡ s) → cond b left t.open_shares + cond b (s.open_shares - left) 0 ≡ t.open_shares
-      at true t one = let same = ap (λ (u : Standing). u.open_shares) (one refl) in omega (arith, same, less)
-      at false t one = omega arith
+      cut : (b : Bool) (price : ℕ) → weight (cond b shares 0) price ≡ cond b (weight shares price) 0
+      cut true price = refl
+      cut false price = weighs_nothing price
+
+  -- more orders
+  pub joined : (os more : List LiveOrder) → figure (os ++ more) ≡ figure os + figure more
+  joined os more = is.is_sum (os ++ more) ∙ sum_where-append (is_chosen chosen) (open_of weight) os more ∙ (λ i. sym (is.is_sum os) i + sym (is.is_sum more) i)
+
+  -- one order more
+  pub added : (os : List LiveOrder) (new : LiveOrder) → figure (os ++ new ∷ []) ≡ figure os + cond (is_chosen chosen new) (open_of weight new) 0
+  added os new =
+      let all = joined os (new ∷ []) in
+      let one = is.is_sum (new ∷ []) in
+      omega (arith, all, one)
+
+  -- none that is chosen, nothing
+  pub none_of : (os : List LiveOrder) → AllByRecursion (λ (x : LiveOrder). is_chosen chosen x ≡ false) os → figure os ≡ 0
+  none_of os none = is.is_sum os ∙ sum_of_none (is_chosen chosen) (open_of weight) os none
+
+  -- one order loses shares: what is left and what is gone
+  pub lost_by : (turn : Turn) (number : ℕ) (os : List LiveOrder) (o : LiveOrder) (lost : ℕ) → IsDistinct nat_eq (numbers_of os) → Loses turn number os o lost
+      → figure (filter_map (becomes turn) os) + cond (is_chosen chosen o) (weight lost o.terms.price) 0 ≡ figure os
+  lost_by turn number os o lost distinct loses =
+      let fall = falls_by turn (λ x. cond (is_numbered number x) lost 0) os (each_loses turn number os o lost distinct loses) in
+      let one = sum_of_part lost number o os distinct loses.is_found in
+      omega (arith, fall, one)
 
   -- two orders trade so many shares
-  pub sum_fills : (chosen : Order → Bool) (f : Fill) (taker maker : Standing) (ss : List Standing) → IsDistinct nat_eq (numbers_of ss)
-      → standing_numbered ss f.taker ≡ Some taker → standing_numbered ss f.maker ≡ Some maker → IsFalse (f.taker == f.maker) → f.shares ≤ taker.open_shares → f.shares ≤ maker.open_shares
-      → sum_chosen chosen (open_of weight) (still_open (left_by_fill f) ss) + (cond (is_chosen chosen taker) (part_of weight f.shares taker) 0 + cond (is_chosen chosen maker) (part_of weight f.shares maker) 0)
-      ≡ sum_chosen chosen (open_of weight) ss
-  sum_fills chosen f taker maker ss distinct taker_is maker_is differ taker_has maker_has =
-      let takes : Standing → ℕ = λ t. cond (is_numbered f.taker t) f.shares 0 in
-      let makes : Standing → ℕ = λ t. cond (is_numbered f.maker t) f.shares 0 in
-      let each : AllByRecursion (λ (t : Standing). left_by_fill f t + (takes t + makes t) ≡ t.open_shares) ss = both_sides ss (only_one_numbered ss f.taker taker distinct taker_is) (only_one_numbered ss f.maker maker distinct maker_is) in
-      let fall = sum_taken chosen (left_by_fill f) (λ t. takes t + makes t) ss each in
-      let parts : sum_chosen chosen (λ t. part_of weight (takes t + makes t) t) ss ≡ sum_chosen chosen (λ t. part_of weight (takes t) t) ss + sum_chosen chosen (λ t. part_of weight (makes t) t) ss =
-      (λ i. sum_chosen chosen (λ t. is.adds (takes t) (makes t) t.order.terms.price i) ss) ∙ sum_of_both (is_chosen chosen) (λ t. part_of weight (takes t) t) (λ t. part_of weight (makes t) t) ss in
-      let first = sum_of_part chosen f.shares f.taker taker ss distinct taker_is in
-      let second = sum_of_part chosen f.shares f.maker maker ss distinct maker_is in
+  pub filled_by : (held : Positions) (f : Fill) → IsDistinct nat_eq (numbers_of held.live) → (may : MayFill held f)
+      → figure (filter_map (becomes (Fills f)) held.live)
+      + (cond (is_chosen chosen may.taker.order) (weight f.shares may.taker.order.terms.price) 0 + cond (is_chosen chosen may.maker.order) (weight f.shares may.maker.order.terms.price) 0)
+      ≡ figure held.live
+  filled_by held f distinct may =
+      let takes : LiveOrder → ℕ = λ x. cond (is_numbered f.taker x) f.shares 0 in
+      let makes : LiveOrder → ℕ = λ x. cond (is_numbered f.maker x) f.shares 0 in
+      let fall = falls_by (Fills f) (λ x. takes x + makes x) held.live (each_fills held f distinct may) in
+      let parts : sum_of (λ x. takes x + makes x) held.live ≡ sum_of takes held.live + sum_of makes held.live =
+      (λ i. sum_where (is_chosen chosen) (λ x. is.adds (takes x) (makes x) x.terms.price i) held.live)
+      ∙ sum_of_both (is_chosen chosen) (λ x. weight (takes x) x.terms.price) (λ x. weight (makes x) x.terms.price) held.live in
+      let first = sum_of_part f.shares f.taker may.taker.order held.live distinct may.taker.is_found in
+      let second = sum_of_part f.shares f.maker may.maker.order held.live distinct may.maker.is_found in
       omega (arith, fall, parts, first, second)
-    where
-      not_both : (t : Standing) → is_numbered f.taker t ≡ true → is_numbered f.maker t ≡ true → ⊥
-      not_both t a b = absurd (true≢false (sym (eq-eqb f.taker f.maker (sym (eqb-true t.order.number f.taker a) ∙ eqb-true t.order.number f.maker b)) ∙ differ))
 
-      of_each : (a b : Bool) (t : Standing) → (a ≡ true → t ≡ taker) → (b ≡ true → t ≡ maker) → (a ≡ true → b ≡ true → ⊥)
-          → (t.open_shares - cond (a || b) f.shares 0) + (cond a f.shares 0 + cond b f.shares 0) ≡ t.open_shares
-      of_each true true t a b never = absurd (never refl refl)
-      of_each true false t a b never = let same = ap (λ (u : Standing). u.open_shares) (a refl) in omega (arith, same, taker_has)
-      of_each false true t a b never = let same = ap (λ (u : Standing). u.open_shares) (b refl) in omega (arith, same, maker_has)
-      of_each false false t a b never = omega arith
+  -- where each order has as much open, nothing falls
+  pub stays_by : (turn : Turn) (os : List LiveOrder) → AllByRecursion (λ (x : LiveOrder). left_by turn x ≡ shares_open x) os → figure (filter_map (becomes turn) os) ≡ figure os
+  stays_by turn os same =
+      let fall = falls_by turn (λ x. 0) os (all_weaker (λ (x : LiveOrder). left_by turn x ≡ shares_open x) (λ (x : LiveOrder). left_by turn x + 0 ≡ shares_open x) (λ x h. omega (arith, h)) os same) in
+      let none = (λ i. sum_where (is_chosen chosen) (λ x. weighs_nothing x.terms.price i) os) ∙ nothing_of (is_chosen chosen) os in
+      omega (arith, fall, none)
 
-      both_sides : (ts : List Standing) → AllByRecursion (IsItIfNumbered f.taker taker) ts → AllByRecursion (IsItIfNumbered f.maker maker) ts
-          → AllByRecursion (λ (t : Standing). left_by_fill f t + (cond (is_numbered f.taker t) f.shares 0 + cond (is_numbered f.maker t) f.shares 0) ≡ t.open_shares) ts
-      both_sides [] a b = tt
-      both_sides (t ∷ ts) a b = (of_each (is_numbered f.taker t) (is_numbered f.maker t) t a.0 b.0 (not_both t), both_sides ts a.1 b.1)
-
--- one order makes place
-pub sum_without : (chosen : Order → Bool) (m : Standing → ℕ) (number : ℕ) (s : Standing) (ss : List Standing) → IsDistinct nat_eq (numbers_of ss) → standing_numbered ss number ≡ Some s
-    → sum_chosen chosen m (without number ss) + cond (is_chosen chosen s) (m s) 0 ≡ sum_chosen chosen m ss
-sum_without chosen m number s ss distinct found =
-    let parts = sum_left (is_chosen chosen) (λ t. not (is_numbered number t)) m ss in
-    let taken : sum_chosen chosen (λ t. cond (not (is_numbered number t)) 0 (m t)) ss ≡ cond (is_chosen chosen s) (m s) 0 =
-    (λ i. sum_chosen chosen (λ t. turned (is_numbered number t) (m t) i) ss) ∙ sum_of_one (is_chosen chosen) m ss number s distinct found in
-    omega (arith, parts, taken)
-  where
-    turned : (b : Bool) (n : ℕ) → cond (not b) 0 n ≡ cond b n 0
-    turned true n = refl
-    turned false n = refl
-
--- a part of the orders has at most what all have
-pub sum_filtered : (chosen : Order → Bool) (m : Standing → ℕ) (q : Standing → Bool) (ss : List Standing) → sum_chosen chosen m (filter q ss) ≤ sum_chosen chosen m ss
-sum_filtered chosen m q ss = let parts = sum_left (is_chosen chosen) q m ss in omega (arith, parts)
-
--- one more order
-pub sum_next : (chosen : Order → Bool) (m : Standing → ℕ) (ss : List Standing) (new : Standing) → sum_chosen chosen m (ss ++ new ∷ []) ≡ sum_chosen chosen m ss + cond (is_chosen chosen new) (m new) 0
-sum_next chosen m ss new = let parts = sum_where-append (is_chosen chosen) m ss (new ∷ []) in omega (arith, parts)
+  -- where none has more, nothing rises
+  pub no_rise_by : (turn : Turn) (os : List LiveOrder) → AllByRecursion (IsNoMore turn) os → figure (filter_map (becomes turn) os) ≤ figure os
+  no_rise_by turn os no_more =
+      let fall = falls_by turn (λ x. shares_open x - left_by turn x) os
+      (all_weaker (IsNoMore turn) (λ (x : LiveOrder). left_by turn x + (shares_open x - left_by turn x) ≡ shares_open x) (λ x h. omega (arith, h)) os no_more) in
+      omega (arith, fall)
 
 -- the shares themselves
 abbrev pub as_shares : ℕ → ℕ → ℕ
 as_shares shares price = shares
 
--- shares add up
-pub shares_add : IsAdditive as_shares
-shares_add = record { adds = λ m n price. refl }
-
--- values at one price add up
-pub values_add : IsAdditive value
-values_add = record { adds = λ m n price. omega arith }
-
--- the figures as sums of this kind
-pub open_are : (ss : List Standing) (chosen : Order → Bool) → open_of_chosen ss chosen ≡ sum_chosen chosen (open_of as_shares) ss
+-- open shares are such a sum
+pub shares_of : (chosen : AccountName → OrderTerms → Bool) → IsOpenSum (λ os. open_of_chosen os chosen) chosen as_shares
 unfolding open_of_chosen
-open_are ss chosen = sum_of_filter (is_chosen chosen) (open_of as_shares) ss
+shares_of chosen = record { adds = λ m n price. refl; is_sum = λ os. sum_of_filter (is_chosen chosen) (open_of as_shares) os }
 
--- open value
-pub live_value_are : (ss : List Standing) (among : AccountName → Bool) → live_value ss among ≡ sum_chosen (of_accounts among) (open_of value) ss
+-- and their value
+pub value_of : (among : AccountName → Bool) → IsOpenSum (λ os. live_value os among) (of_accounts among) value
 unfolding live_value
-live_value_are ss among = sum_of_filter (is_chosen (of_accounts among)) (open_of value) ss
+value_of among = record { adds = λ m n price. omega arith; is_sum = λ os. sum_of_filter (is_chosen (of_accounts among)) (open_of value) os }
 
 -- executed shares
-pub done_are : (made : List Execution) (chosen : Order → Bool) → done_of_chosen made chosen ≡ sum_where (λ (e : Execution). chosen e.order) (λ (e : Execution). e.fill.shares) made
+pub done_are : (made : List Execution) (chosen : AccountName → OrderTerms → Bool) → done_of_chosen made chosen ≡ sum_where (λ (e : Execution). chosen e.order.account e.order.terms) (λ (e : Execution). e.fill.shares) made
 unfolding done_of_chosen
-done_are made chosen = sum_of_filter (λ (e : Execution). chosen e.order) (λ (e : Execution). e.fill.shares) made
+done_are made chosen = sum_of_filter (λ (e : Execution). chosen e.order.account e.order.terms) (λ (e : Execution). e.fill.shares) made
 
 -- executed value
 pub done_value_are : (made : List Execution) (among : AccountName → Bool) → done_value made among ≡ sum_where (λ (e : Execution). among e.order.account) (λ (e : Execution). value e.fill.shares e.fill.price) made
 unfolding done_value
 done_value_are made among = sum_of_filter (λ (e : Execution). among e.order.account) (λ (e : Execution). value e.fill.shares e.fill.price) made
 
--- Adds: one order more
-pub shares_added : (chosen : Order → Bool) (ss : List Standing) (new : Standing) → open_of_chosen (ss ++ new ∷ []) chosen ≡ open_of_chosen ss chosen + cond (is_chosen chosen new) new.open_shares 0
-shares_added chosen ss new = open_are (ss ++ new ∷ []) chosen ∙ sum_next chosen (open_of as_shares) ss new ∙ ap (λ n. n + cond (is_chosen chosen new) new.open_shares 0) (sym (open_are ss chosen))
-
--- Adds: and their value
-pub value_added : (among : AccountName → Bool) (ss : List Standing) (new : Standing) → live_value (ss ++ new ∷ []) among ≡ live_value ss among + cond (is_chosen (of_accounts among) new) (open_value new) 0
-value_added among ss new = live_value_are (ss ++ new ∷ []) among ∙ sum_next (of_accounts among) (open_of value) ss new ∙ ap (λ n. n + cond (is_chosen (of_accounts among) new) (open_value new) 0) (sym (live_value_are ss among))
-
--- Leaves: what is left and what is gone
-pub shares_when_left : (chosen : Order → Bool) (held : Positions) (number left : ℕ) → IsDistinct nat_eq (numbers_of held.standings) → (may : MayLeave held number left)
-    → open_of_chosen (with_left number left held.standings) chosen + cond (is_chosen chosen may.standing) (may.standing.open_shares - left) 0 ≡ open_of_chosen held.standings chosen
-shares_when_left chosen held number left distinct may =
-    ap (λ n. n + cond (is_chosen chosen may.standing) (may.standing.open_shares - left) 0) (open_are (with_left number left held.standings) chosen)
-    ∙ sum_leaves as_shares shares_add chosen number left may.standing held.standings distinct may.is_found may.is_less
-    ∙ sym (open_are held.standings chosen)
-
--- Leaves: and their value
-pub value_when_left : (among : AccountName → Bool) (held : Positions) (number left : ℕ) → IsDistinct nat_eq (numbers_of held.standings) → (may : MayLeave held number left)
-    → live_value (with_left number left held.standings) among + cond (is_chosen (of_accounts among) may.standing) (value (may.standing.open_shares - left) may.standing.order.terms.price) 0 ≡ live_value held.standings among
-value_when_left among held number left distinct may =
-    ap (λ n. n + cond (is_chosen (of_accounts among) may.standing) (value (may.standing.open_shares - left) may.standing.order.terms.price) 0) (live_value_are (with_left number left held.standings) among)
-    ∙ sum_leaves value values_add (of_accounts among) number left may.standing held.standings distinct may.is_found may.is_less
-    ∙ sym (live_value_are held.standings among)
-
--- Replaces: the old one goes
-pub shares_without : (chosen : Order → Bool) (ss : List Standing) (number : ℕ) (old : Standing) → IsDistinct nat_eq (numbers_of ss) → standing_numbered ss number ≡ Some old
-    → open_of_chosen (without number ss) chosen + cond (is_chosen chosen old) old.open_shares 0 ≡ open_of_chosen ss chosen
-shares_without chosen ss number old distinct found =
-    ap (λ n. n + cond (is_chosen chosen old) old.open_shares 0) (open_are (without number ss) chosen)
-    ∙ sum_without chosen (open_of as_shares) number old ss distinct found
-    ∙ sym (open_are ss chosen)
-
--- Replaces: and its value goes
-pub value_without : (among : AccountName → Bool) (ss : List Standing) (number : ℕ) (old : Standing) → IsDistinct nat_eq (numbers_of ss) → standing_numbered ss number ≡ Some old
-    → live_value (without number ss) among + cond (is_chosen (of_accounts among) old) (open_value old) 0 ≡ live_value ss among
-value_without among ss number old distinct found =
-    ap (λ n. n + cond (is_chosen (of_accounts among) old) (open_value old) 0) (live_value_are (without number ss) among)
-    ∙ sum_without (of_accounts among) (open_of value) number old ss distinct found
-    ∙ sym (live_value_are ss among)
-
--- Replaces: the old one goes, and the new one comes
-pub shares_replaced : (chosen : Order → Bool) (ss : List Standing) (number : ℕ) (old new : Standing) → IsDistinct nat_eq (numbers_of ss) → standing_numbered ss number ≡ Some old
-    → open_of_chosen (without number ss ++ new ∷ []) chosen + cond (is_chosen chosen old) old.open_shares 0 ≡ open_of_chosen ss chosen + cond (is_chosen chosen new) new.open_shares 0
-shares_replaced chosen ss number old new distinct found =
-    let goes = shares_without chosen ss number old distinct found in
-    let comes = shares_added chosen (without number ss) new in
-    omega (arith, goes, comes)
-
--- Replaces: and their values
-pub value_replaced : (among : AccountName → Bool) (ss : List Standing) (number : ℕ) (old new : Standing) → IsDistinct nat_eq (numbers_of ss) → standing_numbered ss number ≡ Some old
-    → live_value (without number ss ++ new ∷ []) among + cond (is_chosen (of_accounts among) old) (open_value old) 0 ≡ live_value ss among + cond (is_chosen (of_accounts among) new) (open_value new) 0
-value_replaced among ss number old new distinct found =
-    let goes = value_without among ss number old distinct found in
-    let comes = value_added among (without number ss) new in
-    omega (arith, goes, comes)
-
--- EndsAll: nothing rises
-pub shares_not_ended : (chosen : Order → Bool) (ss : List Standing) (action : Action) → open_of_chosen (not_ended action ss) chosen ≤ open_of_chosen ss chosen
-shares_not_ended chosen ss action =
-    let few = sum_filtered chosen (open_of as_shares) (λ (s : Standing). not (ends_account s.order.account action)) ss in
-    let left = open_are (not_ended action ss) chosen in
-    let all = open_are ss chosen in
-    omega (arith, few, left, all)
-
--- EndsAll: nor does value
-pub value_not_ended : (among : AccountName → Bool) (ss : List Standing) (action : Action) → live_value (not_ended action ss) among ≤ live_value ss among
-value_not_ended among ss action =
-    let few = sum_filtered (of_accounts among) (open_of value) (λ (s : Standing). not (ends_account s.order.account action)) ss in
-    let left = live_value_are (not_ended action ss) among in
-    let all = live_value_are ss among in
-    omega (arith, few, left, all)
-
--- Fills: what is open falls on each side
-pub shares_filled : (chosen : Order → Bool) (held : Positions) (f : Fill) → IsDistinct nat_eq (numbers_of held.standings) → (may : MayFill held f)
-    → open_of_chosen (still_open (left_by_fill f) held.standings) chosen + (cond (is_chosen chosen may.taker) f.shares 0 + cond (is_chosen chosen may.maker) f.shares 0) ≡ open_of_chosen held.standings chosen
-shares_filled chosen held f distinct may =
-    let fall = sum_fills as_shares shares_add chosen f may.taker may.maker held.standings distinct may.taker_is_found may.maker_is_found may.they_differ may.taker_has may.maker_has in
-    let left = open_are (still_open (left_by_fill f) held.standings) chosen in
-    let all = open_are held.standings chosen in
-    omega (arith, fall, left, all)
-
--- Fills: and its value, at the price of each order
-pub value_filled : (among : AccountName → Bool) (held : Positions) (f : Fill) → IsDistinct nat_eq (numbers_of held.standings) → (may : MayFill held f)
-    → live_value (still_open (left_by_fill f) held.standings) among
-    + (cond (is_chosen (of_accounts among) may.taker) (value f.shares may.taker.order.terms.price) 0 + cond (is_chosen (of_accounts among) may.maker) (value f.shares may.maker.order.terms.price) 0)
-    ≡ live_value held.standings among
-value_filled among held f distinct may =
-    let fall = sum_fills value values_add (of_accounts among) f may.taker may.maker held.standings distinct may.taker_is_found may.maker_is_found may.they_differ may.taker_has may.maker_has in
-    let left = live_value_are (still_open (left_by_fill f) held.standings) among in
-    let all = live_value_are held.standings among in
-    omega (arith, fall, left, all)
-
--- the side of a fill of a live order
-pub side_is : (live : List Standing) (f : Fill) (liquidity : Liquidity) (number : ℕ) (s : Standing) → standing_numbered live number ≡ Some s
-    → side_among live f liquidity number ≡ record { fill = f; liquidity = liquidity; order = s.order } ∷ []
-side_is live f liquidity number s found = ap (λ o. map (λ (s : Standing). record { fill = f; liquidity = liquidity; order = s.order }) (option_to_list o)) found
+side_is : (grants : List Order) (f : Fill) (liquidity : Liquidity) (number : ℕ) (grant : Order) → order_numbered grants number ≡ Some grant
+    → side_of grants f liquidity number ≡ record { fill = f; liquidity = liquidity; order = grant } ∷ []
+side_is grants f liquidity number grant found = ap (λ found. map (λ (o : Order). record { fill = f; liquidity = liquidity; order = o }) (option_to_list found)) found
 
 -- Fills: one side for the taker, one for the maker
-pub executions_filled : (held : Positions) (f : Fill) → (may : MayFill held f)
-    → executions_with (Fills f) held ≡ held.executions ++ taker_side f may.taker.order ∷ maker_side f may.maker.order ∷ []
-executions_filled held f may =
-    λ i. held.executions
-    ++ (side_is held.standings f liquidities.Removed f.taker may.taker may.taker_is_found i ++ side_is held.standings f liquidities.Added f.maker may.maker may.maker_is_found i)
+pub sides_are : (held : Positions) (f : Fill) (may : MayFill held f) → executed_by (Fills f) held.grants ≡ both_sides f may.taker.grant may.maker.grant
+sides_are held f may =
+    λ i. side_is held.grants f liquidities.Removed f.taker may.taker.grant may.taker.is_granted i ++ side_is held.grants f liquidities.Added f.maker may.maker.grant may.maker.is_granted i
 
 -- Fills: what is executed rises on each side
-pub done_shares_filled : (chosen : Order → Bool) (held : Positions) (f : Fill) → (may : MayFill held f)
-    → done_of_chosen (executions_with (Fills f) held) chosen ≡ done_of_chosen held.executions chosen + (cond (is_chosen chosen may.taker) f.shares 0 + cond (is_chosen chosen may.maker) f.shares 0)
+pub done_shares_filled : (chosen : AccountName → OrderTerms → Bool) (held : Positions) (f : Fill) (may : MayFill held f)
+    → done_of_chosen (held.executions ++ executed_by (Fills f) held.grants) chosen
+    ≡ done_of_chosen held.executions chosen + (cond (is_chosen chosen may.taker.order) f.shares 0 + cond (is_chosen chosen may.maker.order) f.shares 0)
 done_shares_filled chosen held f may =
-    let more = ap (λ es. done_of_chosen es chosen) (executions_filled held f may) ∙ done_more held.executions (taker_side f may.taker.order ∷ maker_side f may.maker.order ∷ []) chosen in
-    let two = done_are (taker_side f may.taker.order ∷ maker_side f may.maker.order ∷ []) chosen in
-    omega (arith, more, two)
+    let two : List Execution = both_sides f may.taker.grant may.maker.grant in
+    let more = ap (λ es. done_of_chosen (held.executions ++ es) chosen) (sides_are held f may) ∙ done_more held.executions two chosen in
+    let sums : done_of_chosen two chosen ≡ cond (is_chosen chosen may.taker.order) f.shares 0 + (cond (is_chosen chosen may.maker.order) f.shares 0 + 0) =
+    done_are two chosen ∙ (λ i. cond (chosen (may.taker.is_of.account i) (may.taker.is_of.terms i)) f.shares 0 + (cond (chosen (may.maker.is_of.account i) (may.maker.is_of.terms i)) f.shares 0 + 0)) in
+    omega (arith, more, sums)
 
 -- Fills: and its value, at the price of the fill
-pub done_value_filled : (among : AccountName → Bool) (held : Positions) (f : Fill) → (may : MayFill held f)
-    → done_value (executions_with (Fills f) held) among
-    ≡ done_value held.executions among + (cond (is_chosen (of_accounts among) may.taker) (value f.shares f.price) 0 + cond (is_chosen (of_accounts among) may.maker) (value f.shares f.price) 0)
+pub done_value_filled : (among : AccountName → Bool) (held : Positions) (f : Fill) (may : MayFill held f)
+    → done_value (held.executions ++ executed_by (Fills f) held.grants) among
+    ≡ done_value held.executions among + (cond (among may.taker.order.account) (value f.shares f.price) 0 + cond (among may.maker.order.account) (value f.shares f.price) 0)
 done_value_filled among held f may =
-    let more = ap (λ es. done_value es among) (executions_filled held f may) ∙ done_value_more held.executions (taker_side f may.taker.order ∷ maker_side f may.maker.order ∷ []) among in
-    let two = done_value_are (taker_side f may.taker.order ∷ maker_side f may.maker.order ∷ []) among in
-    omega (arith, more, two)
+    let two : List Execution = both_sides f may.taker.grant may.maker.grant in
+    let more = ap (λ es. done_value (held.executions ++ es) among) (sides_are held f may) ∙ done_value_more held.executions two among in
+    let sums : done_value two among ≡ cond (among may.taker.order.account) (value f.shares f.price) 0 + (cond (among may.maker.order.account) (value f.shares f.price) 0 + 0) =
+    done_value_are two among ∙ (λ i. cond (among (may.taker.is_of.account i)) (value f.shares f.price) 0 + (cond (among (may.maker.is_of.account i)) (value f.shares f.price) 0 + 0)) in
+    omega (arith, more, sums)

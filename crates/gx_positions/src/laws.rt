@@ -1,8 +1,7 @@
 //! Laws of what the figures are taken from, each as what a function without a body ensures.
 
-ghost use Rattle.gx_positions.specs.Laws.{DaysBeginEmpty, FiguresAreOfLiveOrders};
-ghost use Rattle.gx_positions.specs.Laws.{LiveOrdersAreFew, PositionsAreSound, PositionsGoOn};
-ghost use Rattle.gx_positions.specs.Laws.{RecordsMayCome};
+ghost use Rattle.gx_positions.specs.Laws.{DaysBeginEmpty, LiveOrdersAreFew, PositionsAreSound};
+ghost use Rattle.gx_positions.specs.Laws.{PositionsGoOn, RecordsMayCome};
 
 /// A day begins without an order.
 pub fn days_begin_empty()
@@ -22,9 +21,4 @@ pub fn positions_go_on()
 pub fn positions_are_sound()
     ensures sound { PositionsAreSound }
     ensures few { LiveOrdersAreFew }
-{}
-
-/// The figures of a rule are the same over all orders as over the live ones alone.
-pub fn figures_are_of_live_orders()
-    ensures { FiguresAreOfLiveOrders }
 {}

@@ -1,10 +1,10 @@
 -- Runs on the sample policy in which orders meet, computed.
 use Rattle.std.proofs.Common.{refl}
 use Rattle.gx_history.specs.Asking.{facts}
-use Rattle.gx_history.specs.Book.{incoming, resting}
-use Rattle.gx_history.specs.Executions.{executions, executed, done, open_shares, standings, live_orders}
+use Rattle.gx_history.specs.Executions.{executions, executed, done}
 use Rattle.gx_history.specs.Figures.{figures, open_of_chosen, live_value, done_of_chosen, done_value, recent, equal_recent, reference}
 use Rattle.gx_history.specs.InForce.{kill_in_force, is_closed, rules_in_force, is_entitled, line_of}
+use Rattle.gx_history.specs.Live.{live, side, waiting}
 use Rattle.gx_history.specs.Matching.{matching}
 use Rattle.gx_history.specs.Orders.{orders, total, is_dead, is_token_used}
 use Rattle.gx_policy.specs.RuleNames.{rules_before, rules_behind}
@@ -15,17 +15,17 @@ use Rattle.gx_history.specs.Verdicts.{run, verdict, next, step_verdict}
 use Rattle.gx_rows.specs.MatchingRows.{SettlingTakesAllThatWait, TheBestPriceComesFirst, AnImmediateOrderTakesWhatThereIs, ACutOrderKeepsItsPlace}
 
 pub settling_takes_all_that_wait : SettlingTakesAllThatWait
-unfolding run next step_verdict verdict matching facts figures open_of_chosen live_value done_of_chosen done_value recent equal_recent reference first_forbidding written_order rules_before rules_behind orders standings executions executed done total is_dead open_shares live_orders incoming resting is_token_used is_closed kill_in_force rules_in_force is_entitled line_of stream settled
+unfolding run next step_verdict verdict matching facts figures open_of_chosen live_value done_of_chosen done_value recent equal_recent reference first_forbidding written_order rules_before rules_behind orders executions executed done total is_dead live waiting side is_token_used is_closed kill_in_force rules_in_force is_entitled line_of stream settled
 settling_takes_all_that_wait = refl
 
 pub the_best_price_comes_first : TheBestPriceComesFirst
-unfolding run next step_verdict verdict matching facts figures open_of_chosen live_value done_of_chosen done_value recent equal_recent reference first_forbidding written_order rules_before rules_behind orders standings executions executed done total is_dead open_shares live_orders incoming resting is_token_used is_closed kill_in_force rules_in_force is_entitled line_of stream
+unfolding run next step_verdict verdict matching facts figures open_of_chosen live_value done_of_chosen done_value recent equal_recent reference first_forbidding written_order rules_before rules_behind orders executions executed done total is_dead live waiting side is_token_used is_closed kill_in_force rules_in_force is_entitled line_of stream
 the_best_price_comes_first = refl
 
 pub an_immediate_order_takes_what_there_is : AnImmediateOrderTakesWhatThereIs
-unfolding run next step_verdict verdict matching facts figures open_of_chosen live_value done_of_chosen done_value recent equal_recent reference first_forbidding written_order rules_before rules_behind orders standings executions executed done total is_dead open_shares live_orders incoming resting is_token_used is_closed kill_in_force rules_in_force is_entitled line_of stream
+unfolding run next step_verdict verdict matching facts figures open_of_chosen live_value done_of_chosen done_value recent equal_recent reference first_forbidding written_order rules_before rules_behind orders executions executed done total is_dead live waiting side is_token_used is_closed kill_in_force rules_in_force is_entitled line_of stream
 an_immediate_order_takes_what_there_is = refl
 
 pub a_cut_order_keeps_its_place : ACutOrderKeepsItsPlace
-unfolding run next step_verdict verdict matching facts figures open_of_chosen live_value done_of_chosen done_value recent equal_recent reference first_forbidding written_order rules_before rules_behind orders standings executions executed done total is_dead open_shares live_orders incoming resting is_token_used is_closed kill_in_force rules_in_force is_entitled line_of stream
+unfolding run next step_verdict verdict matching facts figures open_of_chosen live_value done_of_chosen done_value recent equal_recent reference first_forbidding written_order rules_before rules_behind orders executions executed done total is_dead live waiting side is_token_used is_closed kill_in_force rules_in_force is_entitled line_of stream
 a_cut_order_keeps_its_place = refl

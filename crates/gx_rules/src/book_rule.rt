@@ -10,12 +10,14 @@ ghost use Rattle.gx_policy.specs.Lists.{are_distinct};
 ghost use Rattle.gx_history.specs.Rules.{kind_forbids, rule_forbids};
 ghost use Rattle.gx_rules.specs.Books.{kind_of, lists_once, rule_named};
 
-use crate::file_rule::{is_for_scope, is_forbidden_by_kind};
+use crate::file_rule::{
+    has_net_above, has_shares_above, has_value_above, is_for_scope, is_outside_collar,
+};
 use crate::request::proposed;
 use gx_history::facts::{Facts, ProposedOrder, TellsFigures};
 use gx_history::record::Request;
 use gx_policy::{FileRule, RuleKind, Scope, Symbols};
-use gx_units::{OutOfMemory, RuleId, Symbol};
+use gx_units::{OutOfMemory, RuleId, Symbol, value_of};
 use indexmap::IndexSet;
 use std::alloc::Global;
 
@@ -184,7 +186,21 @@ impl BookRule {
     {
         match &self.kind {
             RuleKind::Halt(_) | RuleKind::Restricted(_) => self.stocks.contains(&w.stock),
-            kind => is_forbidden_by_kind(kind, place, figures, w),
+            RuleKind::NoShort => matches!(w.side, b'T' | b'E'),
+            RuleKind::NoIso => w.intermarket_sweep == b'Y',
+            RuleKind::OddLot => w.shares % 100 != 0,
+            RuleKind::OrderShares(limit) => u64::from(w.shares) > *limit,
+            RuleKind::OrderValue(limit) => value_of(w.shares, w.price) > u128::from(*limit),
+            RuleKind::Collar(limit) => {
+                is_outside_collar(*limit, figures.of(place).reference, w.price)
+            }
+            RuleKind::GrossShares(limit, _) => has_shares_above(&figures.of(place), w, *limit),
+            RuleKind::GrossValue(limit, _) => has_value_above(&figures.of(place), w, *limit),
+            RuleKind::NetShares(limit, _) => has_net_above(&figures.of(place), w, *limit),
+            RuleKind::Rate(rate, _) => rate.limit <= figures.of(place).recent,
+            RuleKind::Repeat(repeat, _) => {
+                w.is_new && repeat.limit <= figures.of(place).equal_recent
+            }
         }
     }
 

@@ -1,24 +1,17 @@
-//! The rules of the policy file.
+//! What the limits of the policy file's rules forbid.
 
 ghost use Rattle.std.specs.Prelude.{◌≡◌, ◌+◌, ◌-◌, ◌+ℤ◌, ◌-ℤ◌, false, int_lt, nat_lt, pos};
 ghost use Rattle.std.specs.Option.{option_map_or};
 ghost use Rattle.gx_units.specs.Money.{value};
-ghost use Rattle.gx_history.specs.InForce.{lists_stock};
 ghost use Rattle.gx_policy.specs.People.{covers};
-ghost use Rattle.gx_history.specs.Rules.{kind_forbids, is_outside_collar, new_open};
+ghost use Rattle.gx_history.specs.Rules.{is_outside_collar, new_open};
 
-use gx_history::facts::{Facts, ProposedOrder, RuleFigures, TellsFigures};
-use gx_policy::{RuleKind, Scope};
-use gx_units::{Symbol, value_of};
-
-fn lists_stock(stocks: &[Symbol], stock: Symbol) -> bool
-    ensures { result ≡ lists_stock stocks.now stock }
-{
-    stocks.iter().any(|s| *s == stock)
-}
+use gx_history::facts::{Facts, ProposedOrder, RuleFigures};
+use gx_policy::Scope;
+use gx_units::value_of;
 
 /// Whether the price is more than `limit` ten-thousandths of the reference away from it.
-fn is_outside_collar(limit: u64, reference: u32, price: u32) -> bool
+pub fn is_outside_collar(limit: u64, reference: u32, price: u32) -> bool
     ensures { result ≡ is_outside_collar limit reference price }
 {
     let scaled = u128::from(price) * 10_000;
@@ -70,7 +63,7 @@ fn new_open(w: &ProposedOrder) -> u32
 
 /// Whether the account's shares that are live, executed and new, without what is replaced, pass the limit.
 #[inline(always)]
-fn has_shares_above(told: &RuleFigures, w: &ProposedOrder, limit: u64) -> bool
+pub fn has_shares_above(told: &RuleFigures, w: &ProposedOrder, limit: u64) -> bool
     ensures { result ≡ nat_lt limit
         (told.now.live_shares + told.now.done_shares + new_open w.now - told.now.replaced_shares) }
 {
@@ -86,7 +79,7 @@ fn has_shares_above(told: &RuleFigures, w: &ProposedOrder, limit: u64) -> bool
 
 /// Whether the value of what is live, executed and new, without what is replaced, passes the limit.
 #[inline(always)]
-fn has_value_above(told: &RuleFigures, w: &ProposedOrder, limit: u64) -> bool
+pub fn has_value_above(told: &RuleFigures, w: &ProposedOrder, limit: u64) -> bool
     ensures { result ≡ nat_lt limit
         (told.now.live_value + told.now.done_value + value (new_open w.now) w.now.price
         - told.now.replaced_value) }
@@ -101,42 +94,22 @@ fn has_value_above(told: &RuleFigures, w: &ProposedOrder, limit: u64) -> bool
     )
 }
 
-/// Whether a rule of this kind, which stands at this place in the file, forbids the order. Figures are told where the kind
-/// asks for some.
+/// Whether the account's shares on this side, those that are live, executed and new, without what is replaced and without
+/// those executed on the other side, pass the limit.
 #[inline(always)]
-pub fn is_forbidden_by_kind<F: TellsFigures>(
-    kind: &RuleKind,
-    place: usize,
-    figures: &F,
-    w: &ProposedOrder,
-) -> bool
-    ensures { result ≡ kind_forbids kind.now (F.told figures.now place) w.now }
+pub fn has_net_above(told: &RuleFigures, w: &ProposedOrder, limit: u64) -> bool
+    ensures { result ≡ int_lt (pos limit)
+        (told.now.net_done +ℤ pos told.now.side_live +ℤ pos (new_open w.now)
+        -ℤ pos told.now.replaced_shares) }
 {
-    match kind {
-        RuleKind::Halt(stocks) => lists_stock(stocks.as_slice(), w.stock),
-        RuleKind::Restricted(stocks) => lists_stock(stocks.as_slice(), w.stock),
-        RuleKind::NoShort => matches!(w.side, b'T' | b'E'),
-        RuleKind::NoIso => w.intermarket_sweep == b'Y',
-        RuleKind::OddLot => w.shares % 100 != 0,
-        RuleKind::OrderShares(limit) => u64::from(w.shares) > *limit,
-        RuleKind::OrderValue(limit) => value_of(w.shares, w.price) > u128::from(*limit),
-        RuleKind::Collar(limit) => is_outside_collar(*limit, figures.of(place).reference, w.price),
-        RuleKind::GrossShares(limit, _) => has_shares_above(&figures.of(place), w, *limit),
-        RuleKind::GrossValue(limit, _) => has_value_above(&figures.of(place), w, *limit),
-        RuleKind::NetShares(limit, _) => {
-            let told = figures.of(place);
-            let new = u128::from(new_open(w));
-            is_net_above(
-                told.net_done,
-                told.side_live,
-                new,
-                told.replaced_shares,
-                *limit,
-            )
-        }
-        RuleKind::Rate(rate, _) => rate.limit <= figures.of(place).recent,
-        RuleKind::Repeat(repeat, _) => w.is_new && repeat.limit <= figures.of(place).equal_recent,
-    }
+    let new = u128::from(new_open(w));
+    is_net_above(
+        told.net_done,
+        told.side_live,
+        new,
+        told.replaced_shares,
+        limit,
+    )
 }
 
 /// Whether the request is asked for an account in the scope.

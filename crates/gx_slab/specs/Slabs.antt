@@ -1,9 +1,10 @@
 -- Orders in the places that they were put in, seen as those that are live.
-use Rattle.std.specs.Prelude.{ℕ, ◌≡◌, ◌+◌, ◌*◌, ◌<◌, ◌≤◌, Bool, true, not, ◌&&◌, ◌==◌, nat_lt, List, length, map, Option, Some, if◌then◌else◌, slice_get}
+use Rattle.std.specs.Prelude.{ℕ, ◌≡◌, ◌+◌, ◌*◌, ◌<◌, ◌≤◌, Bool, true, ◌&&◌, ◌==◌, nat_lt, List, length, map, Option, Some, if◌then◌else◌, slice_get}
 use Rattle.std.specs.List.{filter, find, position_or_len}
 use Rattle.gx_units.specs.Names.{same_account}
 use Rattle.gx_units.specs.declared.names.AccountName.{AccountName}
 use Rattle.gx_history.specs.declared.live_order.LiveOrder.{LiveOrder}
+pub use Rattle.gx_history.specs.Live.{of_others}
 
 -- some shares may still be executed
 abbrev pub is_open : LiveOrder → Bool
@@ -24,10 +25,6 @@ order_numbered live number = find (has_number number) live
 -- the first that waits to be matched
 abbrev pub first_waiting : List LiveOrder → Option LiveOrder
 first_waiting live = find (λ (o : LiveOrder). o.waits) live
-
--- the orders of other accounts, in their places
-abbrev pub of_others : AccountName → List LiveOrder → List LiveOrder
-of_others account live = filter (λ (o : LiveOrder). not (same_account account o.account)) live
 
 -- the live orders with this one in the place of the one of its number, if that lives; it is gone where nothing of it is open
 abbrev pub written : LiveOrder → List LiveOrder → List LiveOrder

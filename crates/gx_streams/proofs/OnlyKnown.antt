@@ -1,8 +1,8 @@
 -- A legal history tells a user who neither trades nor gives commands of drop copies alone, and nothing to one whom the policy does not know.
 use Rattle.std.proofs.Common.{◌≡◌, ℕ, Bool, true, false, cond, List, [], ◌∷◌, ◌++◌, append_assoc, length, map, take, drop, not, refl, ◌∙◌, ap, sym, subst, inl, inr, ◌⊎◌}
-use Rattle.std.specs.Prelude.{Option, Some, None, filter, flat_map, find, option_and_then, option_map, option_to_list, ◌&&◌, ◌==◌}
+use Rattle.std.specs.Prelude.{Option, Some, None, filter, flat_map, find, option_and_then, option_map, option_to_list, ◌&&◌, ◌==◌, nat_lt}
 use Rattle.std.specs.Option.{option_map_or}
-use Rattle.std.specs.List.{AllByRecursion}
+use Rattle.std.specs.List.{AllByRecursion, cons_option, filter_map}
 use Rattle.std.proofs.lemmas.List.{append-nil}
 use Rattle.gx_units.specs.Names.{same_user}
 use Rattle.gx_units.specs.declared.names.UserName.{UserName}
@@ -36,21 +36,25 @@ use Rattle.gx_history.specs.declared.report.Message.{Message}
 use Rattle.gx_history.specs.declared.report.Message.TheVariants as messages
 use Rattle.gx_history.specs.declared.report.Report.{Report}
 use Rattle.gx_history.specs.Asking.{facts, fits_role}
-use Rattle.gx_history.specs.Executions.{Execution, Standing, executions, live_orders, is_live, side_of, sides, standing, standing_numbered, standings}
+use Rattle.gx_history.specs.declared.live_order.LiveOrder.{LiveOrder}
+use Rattle.gx_history.specs.Executions.{Execution, done, executions, side_of, sides}
+use Rattle.gx_history.specs.Live.{has_come, live, live_numbered, open_now, open_order}
+use Rattle.gx_history.specs.Book.{rested}
+use Rattle.gx_history.specs.LiveOrders.{shares_open}
 use Rattle.gx_history.specs.InForce.{grant_or_revoke_of, in_role, is_entitled, last_mark}
-use Rattle.gx_history.specs.Orders.{Order, ends_account, order_numbered, orders}
+use Rattle.gx_history.specs.Orders.{Order, ends_account, is_dead, order_numbered, orders, total}
 use Rattle.gx_policy.specs.People.{account_of, account_of_role, is_officer, is_reader, is_trader, role_in, user_in}
 use Rattle.gx_history.specs.Requests.{is_login}
 use Rattle.gx_policy.specs.RuleNames.{rules_before, rules_behind}
 use Rattle.gx_history.specs.Rules.{BuiltIn, OfFile, applies, first_forbidding, name_of, written_order}
-use Rattle.gx_history.specs.Streams.{answer, canceled, copies, copies_of, day_end, drop_copy, ended, executed_message, granted_code, reported, reports_of, reports_of_denial, reports_of_execution, reports_of_expiry, reports_of_grant, reports_of_verdict, stream, to_user}
+use Rattle.gx_history.specs.Streams.{answer, canceled_of, copies, copies_of, copy_of, day_end, ended_of, executed_message, expired_of, granted_code, reported, reports_of, reports_of_denial, reports_of_execution, reports_of_grant, reports_of_verdict, stream, to_user}
 use Rattle.gx_streams.specs.Sending.{is_fill}
 use Rattle.gx_history.specs.Verdicts.{Follows, IsLegal, facts_now, next, rules_now, verdict_by}
 use Rattle.gx_history_laws.proofs.Adding.{user_is}
 use Rattle.gx_history_laws.proofs.Granting.{legal_keeps, verdict_left}
 use Rattle.gx_history_laws.proofs.NextReports.{copies_next, copies_none, stream_next, stream_none}
 use Rattle.gx_history_laws.proofs.Numbers.{all_weaker}
-use Rattle.gx_history_laws.proofs.Owners.{IsHisAccounts, all_both, filtered, orders_are_their_users}
+use Rattle.gx_history_laws.proofs.Owners.{IsHisAccounts, all_both, orders_are_their_users}
 
 -- the user neither trades nor gives commands
 pub record IsNoParty (policy : PolicyData) (user : UserName) : Type 0 where
@@ -116,25 +120,33 @@ none_left p (x ∷ xs) h = ap (λ b. cond b (x ∷ filter p xs) (filter p xs)) h
 not_to : (receiver user : UserName) (ms : List Message) → same_user receiver user ≡ false → to_user receiver user ms ≡ []
 not_to receiver user ms h = ap (λ b. cond b ms []) h
 
--- the orders of standings
-abbrev IsNotHis : UserName → Standing → Type 0
-IsNotHis user s = IsApart user s.order
+-- the live ones
+abbrev IsNotHis : UserName → LiveOrder → Type 0
+IsNotHis user o = same_user o.user user ≡ false
 
-standings_apart : (policy : PolicyData) (history : List RecordData) (user : UserName) → IsNoParty policy user → AllByRecursion (IsNotHis user) (standings policy history)
-unfolding standings
-standings_apart policy history user h = all_mapped (IsNotHis user) (standing (executions policy history) history) (orders policy history) (all_apart policy history user h)
+live_apart : (policy : PolicyData) (history : List RecordData) (user : UserName) → IsNoParty policy user → AllByRecursion (IsNotHis user) (live policy history)
+unfolding live
+live_apart policy history user h = by (orders policy history) (all_apart policy history user h)
+  where
+    now : Order → Option LiveOrder
+    now = open_now (executions policy history) history
 
-live_apart : (policy : PolicyData) (history : List RecordData) (user : UserName) → IsNoParty policy user → AllByRecursion (IsNotHis user) (live_orders policy history)
-unfolding live_orders
-live_apart policy history user h = filtered (IsNotHis user) is_live (standings policy history) (standings_apart policy history user h)
+    one : (o : Order) (b : Bool) (x : LiveOrder) (rest : List LiveOrder) → IsNotHis user x → AllByRecursion (IsNotHis user) rest → AllByRecursion (IsNotHis user) (cons_option (cond b (Some x) None) rest)
+    one o true x rest his later = (his, later)
+    one o false x rest his later = later
+
+    by : (os : List Order) → AllByRecursion (IsApart user) os → AllByRecursion (IsNotHis user) (filter_map now os)
+    by [] his = tt
+    by (o ∷ os) his = one o (not (is_dead history o) && nat_lt (done (executions policy history) o) (total history o)) (open_order o (total history o) (done (executions policy history) o) (not (has_come (rested history) o.number)))
+        (filter_map now os) his.0 (by os his.1)
 
 -- no order of his ends by a command
-none_ended : (policy : PolicyData) (history : List RecordData) (action : Action) (user : UserName) → IsNoParty policy user → ended policy history action user ≡ []
+none_ended : (policy : PolicyData) (history : List RecordData) (action : Action) (user : UserName) → IsNoParty policy user → ended_of (live policy history) action user ≡ []
 none_ended policy history action user h =
-    ap (λ (xs : List Standing). flat_map (λ (s : Standing). canceled cancels.Supervisory s.open_shares s.order) xs)
-    (none_left (λ (s : Standing). same_user s.order.user user && ends_account s.order.account action) (live_orders policy history)
-    (all_weaker (IsNotHis user) (λ (s : Standing). (same_user s.order.user user && ends_account s.order.account action) ≡ false)
-    (λ s is. ap (λ b. b && ends_account s.order.account action) is) (live_orders policy history) (live_apart policy history user h)))
+    ap (λ (xs : List LiveOrder). flat_map (λ (o : LiveOrder). canceled_of cancels.Supervisory (shares_open o) o) xs)
+    (none_left (λ (o : LiveOrder). same_user o.user user && ends_account o.account action) (live policy history)
+    (all_weaker (IsNotHis user) (λ (o : LiveOrder). (same_user o.user user && ends_account o.account action) ≡ false)
+    (λ o is. ap (λ b. b && ends_account o.account action) is) (live policy history) (live_apart policy history user h)))
 
 -- the day's end is told to traders alone
 no_day_end : (policy : PolicyData) (action : Action) (user : UserName) → IsNoParty policy user → day_end policy action user ≡ []
@@ -289,14 +301,13 @@ fill_owes policy history r user f h =
     (all_both (IsNoSideOf user) (side_of known f liquidities.Removed f.taker) (side_of known f liquidities.Added f.maker)
     (side_apart known f liquidities.Removed f.taker user others) (side_apart known f liquidities.Added f.maker user others)))
 
-expiry_owes : (policy : PolicyData) (history : List RecordData) (user : UserName) (number : ℕ) → IsNoParty policy user
-    → flat_map (reports_of_expiry user) (option_to_list (standing_numbered (standings policy history) number)) ≡ []
+expiry_owes : (policy : PolicyData) (history : List RecordData) (user : UserName) (number : ℕ) → IsNoParty policy user → expired_of (live policy history) number user ≡ []
 expiry_owes policy history user number h =
-    let found : List Standing = option_to_list (standing_numbered (standings policy history) number) in
-    none_mapped (reports_of_expiry user) found
-    (all_weaker (IsNotHis user) (λ (s : Standing). reports_of_expiry user s ≡ [])
-    (λ s is. not_to s.order.user user (canceled cancels.ImmediateOrCancel s.open_shares s.order) is) found
-    (all_found (IsNotHis user) (λ (s : Standing). s.order.number == number) (standings policy history) (standings_apart policy history user h)))
+    let found : List LiveOrder = option_to_list (live_numbered (live policy history) number) in
+    let told : LiveOrder → List Message = λ (o : LiveOrder). to_user o.user user (canceled_of cancels.ImmediateOrCancel (shares_open o) o) in
+    none_mapped told found
+    (all_weaker (IsNotHis user) (λ (o : LiveOrder). told o ≡ []) (λ o is. not_to o.user user (canceled_of cancels.ImmediateOrCancel (shares_open o) o) is) found
+    (all_found (IsNotHis user) (λ (o : LiveOrder). o.number == number) (live policy history) (live_apart policy history user h)))
 
 verdict_owes : (policy : PolicyData) (history : List RecordData) (r : RecordData) (user : UserName) → Case policy history r user → (v : Verdict) (step : Step) → r.verdict ≡ v → r.step ≡ step
     → reports_of_verdict policy history r v step user ≡ []
@@ -356,7 +367,7 @@ none_of_each {X} {Y} f h (x ∷ xs) = ap (λ (ys : List Y). ys ++ flat_map f xs)
 pub no_copies : (policy : PolicyData) (history : List RecordData) (r : RecordData) (user : UserName) → is_reader (role_in policy.users user) ≡ false → copies_of policy user (history, r) ≡ []
 no_copies policy history r user h =
     ap (map (reported r))
-    (none_of_each (drop_copy policy history r user)
+    (none_of_each (copy_of (is_entitled policy history) r user)
     (λ e. ap (λ b. cond b (messages.DropCopy (record { executed = executed_message r e; account = e.order.account; side = e.order.terms.side }) ∷ []) []) (not_entitled policy history user e.order.account h))
     (sides policy history r.verdict))
 
@@ -379,7 +390,7 @@ no_sides policy history (verdicts.Rested number) h = refl
 no_sides policy history (verdicts.Expired number) h = refl
 
 pub none_sent : (policy : PolicyData) (history : List RecordData) (r : RecordData) (user : UserName) → is_fill r.verdict ≡ false → copies_of policy user (history, r) ≡ []
-none_sent policy history r user h = ap (λ (es : List Execution). map (reported r) (flat_map (drop_copy policy history r user) es)) (no_sides policy history r.verdict h)
+none_sent policy history r user h = ap (λ (es : List Execution). map (reported r) (flat_map (copy_of (is_entitled policy history) r user) es)) (no_sides policy history r.verdict h)
 
 pub fills_alone : (policy : PolicyData) (history : List RecordData) (r : RecordData) (reader : UserName) → is_fill r.verdict ≡ false → copies policy (history ++ r ∷ []) reader ≡ copies policy history reader
 fills_alone policy history r reader h =

@@ -11,63 +11,65 @@ use Rattle.gx_policy.specs.declared.policy.PolicyData.{PolicyData}
 use Rattle.gx_history.specs.declared.record.RecordData.{RecordData}
 use Rattle.gx_history.specs.declared.report.Message.{Message}
 use Rattle.gx_history.specs.declared.report.Report.{Report}
-use Rattle.gx_history.specs.Executions.{Standing, live_orders}
+use Rattle.gx_history.specs.declared.live_order.LiveOrder.{LiveOrder}
+use Rattle.gx_history.specs.LiveOrders.{shares_open}
+use Rattle.gx_history.specs.Live.{live}
 use Rattle.gx_history.specs.Orders.{ends_account}
-use Rattle.gx_history.specs.Streams.{canceled, ended, reported, stream, to_user}
+use Rattle.gx_history.specs.Streams.{canceled_of, ended_of, reported, stream, to_user}
 use Rattle.gx_streams.specs.Laws.{TellsAll, TellsNobody, TellsOne}
 use Rattle.gx_streams.specs.Telling.{owed_for, owed_for_ended, owed_message, owed_to}
 
 abbrev is_his : UserName → UserName × Report → Bool
 is_his user o = same_user o.0 user
 
-abbrev canceled_now : Standing → List Message
-canceled_now s = canceled cancels.Supervisory s.open_shares s.order
+abbrev canceled_now : LiveOrder → List Message
+canceled_now o = canceled_of cancels.Supervisory (shares_open o) o
 
-ended_of : (r : RecordData) (user : UserName) (ends : Standing → Bool) (live : List Standing)
-    → map (reported r) (flat_map canceled_now (filter (λ (s : Standing). same_user s.order.user user && ends s) live))
-    ≡ owed_to (map (owed_message r) (map owed_for (filter ends live))) user
-ended_of r user ends [] = refl
-ended_of r user ends (s ∷ live) = by (same_user s.order.user user) refl (ends s) (ended_of r user ends live)
+each_is_owed : (r : RecordData) (user : UserName) (ends : LiveOrder → Bool) (found : List LiveOrder)
+    → map (reported r) (flat_map canceled_now (filter (λ (o : LiveOrder). same_user o.user user && ends o) found))
+    ≡ owed_to (map (owed_message r) (map owed_for (filter ends found))) user
+each_is_owed r user ends [] = refl
+each_is_owed r user ends (o ∷ found) = by (same_user o.user user) refl (ends o) (each_is_owed r user ends found)
   where
-    his : List Standing
-    his = filter (λ (x : Standing). same_user x.order.user user && ends x) live
+    his : List LiveOrder
+    his = filter (λ (x : LiveOrder). same_user x.user user && ends x) found
 
     all : List (UserName × Report)
-    all = map (owed_message r) (map owed_for (filter ends live))
+    all = map (owed_message r) (map owed_for (filter ends found))
 
     first : UserName × Report
-    first = owed_message r (owed_for s)
+    first = owed_message r (owed_for o)
 
     kept : Bool → List (UserName × Report)
     kept a = cond a (first ∷ filter (is_his user) all) (filter (is_his user) all)
 
-    by : (a : Bool) → same_user s.order.user user ≡ a → (b : Bool) → map (reported r) (flat_map canceled_now his) ≡ owed_to all user
-        → map (reported r) (flat_map canceled_now (cond (same_user s.order.user user && b) (s ∷ his) his)) ≡ owed_to (map (owed_message r) (map owed_for (cond b (s ∷ filter ends live) (filter ends live)))) user
+    by : (a : Bool) → same_user o.user user ≡ a → (b : Bool) → map (reported r) (flat_map canceled_now his) ≡ owed_to all user
+        → map (reported r) (flat_map canceled_now (cond (same_user o.user user && b) (o ∷ his) his)) ≡ owed_to (map (owed_message r) (map owed_for (cond b (o ∷ filter ends found) (filter ends found)))) user
     by true is true later =
-        ap (λ a. map (reported r) (flat_map canceled_now (cond (a && true) (s ∷ his) his))) is
+        ap (λ a. map (reported r) (flat_map canceled_now (cond (a && true) (o ∷ his) his))) is
         ∙ ap (λ (rest : List Report). first.1 ∷ rest) later
         ∙ sym (ap (λ a. map (λ (o : UserName × Report). o.1) (kept a)) is)
-    by true is false later = ap (λ a. map (reported r) (flat_map canceled_now (cond (a && false) (s ∷ his) his))) is ∙ later
+    by true is false later = ap (λ a. map (reported r) (flat_map canceled_now (cond (a && false) (o ∷ his) his))) is ∙ later
     by false is true later =
-        ap (λ a. map (reported r) (flat_map canceled_now (cond (a && true) (s ∷ his) his))) is
+        ap (λ a. map (reported r) (flat_map canceled_now (cond (a && true) (o ∷ his) his))) is
         ∙ later
         ∙ sym (ap (λ a. map (λ (o : UserName × Report). o.1) (kept a)) is)
-    by false is false later = ap (λ a. map (reported r) (flat_map canceled_now (cond (a && false) (s ∷ his) his))) is ∙ later
+    by false is false later = ap (λ a. map (reported r) (flat_map canceled_now (cond (a && false) (o ∷ his) his))) is ∙ later
 
-pub ended_are_owed : (policy : PolicyData) (history : List RecordData) (r : RecordData) (action : Action) (user : UserName)
-    → map (reported r) (ended policy history action user) ≡ owed_to (map (owed_message r) (owed_for_ended policy history action)) user
-ended_are_owed policy history r action user = ended_of r user (λ (s : Standing). ends_account s.order.account action) (live_orders policy history)
+pub ended_are_owed : (found : List LiveOrder) (r : RecordData) (action : Action) (user : UserName)
+    → map (reported r) (ended_of found action user) ≡ owed_to (map (owed_message r) (owed_for_ended found action)) user
+ended_are_owed found r action user = each_is_owed r user (λ (o : LiveOrder). ends_account o.account action) found
 
-one_each : (r : RecordData) (xs : List Standing) → length (map (reported r) (flat_map canceled_now xs)) ≡ length xs
+one_each : (r : RecordData) (xs : List LiveOrder) → length (map (reported r) (flat_map canceled_now xs)) ≡ length xs
 one_each r [] = refl
-one_each r (s ∷ xs) = ap suc (one_each r xs)
+one_each r (o ∷ xs) = ap suc (one_each r xs)
 
-pub ended_are_counted : (policy : PolicyData) (history : List RecordData) (r : RecordData) (action : Action) (user : UserName)
-    → length (owed_to (map (owed_message r) (owed_for_ended policy history action)) user)
-    ≡ length (filter (λ (s : Standing). same_user s.order.user user && ends_account s.order.account action) (live_orders policy history))
-ended_are_counted policy history r action user =
-    ap length (sym (ended_are_owed policy history r action user))
-    ∙ one_each r (filter (λ (s : Standing). same_user s.order.user user && ends_account s.order.account action) (live_orders policy history))
+pub ended_are_counted : (found : List LiveOrder) (r : RecordData) (action : Action) (user : UserName)
+    → length (owed_to (map (owed_message r) (owed_for_ended found action)) user)
+    ≡ length (filter (λ (o : LiveOrder). same_user o.user user && ends_account o.account action) found)
+ended_are_counted found r action user =
+    ap length (sym (ended_are_owed found r action user))
+    ∙ one_each r (filter (λ (o : LiveOrder). same_user o.user user && ends_account o.account action) found)
 
 map_both : {X Y : Type 0} (f : X → Y) (xs ys : List X) → map f (xs ++ ys) ≡ map f xs ++ map f ys
 map_both f [] ys = refl
@@ -108,23 +110,23 @@ to_him r officer user answers = by (same_user officer user) refl
     by false is = ap (λ b. map (reported r) (cond b answers [])) is ∙ sym (answers_owed r officer user false is answers)
 
 pub answered_are_told : (policy : PolicyData) (before after : List RecordData) (r : RecordData) (action : Action) (officer : UserName) (answers : List Message)
-    → ((user : UserName) → stream policy after user ≡ stream policy before user ++ map (reported r) (ended policy before action user ++ to_user officer user answers))
-    → TellsAll policy before after r (owed_for_ended policy before action ++ map (λ (m : Message). (officer, m)) answers)
+    → ((user : UserName) → stream policy after user ≡ stream policy before user ++ map (reported r) (ended_of (live policy before) action user ++ to_user officer user answers))
+    → TellsAll policy before after r (owed_for_ended (live policy before) action ++ map (λ (m : Message). (officer, m)) answers)
 answered_are_told policy before after r action officer answers told user =
     told user
     ∙ ap (λ (rs : List Report). stream policy before user ++ rs)
-    (map_both (reported r) (ended policy before action user) (to_user officer user answers)
-    ∙ ap (λ (rs : List Report). rs ++ map (reported r) (to_user officer user answers)) (ended_are_owed policy before r action user)
-    ∙ ap (λ (rs : List Report). owed_to (map (owed_message r) (owed_for_ended policy before action)) user ++ rs) (to_him r officer user answers)
-    ∙ sym (owed_both user (map (owed_message r) (owed_for_ended policy before action)) (map (owed_message r) (map (addressed officer) answers)))
-    ∙ ap (λ (os : List (UserName × Report)). owed_to os user) (sym (map_both (owed_message r) (owed_for_ended policy before action) (map (addressed officer) answers))))
+    (map_both (reported r) (ended_of (live policy before) action user) (to_user officer user answers)
+    ∙ ap (λ (rs : List Report). rs ++ map (reported r) (to_user officer user answers)) (ended_are_owed (live policy before) r action user)
+    ∙ ap (λ (rs : List Report). owed_to (map (owed_message r) (owed_for_ended (live policy before) action)) user ++ rs) (to_him r officer user answers)
+    ∙ sym (owed_both user (map (owed_message r) (owed_for_ended (live policy before) action)) (map (owed_message r) (map (addressed officer) answers)))
+    ∙ ap (λ (os : List (UserName × Report)). owed_to os user) (sym (map_both (owed_message r) (owed_for_ended (live policy before) action) (map (addressed officer) answers))))
 
 pub ended_are_told : (policy : PolicyData) (before after : List RecordData) (r : RecordData) (action : Action) (officer : UserName)
-    → ((user : UserName) → stream policy after user ≡ stream policy before user ++ map (reported r) (ended policy before action user ++ to_user officer user []))
-    → TellsAll policy before after r (owed_for_ended policy before action)
+    → ((user : UserName) → stream policy after user ≡ stream policy before user ++ map (reported r) (ended_of (live policy before) action user ++ to_user officer user []))
+    → TellsAll policy before after r (owed_for_ended (live policy before) action)
 ended_are_told policy before after r action officer told user =
     answered_are_told policy before after r action officer [] told user
-    ∙ ap (λ (os : List (UserName × Message)). stream policy before user ++ owed_to (map (owed_message r) os) user) (append-nil (owed_for_ended policy before action))
+    ∙ ap (λ (os : List (UserName × Message)). stream policy before user ++ owed_to (map (owed_message r) os) user) (append-nil (owed_for_ended (live policy before) action))
 
 pub one_among_all : (policy : PolicyData) (before after : List RecordData) (r : RecordData) (receiver : UserName) (told : List Message)
     → TellsOne policy before after r receiver told → TellsAll policy before after r (map (λ (m : Message). (receiver, m)) told)

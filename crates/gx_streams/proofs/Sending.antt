@@ -24,7 +24,7 @@ use Rattle.gx_history.specs.Orders.{Order, order_numbered, orders}
 use Rattle.gx_history.specs.InForce.{is_entitled}
 use Rattle.gx_history.specs.Masks.{mask_by}
 use Rattle.gx_policy.specs.People.{is_reader, role_in}
-use Rattle.gx_history.specs.Streams.{copies_of, drop_copy, executed_message, reported, reports_of, reports_of_execution, reports_of_verdict}
+use Rattle.gx_history.specs.Streams.{copies_of, copy_of as drop_copy_of, executed_message, reported, reports_of, reports_of_execution, reports_of_verdict}
 use Rattle.gx_history_laws.proofs.Adding.{user_is}
 use Rattle.gx_history_laws.proofs.Masks.{has_where}
 use Rattle.gx_history_laws.proofs.NextReports.{stream_next}
@@ -78,8 +78,8 @@ unfolding one_if executed_to_him copy_for_him
 owed_by policy history r user f is =
     ap (λ (v : Verdict). map (reported r) (reports_of_verdict policy history r v r.step user) ++ copies_of policy user (history, r)) is.fills
     ∙ ap (λ (v : Verdict). map (reported r) (flat_map (reports_of_execution r user) (sides policy history v)) ++ copies_of policy user (history, r)) (sym is.fills)
-    ∙ ap (λ (es : List Execution). map (reported r) (flat_map (reports_of_execution r user) es) ++ map (reported r) (flat_map (drop_copy policy history r user) es)) is.sides_are
-    ∙ ap (λ (rs : List Report). rs ++ map (reported r) (flat_map (drop_copy policy history r user) (is.taker ∷ is.maker ∷ [])))
+    ∙ ap (λ (es : List Execution). map (reported r) (flat_map (reports_of_execution r user) es) ++ map (reported r) (flat_map (drop_copy_of (is_entitled policy history) r user) es)) is.sides_are
+    ∙ ap (λ (rs : List Report). rs ++ map (reported r) (flat_map (drop_copy_of (is_entitled policy history) r user) (is.taker ∷ is.maker ∷ [])))
     (two_reported r (same_user is.taker.order.user user) (same_user is.maker.order.user user) (executed_to_him r is.taker) (executed_to_him r is.maker))
     ∙ ap (λ (rs : List Report). (one_if (same_user is.taker.order.user user) (reported r (executed_to_him r is.taker)) ++ one_if (same_user is.maker.order.user user) (reported r (executed_to_him r is.maker))) ++ rs)
     (two_reported r (is_entitled policy history user is.taker.order.account) (is_entitled policy history user is.maker.order.account) (copy_for_him r is.taker) (copy_for_him r is.maker))

@@ -7,10 +7,11 @@ use Rattle.gx_policy.specs.declared.policy.PolicyData.{PolicyData}
 use Rattle.gx_history.specs.declared.record.RecordData.{RecordData}
 use Rattle.gx_history.specs.declared.report.Message.{Message}
 use Rattle.gx_history.specs.declared.report.Report.{Report}
-use Rattle.gx_history.specs.Executions.{Standing, live_orders}
+use Rattle.gx_history.specs.declared.live_order.LiveOrder.{LiveOrder}
+use Rattle.gx_history.specs.Live.{live}
 use Rattle.gx_history.specs.Orders.{ends_account}
 use Rattle.gx_policy.specs.People.{is_reader, role_in, user_in}
-use Rattle.gx_history.specs.Streams.{copies, ended, reported, reports_of, stream, to_user}
+use Rattle.gx_history.specs.Streams.{copies, ended_of, reported, reports_of, stream, to_user}
 use Rattle.gx_history.specs.Verdicts.{IsLegal}
 use Rattle.gx_streams.specs.Kept.{Kept, places_in, with_kept_last, with_last, with_places}
 use Rattle.gx_streams.specs.declared.fill.ToldFill.{ToldFill}
@@ -58,14 +59,14 @@ NobodyIsTold = (policy : PolicyData) (history : List RecordData) (r : RecordData
 
 -- what a command owes for the orders that it ends is owed to their users, in the order of the list
 abbrev pub EndedAreOwed : Type 0
-EndedAreOwed = (policy : PolicyData) (history : List RecordData) (r : RecordData) (action : Action) (user : UserName)
-    → map (reported r) (ended policy history action user) ≡ owed_to (map (owed_message r) (owed_for_ended policy history action)) user
+EndedAreOwed = (found : List LiveOrder) (r : RecordData) (action : Action) (user : UserName)
+    → map (reported r) (ended_of found action user) ≡ owed_to (map (owed_message r) (owed_for_ended found action)) user
 
 -- to each user as many messages as he has live orders that end
 abbrev pub EndedAreCounted : Type 0
-EndedAreCounted = (policy : PolicyData) (history : List RecordData) (r : RecordData) (action : Action) (user : UserName)
-    → length (owed_to (map (owed_message r) (owed_for_ended policy history action)) user)
-    ≡ length (filter (λ (s : Standing). same_user s.order.user user && ends_account s.order.account action) (live_orders policy history))
+EndedAreCounted = (found : List LiveOrder) (r : RecordData) (action : Action) (user : UserName)
+    → length (owed_to (map (owed_message r) (owed_for_ended found action)) user)
+    ≡ length (filter (λ (o : LiveOrder). same_user o.user user && ends_account o.account action) found)
 
 -- a report put last, in a place of its own, is shown last
 abbrev pub LastIsShown : Type 0
@@ -141,15 +142,15 @@ TwoAreAmongAll = (policy : PolicyData) (before after : List RecordData) (r : Rec
 abbrev pub EndedAreTold : Type 0
 EndedAreTold = (policy : PolicyData) (before after : List RecordData) (r : RecordData) (action : Action) (officer : UserName)
     → ((user : UserName)
-    → stream policy after user ≡ stream policy before user ++ map (reported r) (ended policy before action user ++ to_user officer user []))
-    → TellsAll policy before after r (owed_for_ended policy before action)
+    → stream policy after user ≡ stream policy before user ++ map (reported r) (ended_of (live policy before) action user ++ to_user officer user []))
+    → TellsAll policy before after r (owed_for_ended (live policy before) action)
 
 -- and one that is answered tells this first
 abbrev pub EndedAndAnswerAreTold : Type 0
 EndedAndAnswerAreTold = (policy : PolicyData) (before after : List RecordData) (r : RecordData) (action : Action) (officer : UserName) (answers : List Message)
     → ((user : UserName)
-    → stream policy after user ≡ stream policy before user ++ map (reported r) (ended policy before action user ++ to_user officer user answers))
-    → TellsAll policy before after r (owed_for_ended policy before action ++ map (λ (m : Message). (officer, m)) answers)
+    → stream policy after user ≡ stream policy before user ++ map (reported r) (ended_of (live policy before) action user ++ to_user officer user answers))
+    → TellsAll policy before after r (owed_for_ended (live policy before) action ++ map (λ (m : Message). (officer, m)) answers)
 
 -- where what is shown is what was told, and one message is told to one user: so it is once that is put in his kept place
 abbrev pub StaysToldByOne : Type 0

@@ -11,7 +11,8 @@ use Rattle.gx_history.specs.declared.record.RecordData.{RecordData}
 use Rattle.gx_history.specs.declared.report.Message.{Message}
 use Rattle.gx_history.specs.declared.report.Message.TheVariants as messages
 use Rattle.gx_history.specs.declared.report.Report.{Report}
-use Rattle.gx_history.specs.Executions.{Standing, live_orders}
+use Rattle.gx_history.specs.declared.live_order.LiveOrder.{LiveOrder}
+use Rattle.gx_history.specs.LiveOrders.{shares_open}
 use Rattle.gx_history.specs.Orders.{ends_account}
 use Rattle.gx_history.specs.Streams.{reported, stream}
 use Rattle.gx_streams.specs.Kept.{UserList, with_kept_last}
@@ -71,9 +72,9 @@ abbrev pub owed_message : RecordData → (UserName × Message) → UserName × R
 owed_message r o = (o.0, reported r o.1)
 
 -- Canceled, with the user who is told so
-abbrev pub owed_for : Standing → UserName × Message
-owed_for s = (s.order.user, messages.Order (outbounds.Canceled (record { token = s.order.token; decrement = s.open_shares; reason = cancels.Supervisory })))
+abbrev pub owed_for : LiveOrder → UserName × Message
+owed_for o = (o.user, messages.Order (outbounds.Canceled (record { token = o.token; decrement = shares_open o; reason = cancels.Supervisory })))
 
--- what a command owes for the live orders that it ends
-abbrev pub owed_for_ended : PolicyData → List RecordData → Action → List (UserName × Message)
-owed_for_ended policy earlier action = map owed_for (filter (λ (s : Standing). ends_account s.order.account action) (live_orders policy earlier))
+-- what a command owes for those of the live orders that it ends
+abbrev pub owed_for_ended : List LiveOrder → Action → List (UserName × Message)
+owed_for_ended found action = map owed_for (filter (λ (o : LiveOrder). ends_account o.account action) found)

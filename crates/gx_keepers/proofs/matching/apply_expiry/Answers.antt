@@ -1,7 +1,7 @@
 use Rattle.std.proofs.Common.{refl, ◌∙◌, ap}
 use Rattle.std.specs.Prelude.{ℕ, Some}
 use Rattle.gx_ouch.specs.declared.letters.CancelReason.TheVariants as cancels
-use Rattle.gx_keepers.specs.Messages.{canceled_message}
+use Rattle.gx_history.specs.Streams.{canceled_of}
 use Rattle.gx_keepers.proofs.Keepings.{known_told, known_told_but}
 use Rattle.gx_keepers.proofs.Matches.{end_goes_on, end_has_place, match_is_legal}
 use Rattle.gx_keepers.proofs.Rooms.{places_behind, telling_keeps_room}
@@ -16,7 +16,7 @@ pub returns-clause-after : goal.returns-clause-after
 returns-clause-after c =
     end_goes_on c.args.next.policy.now c.args.next.history.now.records c.args.next.first.now c.args.next.left.now c.args.keepers.now _ c.args.number c.canceled-message.result
     c.requires.takes c.requires.expires
-    (c.canceled-message.ensures ∙ ap (λ (n : ℕ). canceled_message c.args.next.first.now n cancels.ImmediateOrCancel) c.open.ensures)
+    (c.canceled-message.ensures ∙ ap (λ (n : ℕ). canceled_of cancels.ImmediateOrCancel n c.args.next.first.now) c.open.ensures)
     refl refl refl (λ i. record { live = c.end.ensures.live i; used = c.end.ensures.used i }) refl c.close.ensures.closed c.tell.ensures
 
 pub returns-clause-kept_after : goal.returns-clause-kept_after

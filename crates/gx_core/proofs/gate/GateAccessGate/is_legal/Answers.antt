@@ -1,5 +1,5 @@
 use Rattle.gx_exposure.proofs.Gross.{gross_shares_are_kept, gross_values_are_kept, net_shares_are_kept, none_asked_none_held, none_asked_none_on_side}
-use Rattle.gx_core.proofs.Matched.{never_crossed_now}
+use Rattle.gx_effects.proofs.NeverCrossed.{never_crossed}
 use Rattle.gx_core.proofs.gate.GateAccessGate.is_legal.Goals as goal
 
 pub returns : goal.returns
@@ -8,7 +8,7 @@ returns c =
     let records = c.self.inside.history.records in
     rw (← c.self.view_is) (record {
       legal = c.self.invariant.kept.legal;
-      uncrossed = never_crossed_now policy records c.self.invariant.kept.legal;
+      uncrossed = never_crossed policy records c.self.invariant.kept.legal;
       shares_within = gross_shares_are_kept policy records c.self.invariant.kept.legal;
       values_within = gross_values_are_kept policy records c.self.invariant.kept.legal;
       none_held = λ among. none_asked_none_held policy records among c.self.invariant.kept.legal;

@@ -5,6 +5,7 @@ use Rattle.gx_history.specs.declared.record.RecordData.{RecordData}
 use Rattle.gx_history.specs.declared.record.Step.TheVariants as steps
 use Rattle.gx_history.specs.Matched.{AreUncrossed}
 use Rattle.gx_history.specs.Settling.{most_matches}
+use Rattle.gx_effects.proofs.NeverCrossed.{never_crossed}
 use Rattle.gx_effects.proofs.Orderly.{legal_is_orderly}
 use Rattle.gx_effects.proofs.Settling.{match_leaves_fewer}
 use Rattle.gx_answers.specs.Gates.{GateData, matched_by}
@@ -16,7 +17,7 @@ use Rattle.gx_effects.proofs.World.{world_next}
 use Rattle.gx_answers.specs.Matches.{matches_left, matching_of, next_match, settled_gate}
 use Rattle.gx_core.specs.Known.{first_of}
 use Rattle.gx_core.proofs.Keeping.{AreCarried, as_before, keep_still, keep_within, takes_match, told_then}
-use Rattle.gx_core.proofs.Matched.{first_is_known, never_crossed_now, nothing_is_met, nothing_is_next, settles_on}
+use Rattle.gx_core.proofs.Matched.{first_is_known, nothing_is_met, nothing_is_next, settles_on}
 use Rattle.gx_core.proofs.gate.GateAccessGate.match_one.Goals as goal
 
 pub returns-in_default-clause-next : goal.returns-in_default-clause-next
@@ -37,7 +38,7 @@ returns-in_default-clause-full c = λ waits full.
 pub returns-in_default-clause-uncrossed : goal.returns-in_default-clause-uncrossed
 returns-in_default-clause-uncrossed c =
     subst (λ (g : GateData). AreUncrossed g.policy g.records) c.self.view_is
-    (never_crossed_now c.self.inside.policy c.self.inside.history.records c.self.invariant.kept.legal)
+    (never_crossed c.self.inside.policy c.self.inside.history.records c.self.invariant.kept.legal)
 
 pub returns-clause-effect : goal.returns-clause-effect
 returns-clause-effect c =
@@ -115,7 +116,7 @@ invariant_of-self-in_err-carry_match c =
     (record { in_force = c.in_err-carry_match.ensures.err; told = c.in_err-carry_match.ensures.kept_before }))
 
 pub returns-clause-uncrossed : goal.returns-clause-uncrossed
-returns-clause-uncrossed c = never_crossed_now c.self.inside.policy c.push_reserved.new.self.records (invariant_of-self-2 c).kept.legal
+returns-clause-uncrossed c = never_crossed c.self.inside.policy c.push_reserved.new.self.records (invariant_of-self-2 c).kept.legal
 
 pub returns-in_err-carry_match-clause-full : goal.returns-in_err-carry_match-clause-full
 returns-in_err-carry_match-clause-full c = λ waits full.

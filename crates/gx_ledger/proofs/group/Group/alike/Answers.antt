@@ -14,4 +14,4 @@ returns-in-None c =
 pub returns-in-Some : goal.returns-in-Some
 returns-in-Some c =
     let counted : Option Entered → ℕ = λ asked. option_map_or (λ (e : Entered). count_by (are_alike e) c.args.self.now.enters.items) asked 0 in
-    c.alike_in_ring.ensures ∙ sym (asked_alike c.args.self.now.enters.items c.args.request.now ∙ ap counted (sym c.asked_as.ensures ∙ c.in-Some.is))
+    c.alike.ensures ∙ sym (asked_alike c.args.self.now.enters.items c.args.request.now ∙ ap counted (sym c.asked_as.ensures ∙ c.in-Some.is))

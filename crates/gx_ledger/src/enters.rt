@@ -1,0 +1,149 @@
+//! The last granted Enters, and how many of them are alike.
+
+ghost use Rattle.std.specs.Prelude.{◌≡◌, ◌∷◌, ◌++◌, ◌<◌, List, [], IfOk, IsTrue};
+ghost use Rattle.std.specs.Prelude.{count_by, length};
+ghost use Rattle.circular_buffer.specs.Buffer.{buffer};
+ghost use Rattle.gx_ledger.specs.Cells.{AreCounted, cell_of, one_less, spread};
+ghost use Rattle.gx_ledger.specs.Running.{are_alike, pushed};
+ghost use Rattle.gx_ledger.specs.declared.group.Entered.{Entered};
+
+use crate::alike::alike_among;
+use crate::group::Entered;
+use circular_buffer::HeapCircularBuffer;
+use gx_units::OutOfMemory;
+use std::alloc::Global;
+use std::marker::Model;
+
+/// The last granted Enters, as many as there is room for.
+///
+/// They are counted by cells, so that the ring is looked at only where a like one may be in it.
+#[derive(Drop)]
+pub struct Enters {
+    ring: HeapCircularBuffer<Entered>,
+    /// Eight for each Enter that there is room for, so that few unlike ones share a cell.
+    cells: Vec<u8>,
+}
+
+impl Model for Enters {
+    ghost use Rattle.std.specs.Prelude.{◌≡◌, ◌*◌, length};
+    ghost use Rattle.circular_buffer.specs.Buffer.{Buffer};
+    ghost use Rattle.gx_ledger.specs.Cells.{AreCounted};
+    ghost use Rattle.gx_ledger.specs.declared.group.Entered.{Entered};
+
+    ghost Value = { Buffer Entered };
+
+    ghost view = { λ enters. enters.ring };
+
+    ghost invariant = { λ enters.
+        (length enters.cells.items ≡ enters.ring.capacity * 8)
+        × AreCounted enters.cells.items enters.ring.items };
+}
+
+/// All that like Enters have in common, spread over the numbers of 64 bits.
+fn spread(entered: &Entered) -> u64
+    ensures { result ≡ spread entered.now }
+{
+    let terms = u64::from(entered.price) * 0x1_0000_0000 + u64::from(entered.shares);
+    let named = u64::from_le_bytes(entered.stock.bytes).wrapping_add(u64::from(entered.side));
+    terms
+        .wrapping_mul(0x9E37_79B9_7F4A_7C15)
+        .wrapping_add(named.wrapping_mul(0xC2B2_AE3D_27D4_EB4F))
+}
+
+/// Which of so many cells the Enter falls into.
+fn cell_of(cells: usize, entered: &Entered) -> usize
+    ensures is { result ≡ cell_of cells entered.now }
+    ensures within { 0 < cells → result < cells }
+{
+    let product = u128::from(spread(entered)) * cells as u128;
+    (product / 0x1_0000_0000_0000_0000) as usize
+}
+
+/// Counts one more Enter.
+fn count_up(cells: &mut Vec<u8>, entered: &Entered)
+    ensures len { length cells.new.items ≡ length cells.old.items }
+    ensures counted { (enters : List Entered) → AreCounted cells.old.items enters
+        → AreCounted cells.new.items (enters ++ entered.now ∷ []) }
+{
+    let cell = cell_of(cells.len(), entered);
+    if cell < cells.len() {
+        cells[cell] = cells[cell].saturating_add(1);
+    }
+}
+
+/// What a cell holds once an Enter has left it. One that came to 255 is not known to hold fewer.
+fn one_less(count: u8) -> u8
+    ensures { result ≡ one_less count }
+{
+    if count == u8::MAX {
+        u8::MAX
+    } else {
+        count.saturating_sub(1)
+    }
+}
+
+/// Counts the first of the Enters no more.
+fn count_down(cells: &mut Vec<u8>, gone: &Entered)
+    ensures len { length cells.new.items ≡ length cells.old.items }
+    ensures counted { (enters : List Entered) → AreCounted cells.old.items (gone.now ∷ enters)
+        → AreCounted cells.new.items enters }
+{
+    let cell = cell_of(cells.len(), gone);
+    if cell < cells.len() {
+        cells[cell] = one_less(cells[cell]);
+    }
+}
+
+/// Whether none of the Enters that are counted falls into the cell of this one.
+fn is_alone(cells: &[u8], asked: &Entered) -> bool
+    ensures { IsTrue result → (enters : List Entered) → AreCounted cells.now enters
+        → count_by (are_alike asked.now) enters ≡ 0 }
+{
+    let cell = cell_of(cells.len(), asked);
+    cell < cells.len() && cells[cell] == 0
+}
+
+/// How many of the Enters are such as this one.
+fn alike_in_ring(enters: &HeapCircularBuffer<Entered>, asked: &Entered) -> u64
+    ensures { result ≡ count_by (are_alike asked.now) enters.now.items }
+{
+    let _len = enters.len();
+    let (older, newer) = enters.as_slices();
+    (alike_among(older, asked) + alike_among(newer, asked)) as u64
+}
+
+impl Enters {
+    pub fn with_room(alloc: Global, room: usize) -> Result<Enters, OutOfMemory>
+        ensures { IfOk result (λ enters. enters ≡ buffer [] room) }
+    {
+        let Some(count) = room.checked_mul(8) else {
+            return Err(OutOfMemory);
+        };
+        let ring = HeapCircularBuffer::with_capacity(alloc, room)?;
+        let cells = vec![in alloc; 0; count]?;
+        Ok(Enters { ring, cells })
+    }
+
+    /// Keeps the Enter in place of the oldest where there is no room for more.
+    pub fn push(&mut self, entered: Entered)
+        ensures { self.new ≡ pushed entered self.old }
+    {
+        if self.ring.capacity() == 0 {
+            return;
+        }
+        count_up(&mut self.cells, &entered);
+        if let Some(gone) = self.ring.push_back(entered) {
+            count_down(&mut self.cells, &gone);
+        }
+    }
+
+    /// How many of the Enters are such as this one.
+    pub fn alike(&self, asked: &Entered) -> u64
+        ensures { result ≡ count_by (are_alike asked.now) self.now.items }
+    {
+        if is_alone(&self.cells, asked) {
+            return 0;
+        }
+        alike_in_ring(&self.ring, asked)
+    }
+}
