@@ -21,6 +21,7 @@ use Rattle.gx_book.specs.Books.{StockOrders}
 use Rattle.gx_market.proofs.Crossing.{matching_is_met}
 use Rattle.gx_market.specs.Meeting.{best_against, match_record, met, next_met}
 use Rattle.gx_history.specs.declared.live_order.LiveOrder.{LiveOrder}
+use Rattle.gx_history.specs.Live.{live}
 use Rattle.gx_orders.specs.InForce.{orders_in_force}
 use Rattle.gx_orders.specs.LiveOrders.{OrdersData, first_waiting}
 use Rattle.gx_keepers.specs.declared.keepers.Keepers.{Keepers}
@@ -53,7 +54,7 @@ first_is_met policy history k first kept waits =
 
 -- the first that waits is the one that is kept
 pub first_is_known : (policy : PolicyData) (history : List RecordData) (k : Keepers) → IsKept policy history k
-    → first_waiting k.orders.live ≡ first_waiting (orders_in_force policy history).live
+    → first_waiting k.orders.live ≡ first_waiting (live policy history)
 first_is_known policy history k kept = ap (λ (orders : OrdersData). first_waiting orders.live) kept.in_force.orders
 
 -- the record that a matching step leaves, by its parts

@@ -1,9 +1,9 @@
 -- What the world is after a record of each kind.
-use Rattle.std.proofs.Common.{◌≡◌, ℕ, ◌+◌, Bool, true, false, not, List, [], ◌∷◌, ◌++◌, refl, ◌∙◌, ap, sym, cond}
+use Rattle.std.proofs.Common.{◌≡◌, ℕ, ◌+◌, Bool, true, false, List, [], ◌∷◌, ◌++◌, refl, ◌∙◌, ap, sym, cond}
 use Rattle.std.proofs.Math.Path.{subst}
 use Rattle.std.specs.Prelude.{Option, Some, None, ◌||◌, ◌&&◌}
 use Rattle.std.specs.Option.{option_map_or}
-use Rattle.std.specs.List.{cons_option, filter_map}
+use Rattle.std.specs.List.{filter_map}
 use Rattle.std.proofs.lemmas.List.{append-nil}
 use Rattle.gx_units.specs.declared.names.AccountName.{AccountName}
 use Rattle.gx_units.specs.declared.names.Token.{Token}
@@ -40,7 +40,7 @@ use Rattle.gx_effects.proofs.NamedOrders.{Names, names_live}
 use Rattle.gx_effects.proofs.OrderRequests.{Grants, IsQuiet, adds_by, it_grants, login_is_quiet, logout_is_quiet, quiet_adds_nothing, quiet_ends_none}
 use Rattle.gx_effects.proofs.Replacing.{more_than_done}
 use Rattle.gx_effects.proofs.Ungranted.{match_grants_nothing, none_added}
-use Rattle.gx_effects.proofs.World.{all_stay, quiet_next, world_next}
+use Rattle.gx_effects.proofs.World.{all_stay, quiet_next, those_go, world_next}
 
 -- the world that a record makes of what its move makes
 abbrev after : World → RecordData → List Order → List Execution → World → World
@@ -184,15 +184,7 @@ replaces_come_last policy history a r m legal left asks granted =
 
 -- what an action ends, and what it leaves
 others_stay : (account : AccountName) (os : List LiveOrder) → filter_map (becomes (turns.EndsAll (actions.Kill account))) os ≡ of_others account os
-others_stay account [] = refl
-others_stay account (o ∷ os) = at (same_account account o.account) (others_stay account os)
-  where
-    rest : List LiveOrder
-    rest = filter_map (becomes (turns.EndsAll (actions.Kill account))) os
-
-    at : (b : Bool) → rest ≡ of_others account os → cons_option (cond b None (Some o)) rest ≡ cond (not b) (o ∷ of_others account os) (of_others account os)
-    at true deeper = deeper
-    at false deeper = ap (λ (found : List LiveOrder). o ∷ found) deeper
+others_stay account os = those_go (λ (o : LiveOrder). same_account account o.account) os
 
 none_stay : (os : List LiveOrder) → filter_map (becomes (turns.EndsAll actions.CloseDay)) os ≡ []
 none_stay [] = refl

@@ -1,9 +1,9 @@
 -- One more record moves the world by what it does.
 use Rattle.std.proofs.Common.{◌≡◌, ℕ, ◌-◌, Bool, true, false, List, [], ◌∷◌, ◌++◌, refl, ◌∙◌, ap, sym, cond, map, fold}
 use Rattle.std.proofs.Math.Path.{subst}
-use Rattle.std.specs.Prelude.{Option, Some, None, ◌&&◌, is_some, option_to_list}
+use Rattle.std.specs.Prelude.{Option, Some, None, not, ◌&&◌, is_some, option_to_list}
 use Rattle.std.specs.Option.{option_map_or}
-use Rattle.std.specs.List.{filter, filter_map, flat_map}
+use Rattle.std.specs.List.{cons_option, filter, filter_map, flat_map}
 use Rattle.std.proofs.lemmas.List.{append-nil, length_push, map-append}
 use Rattle.std.proofs.lemmas.List.Sums.{fold_push}
 use Rattle.gx_units.specs.declared.names.AccountName.{AccountName}
@@ -58,6 +58,15 @@ use Rattle.gx_effects.proofs.Sides.{side_next, waiting_next}
 pub all_stay : (os : List LiveOrder) → filter_map (λ (o : LiveOrder). Some o) os ≡ os
 all_stay [] = refl
 all_stay (o ∷ os) = ap (λ (more : List LiveOrder). o ∷ more) (all_stay os)
+
+-- those that go leave the others in their places
+pub those_go : (goes : LiveOrder → Bool) (os : List LiveOrder) → filter_map (λ (o : LiveOrder). cond (goes o) None (Some o)) os ≡ filter (λ (o : LiveOrder). not (goes o)) os
+those_go goes [] = refl
+those_go goes (o ∷ os) = ap (cons_option (cond (goes o) None (Some o))) (those_go goes os) ∙ at (goes o)
+  where
+    at : (b : Bool) → cons_option (cond b None (Some o)) (filter (λ (o : LiveOrder). not (goes o)) os) ≡ cond (not b) (o ∷ filter (λ (o : LiveOrder). not (goes o)) os) (filter (λ (o : LiveOrder). not (goes o)) os)
+    at true = refl
+    at false = refl
 
 stay : (os : List LiveOrder) → filter_map (λ (o : LiveOrder). Some o) os ++ [] ≡ os
 stay os = append-nil _ ∙ all_stay os

@@ -82,36 +82,36 @@ module _ (laws : GoOn) (policy : PolicyData) (chosen : AccountName → OrderTerm
       (sym (ap (λ (os : List Order). length (filter (is_such chosen) os)) (orders_next policy history r)) ∙ same)
       (turn_after policy history r) (laws.may_come policy history r.step r legal follows.is_next)
 
-  no_more_by_record : (history : List RecordData) (r : RecordData) → IsLegal policy history → Follows policy (history, r) → granted_to policy chosen (history ++ r ∷ []) ≤ granted_to policy chosen history
-      → shares_of_chosen policy (history ++ r ∷ []) chosen ≤ shares_of_chosen policy history chosen
-  no_more_by_record history r legal follows few =
-      let fall = no_more_shares policy (positions policy history) (granted_after policy history r) (laws.are_sound policy history legal).numbers_differ chosen (turn_after policy history r)
-      (laws.may_come policy history r.step r legal follows.is_next) (none_added history r legal follows few) in
-      let after = ap (λ (p : Positions). shares_held p chosen) (laws.go_on policy history r.step r legal follows.is_next) in
-      omega (arith, fall, after)
+  -- what each later record that grants none keeps is kept where no order is granted after these
+  while_none : (earlier : List RecordData) (Keeps : List RecordData → Type 0)
+      → ((history : List RecordData) (r : RecordData) → IsLegal policy history → Follows policy (history, r) → granted_to policy chosen (history ++ r ∷ []) ≤ granted_to policy chosen history → Keeps history → Keeps (history ++ r ∷ []))
+      → (later : List RecordData) → IsLegal policy (earlier ++ later) → granted_to policy chosen (earlier ++ later) ≤ granted_to policy chosen earlier → Keeps earlier → Keeps (earlier ++ later)
+  while_none earlier Keeps step later legal few kept = (kept_to_the_end policy Grown one_more earlier later legal (omega arith, λ _. kept)).1 few
+    where
+      Grown : List RecordData → Type 0
+      Grown history = (granted_to policy chosen earlier ≤ granted_to policy chosen history) × (granted_to policy chosen history ≤ granted_to policy chosen earlier → Keeps history)
+
+      one_more : (history : List RecordData) (r : RecordData) → IsLegal policy history → Follows policy (history, r) → Grown history → Grown (history ++ r ∷ [])
+      one_more history r legal follows so_far =
+          let grow = grants_grow policy chosen history r in
+          let before = so_far.0 in (
+            omega (arith, grow, before),
+            λ few. step history r legal follows (omega (arith, few, before)) (so_far.1 (omega (arith, few, grow))),
+          )
 
   -- no order is granted after these, so no more shares
-  abbrev KeepsTheShares : List RecordData → List RecordData → Type 0
-  KeepsTheShares earlier history = (granted_to policy chosen earlier ≤ granted_to policy chosen history)
-      × (granted_to policy chosen history ≤ granted_to policy chosen earlier → shares_of_chosen policy history chosen ≤ shares_of_chosen policy earlier chosen)
-
   pub no_more_shares_after : (earlier later : List RecordData) → IsLegal policy (earlier ++ later) → granted_to policy chosen (earlier ++ later) ≤ granted_to policy chosen earlier
       → shares_of_chosen policy (earlier ++ later) chosen ≤ shares_of_chosen policy earlier chosen
   no_more_shares_after earlier later legal few =
-      (kept_to_the_end policy (KeepsTheShares earlier) one_more earlier later legal (omega arith, λ _. omega arith)).1 few
+      while_none earlier (λ history. shares_of_chosen policy history chosen ≤ shares_of_chosen policy earlier chosen) one_more later legal few (omega arith)
     where
-      one_more : (history : List RecordData) (r : RecordData) → IsLegal policy history → Follows policy (history, r) → KeepsTheShares earlier history → KeepsTheShares earlier (history ++ r ∷ [])
-      one_more history r legal follows kept =
-          let grow = grants_grow policy chosen history r in
-          let before = kept.0 in (
-            omega (arith, grow, before),
-            λ few.
-                let few_before : granted_to policy chosen history ≤ granted_to policy chosen earlier = omega (arith, few, grow) in
-                let few_now : granted_to policy chosen (history ++ r ∷ []) ≤ granted_to policy chosen history = omega (arith, few, before) in
-                let less = no_more_by_record history r legal follows few_now in
-                let so_far = kept.1 few_before in
-                omega (arith, less, so_far),
-          )
+      one_more : (history : List RecordData) (r : RecordData) → IsLegal policy history → Follows policy (history, r) → granted_to policy chosen (history ++ r ∷ []) ≤ granted_to policy chosen history
+          → shares_of_chosen policy history chosen ≤ shares_of_chosen policy earlier chosen → shares_of_chosen policy (history ++ r ∷ []) chosen ≤ shares_of_chosen policy earlier chosen
+      one_more history r legal follows few so_far =
+          let fall = no_more_shares policy (positions policy history) (granted_after policy history r) (laws.are_sound policy history legal).numbers_differ chosen (turn_after policy history r)
+          (laws.may_come policy history r.step r legal follows.is_next) (none_added history r legal follows few) in
+          let after = ap (λ (p : Positions). shares_held p chosen) (laws.go_on policy history r.step r legal follows.is_next) in
+          omega (arith, fall, after, so_far)
 
   executions_stay : (earlier later : List RecordData) → IsLegal policy (earlier ++ later) → IsFront (executions policy earlier) (executions policy (earlier ++ later))
   executions_stay earlier later legal =
@@ -130,41 +130,24 @@ module _ (laws : GoOn) (policy : PolicyData) (chosen : AccountName → OrderTerm
       omega (arith, parts)
 
 module _ (laws : GoOn) (policy : PolicyData) (among : AccountName → Bool) where
-  no_more_value_by_record : (history : List RecordData) (r : RecordData) → IsLegal policy history → Follows policy (history, r) → granted_to policy (of_accounts among) (history ++ r ∷ []) ≤ granted_to policy (of_accounts among) history
-      → gross_value policy (history ++ r ∷ []) among + gained (executions policy history) among ≤ gross_value policy history among + gained (executions policy (history ++ r ∷ [])) among
-  no_more_value_by_record history r legal follows few =
-      let goes = laws.go_on policy history r.step r legal follows.is_next in
-      let made = ap (λ (p : Positions). p.executions) goes in
-      let worth : AreWorth (executions policy (history ++ r ∷ [])) = executions_are_worth policy (history ++ r ∷ []) (legal_next policy history r legal follows) in
-      let fall = no_more_value policy (positions policy history) (granted_after policy history r) (laws.are_sound policy history legal).numbers_differ among (turn_after policy history r)
-      (laws.may_come policy history r.step r legal follows.is_next) (none_added laws policy (of_accounts among) history r legal follows few) (subst AreWorth made worth) in
-      let after = ap (λ (p : Positions). value_held p among) goes in
-      let same = ap (λ (es : List Execution). gained es among) made in
-      omega (arith, fall, after, same)
+  -- what is held is worth no more than it was, but for the gain
+  abbrev IsWorthNoMore : List RecordData → List RecordData → Type 0
+  IsWorthNoMore earlier history = gross_value policy history among + gained (executions policy earlier) among ≤ gross_value policy earlier among + gained (executions policy history) among
 
-  -- and no more value, but for the gain
-  abbrev KeepsTheValue : List RecordData → List RecordData → Type 0
-  KeepsTheValue earlier history = (granted_to policy (of_accounts among) earlier ≤ granted_to policy (of_accounts among) history)
-      × (granted_to policy (of_accounts among) history ≤ granted_to policy (of_accounts among) earlier
-      → gross_value policy history among + gained (executions policy earlier) among ≤ gross_value policy earlier among + gained (executions policy history) among)
-
-  value_after : (earlier later : List RecordData) → IsLegal policy (earlier ++ later) → granted_to policy (of_accounts among) (earlier ++ later) ≤ granted_to policy (of_accounts among) earlier
-      → gross_value policy (earlier ++ later) among + gained (executions policy earlier) among ≤ gross_value policy earlier among + gained (executions policy (earlier ++ later)) among
-  value_after earlier later legal few =
-      (kept_to_the_end policy (KeepsTheValue earlier) one_more earlier later legal (omega arith, λ _. omega arith)).1 few
+  value_after : (earlier later : List RecordData) → IsLegal policy (earlier ++ later) → granted_to policy (of_accounts among) (earlier ++ later) ≤ granted_to policy (of_accounts among) earlier → IsWorthNoMore earlier (earlier ++ later)
+  value_after earlier later legal few = while_none laws policy (of_accounts among) earlier (IsWorthNoMore earlier) one_more later legal few (omega arith)
     where
-      one_more : (history : List RecordData) (r : RecordData) → IsLegal policy history → Follows policy (history, r) → KeepsTheValue earlier history → KeepsTheValue earlier (history ++ r ∷ [])
-      one_more history r legal follows kept =
-          let grow = grants_grow policy (of_accounts among) history r in
-          let before = kept.0 in (
-            omega (arith, grow, before),
-            λ few.
-                let few_before : granted_to policy (of_accounts among) history ≤ granted_to policy (of_accounts among) earlier = omega (arith, few, grow) in
-                let few_now : granted_to policy (of_accounts among) (history ++ r ∷ []) ≤ granted_to policy (of_accounts among) history = omega (arith, few, before) in
-                let less = no_more_value_by_record history r legal follows few_now in
-                let so_far = kept.1 few_before in
-                omega (arith, less, so_far),
-          )
+      one_more : (history : List RecordData) (r : RecordData) → IsLegal policy history → Follows policy (history, r) → granted_to policy (of_accounts among) (history ++ r ∷ []) ≤ granted_to policy (of_accounts among) history
+          → IsWorthNoMore earlier history → IsWorthNoMore earlier (history ++ r ∷ [])
+      one_more history r legal follows few so_far =
+          let goes = laws.go_on policy history r.step r legal follows.is_next in
+          let made = ap (λ (p : Positions). p.executions) goes in
+          let worth : AreWorth (executions policy (history ++ r ∷ [])) = executions_are_worth policy (history ++ r ∷ []) (legal_next policy history r legal follows) in
+          let fall = no_more_value policy (positions policy history) (granted_after policy history r) (laws.are_sound policy history legal).numbers_differ among (turn_after policy history r)
+          (laws.may_come policy history r.step r legal follows.is_next) (none_added laws policy (of_accounts among) history r legal follows few) (subst AreWorth made worth) in
+          let after = ap (λ (p : Positions). value_held p among) goes in
+          let same = ap (λ (es : List Execution). gained es among) made in
+          omega (arith, fall, after, same, so_far)
 
   -- no order is granted after these, so no more value, but for what sells gained since
   pub no_more_value_after : (earlier later : List RecordData) → IsLegal policy (earlier ++ later) → granted_to policy (of_accounts among) (earlier ++ later) ≤ granted_to policy (of_accounts among) earlier

@@ -1,7 +1,7 @@
 -- A rule on gross shares, gross value or net shares that was in force at the last grant of some accounts keeps its limit.
 use Rattle.std.proofs.Common.{◌≡◌, ℕ, ◌+◌, ◌-◌, ◌≤◌, pos, ◌+ℤ◌, ◌-ℤ◌, int_lt, Bool, true, false, cond, not, List, [], ◌∷◌, ◌++◌, length, refl, sym, ap, ◌∙◌, arith, append_assoc}
 use Rattle.std.proofs.Math.Path.{subst}
-use Rattle.std.specs.Prelude.{Option, Some, ◌&&◌, ◌||◌}
+use Rattle.std.specs.Prelude.{Option, Some, ◌&&◌}
 use Rattle.std.specs.Option.{option_map_or}
 use Rattle.std.specs.List.{AllByRecursion, list_any}
 use Rattle.std.proofs.lemmas.Bool.{ltb-false}
@@ -39,7 +39,7 @@ use Rattle.gx_history.specs.Orders.{Order}
 use Rattle.gx_policy.specs.People.{covers}
 use Rattle.gx_history.specs.Rules.{kind_forbids, new_open, of_proposed, rule_forbids}
 use Rattle.gx_history.specs.Verdicts.{Follows, IsLegal, facts_now, figures_asked, next, rules_now, with_figures}
-use Rattle.gx_history_laws.proofs.Granting.{granted_passes, none_of_file}
+use Rattle.gx_history_laws.proofs.Granting.{granted_passes, left_false, none_of_file, right_false}
 use Rattle.gx_history_laws.proofs.Judging.{both}
 use Rattle.gx_history_laws.proofs.Names.{account_is, stock_is}
 use Rattle.gx_history_laws.proofs.NextReports.{legal_before}
@@ -56,16 +56,12 @@ abbrev Passes : PolicyData → List RecordData → Asked → FileRule → Type 0
 Passes policy before a rule =
     rule_forbids (facts_now policy before a) a.request rule (figures_asked policy (positions policy before) a.request (facts_now policy before a) rule) ≡ false
 
-none_first : (b c : Bool) → (b || c) ≡ false → (b ≡ false) × (c ≡ false)
-none_first true c h = cc
-none_first false c h = (refl, h)
-
 all_pass : (forbids : FileRule → RuleFigures → Bool) (asked_of : FileRule → RuleFigures) (rules : List FileRule) → list_any (λ (r : FileRule × RuleFigures). forbids r.0 r.1) (with_figures asked_of rules) ≡ false
     → AllByRecursion (λ (rule : FileRule). forbids rule (asked_of rule) ≡ false) rules
 all_pass forbids asked_of [] h = tt
 all_pass forbids asked_of (rule ∷ rules) h =
-    let parts = none_first (forbids rule (asked_of rule)) (list_any (λ (r : FileRule × RuleFigures). forbids r.0 r.1) (with_figures asked_of rules)) h in
-    (parts.0, all_pass forbids asked_of rules parts.1)
+    let others : Bool = list_any (λ (r : FileRule × RuleFigures). forbids r.0 r.1) (with_figures asked_of rules) in
+    (left_false (forbids rule (asked_of rule)) others h, all_pass forbids asked_of rules (right_false (forbids rule (asked_of rule)) others h))
 
 -- each rule in force passes a granted request
 rules_pass : (policy : PolicyData) (before : List RecordData) (a : Asked) (r : RecordData) → next policy before (steps.Asked a) ≡ Some r → r.verdict ≡ verdicts.Granted

@@ -18,6 +18,7 @@ use Rattle.gx_history.specs.Turns.{Turn, Adds, EndsAll, Ends, Fills, Keeps, Repl
 use Rattle.gx_effects.proofs.Fills.{both_sides, maker_side, taker_side}
 use Rattle.gx_positions.specs.Changing.{executed_by, positions_with}
 use Rattle.gx_positions.specs.Sound.{IsThere, MayChange, MayCome, MayFill, numbers_of}
+use Rattle.gx_positions.proofs.Small.{new_ones}
 use Rattle.gx_positions.proofs.Sums.{IsOpenSum, done_shares_filled, done_value_filled, filled_by, is_chosen, joined, no_rise_by, none_gains, none_of, shares_of, sides_are, sum_of_filter, sum_where-append, value_of}
 use Rattle.gx_exposure.specs.Exposure.{gain, gained, is_such}
 
@@ -170,11 +171,4 @@ module _ (policy : PolicyData) (held : Positions) (granted : List Order) (distin
     not_new new may = (λ i. chosen (sym may.is_of.account i) (sym may.is_of.terms i)) ∙ none_granted may.grant may.is_granted
 
     pub adds_none : (turn : Turn) → MayChange policy held turn granted → AddsNone chosen turn
-    adds_none Keeps may = tt
-    adds_none (Adds new) may = (not_new new may, tt)
-    adds_none (Sizes number size) may = tt
-    adds_none (Replaces number new) may = (not_new new may.may_come, tt)
-    adds_none (EndsAll action) may = tt
-    adds_none (Fills f) may = tt
-    adds_none (Rests number) may = tt
-    adds_none (Ends number) may = tt
+    adds_none turn may = new_ones (λ (o : LiveOrder). is_chosen chosen o ≡ false) policy held granted not_new turn may

@@ -155,9 +155,6 @@ kill_in_force_next policy history r account =
     ap (kill_of policy.lifters) (filter_map-append (granted_mark (kill_or_lift_of account)) history (r ∷ []))
     ∙ marked policy.lifters (kills_and_lifts history account) (granted_mark (kill_or_lift_of account) r)
 
-pub is_killed_none : (policy : PolicyData) (account : AccountName) → is_killed policy [] account ≡ false
-is_killed_none policy account = ap is_some (kill_in_force_none policy account)
-
 pub is_killed_next : (policy : PolicyData) (history : List RecordData) (r : RecordData) (account : AccountName)
     → is_killed policy (history ++ r ∷ []) account ≡ is_some (kill_after policy.lifters (granted_mark (kill_or_lift_of account) r) (kill_in_force policy history account))
 is_killed_next policy history r account = ap is_some (kill_in_force_next policy history r account)

@@ -48,6 +48,7 @@ use Rattle.gx_orders.specs.LiveOrders.{AreBelow, OrdersData, is_used}
 use Rattle.gx_history.specs.declared.live_order.LiveOrder.{LiveOrder}
 use Rattle.gx_history.specs.World.{World, accepted_of}
 use Rattle.gx_history.specs.Turns.{new_order}
+use Rattle.gx_history.specs.Live.{live}
 use Rattle.gx_orders.proofs.Granted.{denials_keep, enters_new}
 use Rattle.gx_orders.proofs.Turned.{enters_more, others_keep}
 use Rattle.gx_orders.proofs.Tokens.{denied_is_new}
@@ -217,7 +218,7 @@ pub enters_last : (policy : PolicyData) (history : List RecordData) (a : Asked) 
     → Takes policy history a r k → r.verdict ≡ verdicts.Granted → a.request ≡ requests.Enter m → AreBelow r.number k.orders.live
 enters_last policy history a r m k t grants enters =
     subst (λ (live : List LiveOrder). AreBelow r.number live) (sym (ap (λ (orders : OrdersData). orders.live) t.in_force.orders))
-    (subst (λ (n : ℕ). AreBelow n (orders_in_force policy history).live) (sym (number_left policy history (steps.Asked a) r t.left)) (can_enter policy history a r m k t grants enters).is_new.comes_last)
+    (subst (λ (n : ℕ). AreBelow n (live policy history)) (sym (number_left policy history (steps.Asked a) r t.left)) (can_enter policy history a r m k t grants enters).is_new.comes_last)
 
 pub enters_unused : (policy : PolicyData) (history : List RecordData) (a : Asked) (r : RecordData) (m : EnterOrder) (k : Keepers)
     → Takes policy history a r k → r.verdict ≡ verdicts.Granted → a.request ≡ requests.Enter m → is_used k.orders.used a.user m.token ≡ false

@@ -326,7 +326,7 @@ none_ends_by_default (actions.Revoke reader account) orders book no_kill no_clos
 
 orders_left : (policy : PolicyData) (history : List RecordData) (a : Asked) (r : RecordData) (c : Command) → IsLegal policy history → next policy history (steps.Asked a) ≡ Some r
     → r.verdict ≡ verdicts.Granted → a.request ≡ requests.Command c → (action : Action) → c.action ≡ action
-    → orders_in_force policy (history ++ r ∷ []) ≡ with_live (live_left action (orders_in_force policy history).live) (orders_in_force policy history)
+    → orders_in_force policy (history ++ r ∷ []) ≡ with_live (live_left action (live policy history)) (orders_in_force policy history)
 orders_left policy history a r c legal left granted asks (actions.Kill account) is =
     kills_end policy history a r account legal left (ap action_of asks ∙ ap (λ (x : Action). Some x) is) granted
 orders_left policy history a r c legal left granted asks actions.CloseDay is = closes_end policy history a r legal left (ap action_of asks ∙ ap (λ (x : Action). Some x) is) granted

@@ -6,7 +6,7 @@ use Rattle.std.proofs.lemmas.List.{append-nil}
 use Rattle.std.proofs.lemmas.List.Elements.{filter-append}
 use Rattle.std.specs.Prelude.{Option, Some, None, ◌==◌}
 use Rattle.std.specs.Option.{option_map_or}
-use Rattle.std.specs.List.{filter, AllByRecursion}
+use Rattle.std.specs.List.{filter}
 use Rattle.gx_units.specs.Names.{same_token, same_user}
 use Rattle.gx_units.specs.declared.names.AccountName.{AccountName}
 use Rattle.gx_units.specs.declared.names.Token.{Token}
@@ -53,8 +53,7 @@ use Rattle.gx_effects.proofs.Naming.{FindsOne, finds_one}
 use Rattle.gx_effects.proofs.NewOrders.{found_is}
 use Rattle.gx_effects.proofs.OrderRequests.{Grants, adds_by, it_grants}
 use Rattle.gx_orders.specs.Changes.{is_lasting, keeps_orders}
-use Rattle.gx_orders.specs.InForce.{orders_in_force}
-use Rattle.gx_orders.specs.LiveOrders.{OrdersData, first_waiting, order_numbered}
+use Rattle.gx_orders.specs.LiveOrders.{OrdersData, first_waiting}
 use Rattle.gx_orders.proofs.Turned.{turn_is}
 use Rattle.gx_market.specs.Changes.{cut_from}
 use Rattle.gx_market.proofs.ByKind.{is_first}
@@ -126,7 +125,7 @@ module _ (policy : PolicyData) (history : List RecordData) (step : Step) (r : Re
 record IsIdle (turn : Turn) (grants : List Order) : Type 0 where
   none_comes : new_in turn ≡ []
   none_fills : executed_by turn grants ≡ []
-  same : (found : List LiveOrder) → AllByRecursion (λ (o : LiveOrder). left_by turn o ≡ shares_open o) found
+  same : (o : LiveOrder) → left_by turn o ≡ shares_open o
 
 -- it changes nothing that the ledger stands for
 unchanged : (policy : PolicyData) (history : List RecordData) (step : Step) (r : RecordData) (old new : Kept) (turn : Turn) → ComesNext policy history step r old → Does policy history r turn [] → IsIdle turn (orders policy history)
@@ -134,7 +133,7 @@ unchanged : (policy : PolicyData) (history : List RecordData) (step : Step) (r :
 unchanged policy history step r old new turn comes does idle new_is =
     subst (λ (k : Kept). StandsForDay policy k (history ++ r ∷ [])) (sym new_is)
     (stands_then policy history step r old turn [] comes does old
-    (stays_for policy old (positions policy history) turn idle.none_comes idle.none_fills (idle.same (live policy history)) comes.stands))
+    (stays_for policy old (positions policy history) turn idle.none_comes idle.none_fills idle.same comes.stands))
 
 -- at the beginning of a day
 pub begins : (policy : PolicyData) (ledger : Kept) → StandsFor policy ledger nothing → StandsForDay policy ledger []
@@ -143,11 +142,7 @@ begins policy ledger stands = subst (StandsFor policy ledger) (sym (days_begin_e
 -- ---- what nothing changes
 
 keeps_idle : (grants : List Order) → IsIdle turns.Keeps grants
-keeps_idle grants = record { none_comes = refl; none_fills = refl; same = every }
-  where
-    every : (found : List LiveOrder) → AllByRecursion (λ (o : LiveOrder). left_by turns.Keeps o ≡ shares_open o) found
-    every [] = tt
-    every (o ∷ found) = (refl, every found)
+keeps_idle grants = record { none_comes = refl; none_fills = refl; same = λ o. refl }
 
 -- what a record does that is not granted, by its verdict
 verdict_does : (policy : PolicyData) (history : List RecordData) (r : RecordData) (v : Verdict) → r.verdict ≡ v → is_granted v ≡ false → Does policy history r (turn_by policy (world policy history) r v r.step) []
@@ -183,11 +178,11 @@ none_ends (actions.Lift named) h account = refl
 none_ends actions.CloseDay h account = cc
 
 lasting_idle : (action : Action) (grants : List Order) → is_lasting action ≡ true → IsIdle (turns.EndsAll action) grants
-lasting_idle action grants lasts = record { none_comes = refl; none_fills = refl; same = every }
-  where
-    every : (found : List LiveOrder) → AllByRecursion (λ (o : LiveOrder). left_by (turns.EndsAll action) o ≡ shares_open o) found
-    every [] = tt
-    every (o ∷ found) = (ap (λ (b : Bool). option_map_or shares_open (cond b None (Some o)) 0) (none_ends action lasts o.account), every found)
+lasting_idle action grants lasts = record {
+  none_comes = refl;
+  none_fills = refl;
+  same = λ o. ap (λ (b : Bool). option_map_or shares_open (cond b None (Some o)) 0) (none_ends action lasts o.account);
+}
 
 -- a request that ends no order and makes none
 quiet : (policy : PolicyData) (w : World) (r : RecordData) (a : Asked) (grants : List Order) (q : Request) → keeps_orders q ≡ true
@@ -210,15 +205,11 @@ quiet_figured policy history a r q before new t grants asks keeps same =
 
 -- an order that comes to rest keeps what it has open
 rests_idle : (number : ℕ) (grants : List Order) → IsIdle (turns.Rests number) grants
-rests_idle number grants = record { none_comes = refl; none_fills = refl; same = every }
+rests_idle number grants = record { none_comes = refl; none_fills = refl; same = λ o. at (number == o.number) o }
   where
     at : (b : Bool) (o : LiveOrder) → shares_open (cond b (record o { waits = false }) o) ≡ shares_open o
     at true o = refl
     at false o = refl
-
-    every : (found : List LiveOrder) → AllByRecursion (λ (o : LiveOrder). left_by (turns.Rests number) o ≡ shares_open o) found
-    every [] = tt
-    every (o ∷ found) = (at (number == o.number) o, every found)
 
 pub rest_figured : (policy : PolicyData) (history : List RecordData) (first : LiveOrder) (r : RecordData) (before : Keepers) (number : ℕ) (new : Kept)
     → TakesMatch policy history first r before → r.verdict ≡ verdicts.Rested number → new ≡ before.ledger → StandsForDay policy new (history ++ r ∷ [])
@@ -248,7 +239,7 @@ enter_figured policy history a r m account before o new t grants enters his is a
 
 -- the order that is kept under the token
 pub under_kept : (policy : PolicyData) (history : List RecordData) (a : Asked) (r : RecordData) (k : Keepers) (found : Option LiveOrder) (token : Token)
-    → Takes policy history a r k → live_under k.orders.live a.user token ≡ found → live_under (orders_in_force policy history).live a.user token ≡ found
+    → Takes policy history a r k → live_under k.orders.live a.user token ≡ found → live_under (live policy history) a.user token ≡ found
 under_kept policy history a r k found token t is = sym (ap (λ (d : OrdersData). live_under d.live a.user token) t.in_force.orders) ∙ is
 
 -- it is his
@@ -369,7 +360,7 @@ command_figured policy history a r c before new t grants asks closes =
 
 -- the first that waits, as definitions say
 pub waits_first : (policy : PolicyData) (history : List RecordData) (first : LiveOrder) (r : RecordData) (k : Keepers)
-    → TakesMatch policy history first r k → first_waiting (orders_in_force policy history).live ≡ Some first
+    → TakesMatch policy history first r k → first_waiting (live policy history) ≡ Some first
 waits_first policy history first r k t = sym (ap (λ (d : OrdersData). first_waiting d.live) t.in_force.orders) ∙ t.comes_first
 
 -- the first that waits is held
@@ -378,11 +369,11 @@ first_held policy history first r k t =
     found_is (IsHeld (positions policy history)) (λ (o : LiveOrder). o.waits) (live policy history) first (live_are_found policy history t.legal) (waits_first policy history first r k t)
 
 pub fill_figured : (policy : PolicyData) (history : List RecordData) (first : LiveOrder) (r : RecordData) (before : Keepers) (f : Fill) (maker : LiveOrder) (new : Kept)
-    → TakesMatch policy history first r before → r.verdict ≡ verdicts.Filled f → order_numbered before.orders.live f.maker ≡ Some maker
+    → TakesMatch policy history first r before → r.verdict ≡ verdicts.Filled f → live_numbered before.orders.live f.maker ≡ Some maker
     → Fills first maker f.shares f.price before.ledger new → StandsForDay policy new (history ++ r ∷ [])
 fill_figured policy history first r before f maker new t fills found carries =
     let is : MayFill (world policy history) r f = may_by policy history (steps.Matching t.handed) r (verdicts.Filled f) t.legal t.left fills in
-    let numbered : live_numbered (live policy history) f.maker ≡ Some maker = sym (ap (λ (d : OrdersData). order_numbered d.live f.maker) t.in_force.orders) ∙ found in
+    let numbered : live_numbered (live policy history) f.maker ≡ Some maker = sym (ap (λ (d : OrdersData). live_numbered d.live f.maker) t.in_force.orders) ∙ found in
     let taker_is : first.number ≡ f.taker =
     sym (ap (λ (x : Fill). x.taker) is.is_theirs ∙ ap (λ (x : LiveOrder). x.number) (is_first policy history is.taker is.waiting first is.comes_first (waits_first policy history first r before t))) in
     let maker_is : maker.number ≡ f.maker = eqb-true maker.number f.maker (number_found (live policy history) f.maker maker numbered) in

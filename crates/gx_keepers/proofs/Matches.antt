@@ -56,7 +56,7 @@ use Rattle.gx_history.specs.LiveOrders.{shares_open}
 use Rattle.gx_orders.specs.Changes.{with_live}
 use Rattle.gx_orders.specs.InForce.{orders_in_force}
 use Rattle.gx_orders.specs.Laws.{CanFill}
-use Rattle.gx_orders.specs.LiveOrders.{OrdersData, at_rest, changed, filled_at, order_numbered, without}
+use Rattle.gx_orders.specs.LiveOrders.{OrdersData, at_rest, changed, filled_at, live_numbered, without}
 use Rattle.gx_orders.proofs.Turned.{ends_one, fills_both, rests_one}
 use Rattle.gx_orders.proofs.Matching as matched
 use Rattle.gx_market.specs.BookInForce.{book_in_force}
@@ -132,7 +132,7 @@ can_fill policy history first r k f t fills =
 
 -- the order that rested is there
 pub maker_is_there : (policy : PolicyData) (history : List RecordData) (first : LiveOrder) (r : RecordData) (k : Keepers) (f : Fill) (found : Option LiveOrder)
-    → TakesMatch policy history first r k → r.verdict ≡ verdicts.Filled f → found ≡ order_numbered k.orders.live f.maker → is_some found ≡ true
+    → TakesMatch policy history first r k → r.verdict ≡ verdicts.Filled f → found ≡ live_numbered k.orders.live f.maker → is_some found ≡ true
 maker_is_there policy history first r k f found t fills is = ap is_some is ∙ (can_fill policy history first r k f t fills).maker_lives
 
 -- the account of an order of its user stands in the file
@@ -198,7 +198,7 @@ pub record FillOrders (policy : PolicyData) (history : List RecordData) (r : Rec
   pub maker_his : account_of policy is.maker_rests.known.of.order.user ≡ Some is.maker_rests.known.of.order.account
 
 pub fill_orders : (policy : PolicyData) (history : List RecordData) (first : LiveOrder) (r : RecordData) (k : Keepers) (f : Fill) (maker : LiveOrder)
-    → TakesMatch policy history first r k → r.verdict ≡ verdicts.Filled f → order_numbered k.orders.live f.maker ≡ Some maker
+    → TakesMatch policy history first r k → r.verdict ≡ verdicts.Filled f → live_numbered k.orders.live f.maker ≡ Some maker
     → FillOrders policy history r f first maker
 fill_orders policy history first r k f maker t fills found =
     let fill : IsFill policy history r f = is_fill policy history t.handed r f (legal_is_orderly policy history t.legal) t.left fills in
@@ -209,8 +209,8 @@ fill_orders policy history first r k f maker t fills found =
       taker_is = sym (is_first policy history fill.may.taker fill.may.waiting first fill.may.comes_first (waits_first policy history first r k t));
       maker_is = some_same
           (sym found
-          ∙ ap (λ (d : OrdersData). order_numbered d.live f.maker) t.in_force.orders
-          ∙ ap (order_numbered (live policy history)) fill.of_maker
+          ∙ ap (λ (d : OrdersData). live_numbered d.live f.maker) t.in_force.orders
+          ∙ ap (live_numbered (live policy history)) fill.of_maker
           ∙ fill.maker_rests.known.is_found);
       taker_his = his.0;
       maker_his = (his.1).0;
@@ -224,13 +224,13 @@ owner_told policy history k o lives of side kept_is is his side_is =
     ∙ known_told policy history k kept_is of.order.user ∙ trader_told of.order.account (user_in policy.users of.order.user) his
 
 pub taker_told : (policy : PolicyData) (history : List RecordData) (first : LiveOrder) (r : RecordData) (k : Keepers) (f : Fill) (maker : LiveOrder) (side : FillSide)
-    → TakesMatch policy history first r k → r.verdict ≡ verdicts.Filled f → order_numbered k.orders.live f.maker ≡ Some maker → side ≡ told_side policy first → is_told k.streams side.user ≡ true
+    → TakesMatch policy history first r k → r.verdict ≡ verdicts.Filled f → live_numbered k.orders.live f.maker ≡ Some maker → side ≡ told_side policy first → is_told k.streams side.user ≡ true
 taker_told policy history first r k f maker side t fills found is =
     let both = fill_orders policy history first r k f maker t fills found in
     owner_told policy history k first both.is.may.taker both.is.taker_waits.known.of side t.in_force both.taker_is both.taker_his is
 
 pub maker_told : (policy : PolicyData) (history : List RecordData) (first : LiveOrder) (r : RecordData) (k : Keepers) (f : Fill) (maker : LiveOrder) (side : FillSide)
-    → TakesMatch policy history first r k → r.verdict ≡ verdicts.Filled f → order_numbered k.orders.live f.maker ≡ Some maker → side ≡ told_side policy maker → is_told k.streams side.user ≡ true
+    → TakesMatch policy history first r k → r.verdict ≡ verdicts.Filled f → live_numbered k.orders.live f.maker ≡ Some maker → side ≡ told_side policy maker → is_told k.streams side.user ≡ true
 maker_told policy history first r k f maker side t fills found is =
     let both = fill_orders policy history first r k f maker t fills found in
     owner_told policy history k maker both.is.may.maker both.is.maker_rests.known.of side t.in_force both.maker_is both.maker_his is
@@ -244,7 +244,7 @@ sent_by_records policy history k sound kept_is user =
     (λ account. ap (λ (us : List User). sees us user account) kept_is.people ∙ entitling.kept policy history user account sound) policy.accounts)
 
 pub fill_goes_on : (policy : PolicyData) (history : List RecordData) (first : LiveOrder) (r : RecordData) (before k : Keepers) (f : Fill) (maker : LiveOrder) (left : ℕ) (taken kept_side : FillSide) (made : ToldFill)
-    → TakesMatch policy history first r before → r.verdict ≡ verdicts.Filled f → order_numbered before.orders.live f.maker ≡ Some maker
+    → TakesMatch policy history first r before → r.verdict ≡ verdicts.Filled f → live_numbered before.orders.live f.maker ≡ Some maker
     → left ≡ (maker.total - maker.done) - f.shares → is_sound policy ≡ true
     → taken ≡ told_side policy first → kept_side ≡ told_side policy maker
     → made ≡ record { match_number = r.number; moment = r.moment; shares = f.shares; price = f.price; taker = taken; maker = kept_side }
@@ -258,7 +258,7 @@ fill_goes_on policy history first r before k f maker left taken kept_side made t
     (orders_are ∙ ap (λ (d : OrdersData). with_live (filled_at f.maker f.shares (filled_at f.taker f.shares d.live)) d) t.in_force.orders
     ∙ sym (fills_both policy history t.handed r f t.legal t.left fills))
     (book_is ∙ ap (λ (n : ℕ). left_with maker n before.book) left_is ∙ ap (left_with maker ((maker.total - maker.done) - f.shares)) t.in_force.book
-    ∙ sym (fills_take policy history t.handed r f maker t.legal t.left fills (sym (ap (λ (d : OrdersData). order_numbered d.live f.maker) t.in_force.orders) ∙ found)))
+    ∙ sym (fills_take policy history t.handed r f maker t.legal t.left fills (sym (ap (λ (d : OrdersData). live_numbered d.live f.maker) t.in_force.orders) ∙ found)))
     (fill_figured policy history first r before f maker k.ledger t fills found carries)
     (ap shown streams_are
     ∙ stays_by_fill policy history r before.streams made (accounts_few policy sound) t.in_force.streams (sent_by_records policy history before sound t.in_force) is_made)

@@ -21,9 +21,8 @@ use Rattle.gx_history_laws.proofs.Runs.{step_left}
 use Rattle.gx_effects.proofs.ByKind.{granted_world}
 use Rattle.gx_history.specs.declared.live_order.LiveOrder.{LiveOrder}
 use Rattle.gx_history.specs.LiveOrders.{replacement_order}
-use Rattle.gx_history.specs.Live.{live_under}
+use Rattle.gx_history.specs.Live.{live_under, live}
 use Rattle.gx_orders.specs.Changes.{entering, with_live}
-use Rattle.gx_orders.specs.InForce.{orders_in_force}
 use Rattle.gx_orders.specs.Laws.{CanReplace}
 use Rattle.gx_orders.specs.LiveOrders.{AreBelow, OrdersData, is_used, without}
 use Rattle.gx_orders.proofs.Cutting.{replaces_new}
@@ -63,7 +62,7 @@ pub replaces_last : (policy : PolicyData) (history : List RecordData) (a : Asked
     → Takes policy history a r k → r.verdict ≡ verdicts.Granted → a.request ≡ requests.Replace m → AreBelow r.number k.orders.live
 replaces_last policy history a r m k t grants asks =
     subst (λ (live : List LiveOrder). AreBelow r.number live) (sym (ap (λ (orders : OrdersData). orders.live) t.in_force.orders))
-    (subst (λ (n : ℕ). AreBelow n (orders_in_force policy history).live) (sym (number_left policy history (steps.Asked a) r t.left)) (can_replace policy history a r m k t grants asks).is_new.comes_last)
+    (subst (λ (n : ℕ). AreBelow n (live policy history)) (sym (number_left policy history (steps.Asked a) r t.left)) (can_replace policy history a r m k t grants asks).is_new.comes_last)
 
 -- and the new token was not used
 pub replaces_unused : (policy : PolicyData) (history : List RecordData) (a : Asked) (r : RecordData) (m : ReplaceOrder) (k : Keepers) (o : LiveOrder)

@@ -1,7 +1,6 @@
 -- How a ledger goes on standing for live orders, fills and grants.
 use Rattle.std.proofs.Common.{◌≡◌, ℕ, ◌-◌, Bool, [], map, refl, sym, ◌∙◌, arith}
 use Rattle.std.proofs.Math.Path.{subst}
-use Rattle.std.specs.List.{AllByRecursion}
 use Rattle.gx_units.specs.declared.names.AccountName.{AccountName}
 use Rattle.gx_history.specs.declared.live_order.LiveOrder.{LiveOrder}
 use Rattle.gx_policy.specs.declared.policy.PolicyData.{PolicyData}
@@ -36,7 +35,7 @@ accept_carries o moment replacement k grant is policy held stands sound may afte
     })
 
 -- a turn that leaves each order what it has open needs no call
-pub stays_for : (policy : PolicyData) (k : Kept) (held : Positions) (turn : Turn) → new_in turn ≡ [] → executed_by turn held.grants ≡ [] → AllByRecursion (λ (o : LiveOrder). left_by turn o ≡ shares_open o) held.live
+pub stays_for : (policy : PolicyData) (k : Kept) (held : Positions) (turn : Turn) → new_in turn ≡ [] → executed_by turn held.grants ≡ [] → ((o : LiveOrder) → left_by turn o ≡ shares_open o)
     → StandsFor policy k held → StandsFor policy k (positions_with turn [] held)
 stays_for policy k held turn none idle same stands = subst (StandsFor policy k) (sym (none_comes turn held none idle)) (record {
   accounts = stands.accounts;

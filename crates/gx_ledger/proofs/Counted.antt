@@ -68,9 +68,6 @@ rise_of (o ∷ grants) among falls = by (among o.account) (later_of grants falls
     by true later rest = (later, rest)
     by false later rest = rest
 
-recent_none : (window moment : ℕ) → recent_among [] window moment ≡ 0
-recent_none window moment = refl
-
 recent_cons : (m : ℕ) (ms : List ℕ) (window moment : ℕ) → recent_among (m ∷ ms) window moment ≡ cond (nat_lt (moment - m) window) 1 0 + recent_among ms window moment
 recent_cons m ms window moment = sum_by-cons (λ m. cond (nat_lt (moment - m) window) 1 0) m ms
 

@@ -22,6 +22,7 @@ use Rattle.gx_history.specs.Book.{is_on}
 use Rattle.gx_policy.specs.Lists.{are_distinct}
 use Rattle.gx_history.specs.LiveOrders.{shares_open}
 use Rattle.gx_policy.specs.People.{covers}
+use Rattle.gx_history_laws.proofs.Granting.{left_false, right_false}
 use Rattle.gx_history_laws.proofs.Names.{same_account_flip}
 use Rattle.gx_ledger.specs.declared.group.Group.{Group}
 use Rattle.gx_ledger.specs.declared.change.Change.{Change}
@@ -151,14 +152,6 @@ place-cons x n names =
 changed-cons : {X : Type 0} (place : Option ℕ) (f : X → X) (y : X) (ys : List X) → changed_in (option_map suc place) f (y ∷ ys) ≡ y ∷ changed_in place f ys
 changed-cons None f y ys = refl
 changed-cons (Some n) f y ys = refl
-
-left_false : (a b : Bool) → (a || b) ≡ false → a ≡ false
-left_false true b h = h
-left_false false b h = refl
-
-right_false : (a b : Bool) → (a || b) ≡ false → b ≡ false
-right_false true b h = cc
-right_false false b h = h
 
 pub left_none : (a b : Bool) → (not a && b) ≡ true → a ≡ false
 left_none true b h = cc

@@ -1,5 +1,5 @@
 -- Entries of tables, one of them changed.
-use Rattle.std.proofs.Common.{◌≡◌, ℕ, ◌+◌, ◌<◌, zero, suc, Bool, true, false, cond, not, ◌||◌, ◌&&◌, List, [], ◌∷◌, ◌++◌, map, length, get_or, take, refl, sym, ap, ◌∙◌, subst, arith}
+use Rattle.std.proofs.Common.{◌≡◌, ℕ, ◌+◌, ◌<◌, zero, suc, Bool, true, false, cond, not, ◌||◌, List, [], ◌∷◌, ◌++◌, map, length, get_or, take, refl, sym, ap, ◌∙◌, subst, arith}
 use Rattle.std.specs.Prelude.{Option, Some, None}
 use Rattle.std.specs.List.{list_any, AllByRecursion, IsDistinct}
 use Rattle.std.specs.Map.{keys_of, lookup, set_value}
@@ -13,12 +13,14 @@ use Rattle.gx_units.specs.declared.names.Symbol.{Symbol}
 use Rattle.gx_policy.specs.declared.policy.Account.{Account}
 use Rattle.gx_policy.specs.declared.policy.Stock.{Stock}
 use Rattle.gx_policy.specs.Lists.{are_distinct}
+use Rattle.gx_history_laws.proofs.Granting.{left_false, right_false}
 use Rattle.gx_history_laws.proofs.Names.{stock_is}
 use Rattle.gx_ledger.specs.Keeping.{account_names, priced}
 use Rattle.gx_ledger.specs.declared.change.Change.{Change}
 use Rattle.gx_ledger.specs.declared.sides.StockSums.{StockSums}
 use Rattle.gx_ledger.specs.Running.{noted_sides}
 use Rattle.gx_ledger.specs.Tables.{accounts_differ, names_differ}
+use Rattle.gx_ledger.proofs.Counting.{left_none, right_true}
 
 pub some_is : {X : Type 0} {x y : X} → Some x ≡ Some y → x ≡ y
 some_is {X} {x} {y} h = ap (λ (o : Option X). elim o [ None ↦ x | Some z ↦ z ]) h
@@ -81,22 +83,6 @@ pub no_sums_set : (stock : Symbol) (change : StockSums → StockSums) (es : List
     → es ≡ map (λ (e : Symbol × StockSums). (e.0, cond (same_stock stock e.0) (change e.1) e.1)) es
 no_sums_set stock change es none = absent same_stock stock_is stock change es none
 
-left_false : (a b : Bool) → (a || b) ≡ false → a ≡ false
-left_false true b h = h
-left_false false b h = refl
-
-right_false : (a b : Bool) → (a || b) ≡ false → b ≡ false
-right_false true b h = cc
-right_false false b h = h
-
-left_true : (a b : Bool) → (not a && b) ≡ true → a ≡ false
-left_true true b h = cc
-left_true false b h = refl
-
-right_true : (a b : Bool) → (a && b) ≡ true → b ≡ true
-right_true true b h = h
-right_true false b h = cc
-
 none_at : {X : Type 0} (p : X → Bool) (xs : List X) (i : ℕ) (d : X) → list_any p xs ≡ false → i < length xs → p (get_or xs i d) ≡ false
 none_at p [] i d none within = absurd (omega (arith, within))
 none_at p (x ∷ xs) zero d none within = left_false (p x) (list_any p xs) none
@@ -107,7 +93,7 @@ none_before : {X : Type 0} (same : X → X → Bool) (symm : (x y : X) → same 
 none_before same symm [] i d distinct within = absurd (omega (arith, within))
 none_before same symm (x ∷ xs) zero d distinct within = refl
 none_before same symm (x ∷ xs) (suc i) d distinct within =
-    let here : same (get_or xs i d) x ≡ false = symm (get_or xs i d) x ∙ none_at (same x) xs i d (left_true (list_any (same x) xs) (are_distinct same xs) distinct) (omega (arith, within)) in
+    let here : same (get_or xs i d) x ≡ false = symm (get_or xs i d) x ∙ none_at (same x) xs i d (left_none (list_any (same x) xs) (are_distinct same xs) distinct) (omega (arith, within)) in
     ap (λ b. b || list_any (same (get_or xs i d)) (take i xs)) here
     ∙ none_before same symm xs i d (right_true (not (list_any (same x) xs)) (are_distinct same xs) distinct) (omega (arith, within))
 

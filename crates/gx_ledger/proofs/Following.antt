@@ -1,7 +1,7 @@
 -- How a ledger follows orders that end one after another, and an order that takes the place of another.
 use Rattle.std.proofs.Common.{◌≡◌, ℕ, ◌<◌, ◌^◌, Bool, true, false, cond, ◌&&◌, ◌||◌, not, List, [], ◌∷◌, ◌++◌, refl, sym, ap, ◌∙◌, subst, arith}
-use Rattle.std.specs.Prelude.{Option, Some, None, nat_eq}
-use Rattle.std.specs.List.{AllByRecursion, IsDistinct, cons_option, filter, filter_map, list_any}
+use Rattle.std.specs.Prelude.{Some, None, nat_eq}
+use Rattle.std.specs.List.{AllByRecursion, IsDistinct, filter, filter_map, list_any}
 use Rattle.std.specs.Cmp.{nat_eq_equiv}
 use Rattle.std.proofs.lemmas.Bool.{eqb-true}
 use Rattle.std.proofs.lemmas.List.{append-nil}
@@ -15,7 +15,7 @@ use Rattle.gx_history.specs.Turns as turns
 use Rattle.gx_history.specs.Turns.{becomes}
 use Rattle.gx_history_laws.proofs.Owners.{filtered}
 use Rattle.gx_history_laws.proofs.Pushing.{all_before}
-use Rattle.gx_effects.proofs.World.{all_stay}
+use Rattle.gx_effects.proofs.World.{all_stay, those_go}
 use Rattle.gx_positions.specs.Changing.{positions_with}
 use Rattle.gx_positions.specs.Sound.{AreSound, IsListed, IsLive, MayCome, anyone, numbers_of}
 use Rattle.gx_positions.proofs.Sums.{IsNoMore, is_numbered, no_rise_by, none_if_gone, shares_of, value_of}
@@ -26,21 +26,12 @@ use Rattle.gx_ledger.specs.StandsFor.{IsHeld, StandsFor}
 abbrev pub is_other : ℕ → LiveOrder → Bool
 is_other n o = not (is_numbered n o)
 
--- what goes where a test fails is a filter
-goes_where : (f : LiveOrder → Option LiveOrder) (gone : LiveOrder → Bool) → ((o : LiveOrder) → f o ≡ cond (gone o) None (Some o)) → (os : List LiveOrder) → filter_map f os ≡ filter (λ o. not (gone o)) os
-goes_where f gone is [] = refl
-goes_where f gone is (o ∷ os) = (λ i. cons_option (is o i) (goes_where f gone is os i)) ∙ by (gone o)
-  where
-    by : (b : Bool) → cons_option (cond b None (Some o)) (filter (λ o. not (gone o)) os) ≡ cond (not b) (o ∷ filter (λ o. not (gone o)) os) (filter (λ o. not (gone o)) os)
-    by true = refl
-    by false = refl
-
 -- the order of a number ends
 ends_one : (n : ℕ) (o : LiveOrder) → becomes (turns.Ends n) o ≡ cond (is_numbered n o) None (Some o)
 ends_one n o = ap (λ b. cond b None (Some o)) (nat_eq_equiv.symm n o.number)
 
 one_ends : (n : ℕ) (os : List LiveOrder) → filter_map (becomes (turns.Ends n)) os ≡ filter (is_other n) os
-one_ends n os = goes_where (becomes (turns.Ends n)) (is_numbered n) (ends_one n) os
+one_ends n os = (λ i. filter_map (λ o. ends_one n o i) os) ∙ those_go (is_numbered n) os
 
 numbers_filtered : (n : ℕ) (q : LiveOrder → Bool) (os : List LiveOrder) → AllByRecursion (λ k. nat_eq n k ≡ false) (numbers_of os) → AllByRecursion (λ k. nat_eq n k ≡ false) (numbers_of (filter q os))
 numbers_filtered n q [] apart = tt
@@ -214,7 +205,7 @@ pub all_are_ended : AllAreEnded
 all_are_ended policy held action sound =
     let ends : LiveOrder → Bool = λ (o : LiveOrder). ends_account o.account action in
     let left = filter_agrees (is_none_of (numbers_of (ended_by action held.live))) (λ o. not (ends o)) held.live (passes_where_among ends held.live sound.numbers_differ) in
-    let gone = goes_where (becomes (turns.EndsAll action)) ends (λ o. refl) held.live in
+    let gone = those_go ends held.live in
     all_closed_are held (ended_by action held.live)
     ∙ (λ i. record { live = (left ∙ sym gone ∙ sym (append-nil (filter_map (becomes (turns.EndsAll action)) held.live))) i; executions = sym (append-nil held.executions) i; grants = sym (append-nil held.grants) i })
 
@@ -223,7 +214,7 @@ ended_then_accepted o new_order moment old between new closes accepts grant is p
     let mid : Positions = closed held o in
     let sound_mid = closed_sound policy held o sound in
     let left : filter_map (becomes (turns.Adds new_order)) mid.live ≡ filter_map (becomes (turns.Replaces o.number new_order)) held.live =
-    all_stay mid.live ∙ append-nil (filter_map (becomes (turns.Ends o.number)) held.live) ∙ one_ends o.number held.live ∙ sym (goes_where (becomes (turns.Replaces o.number new_order)) (is_numbered o.number) (λ x. refl) held.live) in
+    all_stay mid.live ∙ append-nil (filter_map (becomes (turns.Ends o.number)) held.live) ∙ one_ends o.number held.live ∙ sym (those_go (is_numbered o.number) held.live) in
     let same : positions_with (turns.Adds new_order) (grant ∷ []) mid ≡ positions_with (turns.Replaces o.number new_order) (grant ∷ []) held =
     (λ i. record { live = left i ++ new_order ∷ []; executions = append-nil mid.executions i; grants = append-nil held.grants i ++ grant ∷ [] }) in
     let comes : MayCome policy held new_order (grant ∷ []) = may.may_replace.may_come in

@@ -19,10 +19,12 @@ use Rattle.gx_history.specs.Figures.{of_accounts, on_side, reference}
 use Rattle.gx_policy.specs.Lists.{are_distinct}
 use Rattle.gx_policy.specs.People.{covers, stock_named}
 use Rattle.gx_policy.specs.Soundness.{is_sound}
+use Rattle.gx_history_laws.proofs.Granting.{left_false, right_false}
 use Rattle.gx_history_laws.proofs.Judging.{both}
 use Rattle.gx_history_laws.proofs.Names.{accounts_differ as accounts_apart}
-use Rattle.gx_history_laws.proofs.NextFigures.{done_none, done_value_none, live_value_none, open_none, reference_none}
+use Rattle.gx_history_laws.proofs.NextFigures.{done_none, done_value_none, reference_none}
 use Rattle.gx_positions.specs.Changing.{nothing}
+use Rattle.gx_positions.proofs.Sums.{none_of, shares_of, value_of}
 use Rattle.gx_ledger.specs.declared.tally.Asks.{Asks}
 use Rattle.gx_ledger.specs.Keeping.{account_names, reference_prices}
 use Rattle.gx_ledger.specs.StandsFor.{StandsFor, group_of, members_of, prices_of, side_sums_of, tally_of, total_of}
@@ -47,14 +49,6 @@ distinct_names (a ∷ accounts) h =
     any_name : (others : List Account) → list_any (same_account a.name) (account_names others) ≡ list_any (λ (b : Account). same_account a.name b.name) others
     any_name [] = refl
     any_name (b ∷ others) = ap (λ t. same_account a.name b.name || t) (any_name others)
-
-left_false : (a b : Bool) → (a || b) ≡ false → a ≡ false
-left_false true b h = h
-left_false false b h = refl
-
-right_false : (a b : Bool) → (a || b) ≡ false → b ≡ false
-right_false true b h = cc
-right_false false b h = h
 
 -- the stock is found under its name
 abbrev IsFoundIn : List Stock → Stock → Type 0
@@ -88,11 +82,11 @@ none_left zero = refl
 none_left (suc n) = refl
 
 no_side_is : (among : AccountName → Bool) (side : StockSide) → record { live = 0; done = 0 } ≡ side_sums_of nothing among side.stock side.buys
-no_side_is among side = λ i. record { live = sym (open_none (on_side among side)) i; done = sym (done_none (on_side among side)) i }
+no_side_is among side = λ i. record { live = sym (none_of (shares_of (on_side among side)) [] tt) i; done = sym (done_none (on_side among side)) i }
 
 new_group_is : (stocks : List Stock) (asked : Asks) (among : AccountName → Bool) → asked_group asked stocks ≡ group_of stocks asked (total_of nothing among)
 new_group_is stocks asked among = λ i. record {
-  sums = record { live_shares = sym (open_none (of_accounts among)) i; live_value = sym (live_value_none among) i; done_shares = sym (done_none (of_accounts among)) i; done_value = sym (done_value_none among) i };
+  sums = record { live_shares = sym (none_of (shares_of (of_accounts among)) [] tt) i; live_value = sym (none_of (value_of among) [] tt) i; done_shares = sym (done_none (of_accounts among)) i; done_value = sym (done_value_none among) i };
   moments = buffer (sym (none_left (0 - room_for_moments asked)) i) (room_for_moments asked);
   enters = buffer (sym (none_left (0 - room_for_enters asked)) i) (room_for_enters asked);
   sides = map (λ (s : Stock). (s.name, record { buys = no_side_is among (record { stock = s.name; buys = true }) i; sells = no_side_is among (record { stock = s.name; buys = false }) i })) (stocks_for asked stocks);

@@ -1,7 +1,7 @@
 -- What counts of any accounts, once live orders, fills or grants changed.
 use Rattle.std.proofs.Common.{◌≡◌, ℕ, ◌+◌, ◌-◌, ◌<◌, ◌≤◌, ◌^◌, Bool, true, false, cond, ◌&&◌, not, List, [], ◌∷◌, ◌++◌, map, refl, sym, ap, ◌∙◌, arith}
 use Rattle.std.specs.Prelude.{Option, Some, None, is_none, is_some, nat_eq}
-use Rattle.std.specs.List.{AllByRecursion, IsDistinct, filter, filter_map}
+use Rattle.std.specs.List.{IsDistinct, filter, filter_map}
 use Rattle.std.proofs.lemmas.List.{append-nil, map-append}
 use Rattle.std.proofs.lemmas.List.Elements.{filter-append}
 use Rattle.gx_units.specs.Money.{value}
@@ -190,7 +190,7 @@ none_comes turn held none idle = λ i. record {
 }
 
 -- where each order has as much open as before
-pub same_total : (held : Positions) (turn : Turn) → AllByRecursion (λ (o : LiveOrder). left_by turn o ≡ shares_open o) held.live → (among : AccountName → Bool) → total_of held among ≡ total_of (left_so turn held) among
+pub same_total : (held : Positions) (turn : Turn) → ((o : LiveOrder) → left_by turn o ≡ shares_open o) → (among : AccountName → Bool) → total_of held among ≡ total_of (left_so turn held) among
 same_total held turn same among = λ i. record {
   sums = record {
     live_shares = sym (stays_by (shares_of (of_accounts among)) turn held.live same) i;

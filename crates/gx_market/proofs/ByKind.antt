@@ -38,7 +38,6 @@ use Rattle.gx_effects.proofs.Moving.{may_by}
 use Rattle.gx_effects.proofs.OrderRequests.{it_grants}
 use Rattle.gx_effects.proofs.Sides.{side_next}
 use Rattle.gx_orders.specs.Changes.{is_lasting}
-use Rattle.gx_orders.specs.InForce.{orders_in_force}
 use Rattle.gx_orders.specs.LiveOrders.{first_waiting}
 use Rattle.gx_orders.proofs.Keeping.{first_of_filter}
 use Rattle.gx_orders.proofs.Turned.{turn_is}
@@ -116,7 +115,7 @@ others_keep policy history a r legal left keeps grants = by a.request refl keeps
     by (requests.Command c) asks h = ends_by policy history a r c.action legal left grants (ap action_of asks) ∙ lasting c.action h (book_in_force policy history)
 
 -- an order that a request names is found under its number
-named_lives : (policy : PolicyData) (history : List RecordData) (user : UserName) (token : Token) (o : LiveOrder) → IsLegal policy history → live_under (orders_in_force policy history).live user token ≡ Some o
+named_lives : (policy : PolicyData) (history : List RecordData) (user : UserName) (token : Token) (o : LiveOrder) → IsLegal policy history → live_under (live policy history) user token ≡ Some o
     → live_numbered (live policy history) o.number ≡ Some o
 named_lives policy history user token o legal named =
     (last_such_is (IsLiving policy history) (is_under user token) (live policy history) o (all_living policy history legal) named).found
@@ -149,14 +148,14 @@ replaces_take policy history a r m o legal left asks grants named =
 -- ---- a matching step
 
 -- the first that waits
-pub first_is : (policy : PolicyData) (history : List RecordData) → first_waiting (orders_in_force policy history).live ≡ slice_get (waiting policy history) 0
+pub first_is : (policy : PolicyData) (history : List RecordData) → first_waiting (live policy history) ≡ slice_get (waiting policy history) 0
 unfolding waiting
 first_is policy history = first_of_filter (λ (o : LiveOrder). o.waits) (live policy history)
 
-pub comes_first : (policy : PolicyData) (history : List RecordData) (first : LiveOrder) (others : List LiveOrder) → waiting policy history ≡ first ∷ others → first_waiting (orders_in_force policy history).live ≡ Some first
+pub comes_first : (policy : PolicyData) (history : List RecordData) (first : LiveOrder) (others : List LiveOrder) → waiting policy history ≡ first ∷ others → first_waiting (live policy history) ≡ Some first
 comes_first policy history first others e = first_is policy history ∙ ap (λ (os : List LiveOrder). slice_get os 0) e
 
-pub is_first : (policy : PolicyData) (history : List RecordData) (first : LiveOrder) (others : List LiveOrder) (o : LiveOrder) → waiting policy history ≡ first ∷ others → first_waiting (orders_in_force policy history).live ≡ Some o
+pub is_first : (policy : PolicyData) (history : List RecordData) (first : LiveOrder) (others : List LiveOrder) (o : LiveOrder) → waiting policy history ≡ first ∷ others → first_waiting (live policy history) ≡ Some o
     → first ≡ o
 is_first policy history first others o e waits = some_same (sym (comes_first policy history first others e) ∙ waits)
 
@@ -190,7 +189,7 @@ fills_take policy history handed r f maker legal left fills found = by (may_by p
         ∙ ap (λ (n : ℕ). filled_so y (y.number == n)) (sym number_is)
         ∙ ap (filled_so y) differs)
 
-rest_of_first : (policy : PolicyData) (history : List RecordData) (r : RecordData) (number : ℕ) (o : LiveOrder) → MayRest (world policy history) r number → first_waiting (orders_in_force policy history).live ≡ Some o → number ≡ o.number
+rest_of_first : (policy : PolicyData) (history : List RecordData) (r : RecordData) (number : ℕ) (o : LiveOrder) → MayRest (world policy history) r number → first_waiting (live policy history) ≡ Some o → number ≡ o.number
 rest_of_first policy history r number o is waits = is.has_number ∙ ap (λ (x : LiveOrder). x.number) (is_first policy history is.first is.waiting o is.comes_first waits)
 
 pub rests_are_of_first : RestsAreOfFirst

@@ -28,7 +28,7 @@ use Rattle.gx_effects.proofs.Orderly.{legal_is_orderly}
 
 -- the best that is kept is the best that rests
 best_is : (policy : PolicyData) (history : List RecordData) (first : LiveOrder) (others : List LiveOrder) → IsLegal policy history → waiting policy history ≡ first ∷ others
-    → best_against (book_in_force policy history) (orders_in_force policy history).live first ≡ slice_get (opposite (world policy history) first) 0
+    → best_against (book_in_force policy history) (live policy history) first ≡ slice_get (opposite (world policy history) first) 0
 best_is policy history first others legal e =
     ap (λ (rs : List Resting). numbered (slice_get rs 0)) (resting_found policy history stock buy (first_lives policy history first others legal e).0.listed)
     ∙ at (side policy history stock buy) (all_resting policy history stock buy (legal_is_orderly policy history legal))
@@ -50,7 +50,7 @@ best_is policy history first others legal e =
 next_is_of_first : (policy : PolicyData) (history : List RecordData) (first : LiveOrder) (others : List LiveOrder) → IsLegal policy history → waiting policy history ≡ first ∷ others
     → next_met (orders_in_force policy history) (book_in_force policy history) ≡ Some (met first (slice_get (opposite (world policy history) first) 0))
 next_is_of_first policy history first others legal e =
-    ap (option_map (λ (o : LiveOrder). met o (best_against (book_in_force policy history) (orders_in_force policy history).live o))) (comes_first policy history first others e)
+    ap (option_map (λ (o : LiveOrder). met o (best_against (book_in_force policy history) (live policy history) o))) (comes_first policy history first others e)
     ∙ ap (λ (best : Option LiveOrder). Some (met first best)) (best_is policy history first others legal e)
 
 -- the best alone tells what becomes of it
@@ -68,7 +68,7 @@ unfolding matching
 matching_is_met policy history legal = by (waiting policy history) refl
   where
     by : (found : List LiveOrder) → waiting policy history ≡ found → next_met (orders_in_force policy history) (book_in_force policy history) ≡ first_outcome policy history found
-    by [] e = ap (option_map (λ (o : LiveOrder). met o (best_against (book_in_force policy history) (orders_in_force policy history).live o))) (first_is policy history ∙ ap (λ (os : List LiveOrder). slice_get os 0) e)
+    by [] e = ap (option_map (λ (o : LiveOrder). met o (best_against (book_in_force policy history) (live policy history) o))) (first_is policy history ∙ ap (λ (os : List LiveOrder). slice_get os 0) e)
     by (first ∷ others) e = next_is_of_first policy history first others legal e ∙ ap (λ (v : Verdict). Some v) (best_tells first (opposite (world policy history) first))
 
 pub next_record_is_met : NextRecordIsMet

@@ -22,9 +22,9 @@ use Rattle.gx_book.specs.declared.resting.Resting.{Resting}
 use Rattle.gx_book.specs.Books.{StockOrders, all_orders, empty_book, is_sound_book, on_each_side, order_in, resting_in}
 use Rattle.gx_book.specs.Queue.{IsLatest, no_orders, without_account}
 use Rattle.gx_history.specs.declared.live_order.LiveOrder.{LiveOrder}
-use Rattle.gx_history.specs.Live.{live_under}
+use Rattle.gx_history.specs.Live.{live_under, live}
 use Rattle.gx_orders.specs.InForce.{orders_in_force}
-use Rattle.gx_orders.specs.LiveOrders.{first_waiting, order_numbered}
+use Rattle.gx_orders.specs.LiveOrders.{first_waiting, live_numbered}
 use Rattle.gx_market.specs.BookInForce.{book_in_force}
 use Rattle.gx_market.specs.Changes.{keeps_book, left_with, put_to_rest, resting_of, taken_out}
 use Rattle.gx_market.specs.Meeting.{match_record, next_met}
@@ -49,14 +49,14 @@ OthersKeepBook = (policy : PolicyData) (history : List RecordData) (a : Asked) (
 abbrev pub CancelsTakeShares : Type 0
 CancelsTakeShares = (policy : PolicyData) (history : List RecordData) (a : Asked) (r : RecordData) (m : CancelOrder) (o : LiveOrder)
     → IsLegal policy history → next policy history (steps.Asked a) ≡ Some r → a.request ≡ requests.Cancel m → r.verdict ≡ verdicts.Granted
-    → live_under (orders_in_force policy history).live a.user m.token ≡ Some o
+    → live_under (live policy history) a.user m.token ≡ Some o
     → book_in_force policy (history ++ r ∷ []) ≡ left_with o (m.shares - o.done) (book_in_force policy history)
 
 -- a granted Replace takes out the order that it names, if it rests
 abbrev pub ReplacesTakeOut : Type 0
 ReplacesTakeOut = (policy : PolicyData) (history : List RecordData) (a : Asked) (r : RecordData) (m : ReplaceOrder) (o : LiveOrder)
     → IsLegal policy history → next policy history (steps.Asked a) ≡ Some r → a.request ≡ requests.Replace m → r.verdict ≡ verdicts.Granted
-    → live_under (orders_in_force policy history).live a.user m.existing_token ≡ Some o
+    → live_under (live policy history) a.user m.existing_token ≡ Some o
     → book_in_force policy (history ++ r ∷ []) ≡ taken_out o (book_in_force policy history)
 
 -- a granted Kill takes out the orders of its account
@@ -75,27 +75,27 @@ ClosesTakeOut = (policy : PolicyData) (history : List RecordData) (a : Asked) (r
 abbrev pub FillsTakeOut : Type 0
 FillsTakeOut = (policy : PolicyData) (history : List RecordData) (handed : ℕ) (r : RecordData) (f : Fill) (maker : LiveOrder)
     → IsLegal policy history → next policy history (steps.Matching handed) ≡ Some r → r.verdict ≡ verdicts.Filled f
-    → order_numbered (orders_in_force policy history).live f.maker ≡ Some maker
+    → live_numbered (live policy history) f.maker ≡ Some maker
     → book_in_force policy (history ++ r ∷ []) ≡ left_with maker ((maker.total - maker.done) - f.shares) (book_in_force policy history)
 
 -- the first that waits comes to rest on its side
 abbrev pub RestsArePut : Type 0
 RestsArePut = (policy : PolicyData) (history : List RecordData) (handed : ℕ) (r : RecordData) (number : ℕ) (o : LiveOrder)
     → IsLegal policy history → next policy history (steps.Matching handed) ≡ Some r → r.verdict ≡ verdicts.Rested number
-    → first_waiting (orders_in_force policy history).live ≡ Some o
+    → first_waiting (live policy history) ≡ Some o
     → book_in_force policy (history ++ r ∷ []) ≡ put_to_rest o (book_in_force policy history)
 
 -- its number is above those that rest there at its price: orders come to rest in the order of their numbers
 abbrev pub FirstIsLatest : Type 0
 FirstIsLatest = (policy : PolicyData) (history : List RecordData) (o : LiveOrder)
-    → IsLegal policy history → first_waiting (orders_in_force policy history).live ≡ Some o
+    → IsLegal policy history → first_waiting (live policy history) ≡ Some o
     → IsLatest (resting_of o) (resting_in (book_in_force policy history) o.terms.stock (is_buy o.terms.side))
 
 -- and it is the one of a record of rest
 abbrev pub RestsAreOfFirst : Type 0
 RestsAreOfFirst = (policy : PolicyData) (history : List RecordData) (handed : ℕ) (r : RecordData) (number : ℕ) (o : LiveOrder)
     → IsLegal policy history → next policy history (steps.Matching handed) ≡ Some r → r.verdict ≡ verdicts.Rested number
-    → first_waiting (orders_in_force policy history).live ≡ Some o → number ≡ o.number
+    → first_waiting (live policy history) ≡ Some o → number ≡ o.number
 
 -- an order that expires has not rested
 abbrev pub ExpiriesKeepBook : Type 0
@@ -132,11 +132,11 @@ abbrev pub LiveWaitOrRest : Type 0
 LiveWaitOrRest = (policy : PolicyData) (history : List RecordData)
     → IsLegal policy history
     → AllByRecursion (λ (o : LiveOrder). order_in (book_in_force policy history) o.number ≡ (if o.waits then None else Some (resting_of o)))
-    (orders_in_force policy history).live
+    (live policy history)
 
 -- and each order that rests is a live one
 abbrev pub RestingAreLive : Type 0
 RestingAreLive = (policy : PolicyData) (history : List RecordData)
     → IsLegal policy history
-    → AllByRecursion (λ (r : Resting). option_map resting_of (order_numbered (orders_in_force policy history).live r.number) ≡ Some r)
+    → AllByRecursion (λ (r : Resting). option_map resting_of (live_numbered (live policy history) r.number) ≡ Some r)
     (all_orders (book_in_force policy history))

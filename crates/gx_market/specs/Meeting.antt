@@ -9,7 +9,7 @@ use Rattle.gx_book.specs.declared.resting.Resting.{Resting}
 use Rattle.gx_book.specs.Books.{StockOrders, best_in}
 use Rattle.gx_history.specs.declared.live_order.LiveOrder.{LiveOrder}
 use Rattle.gx_history.specs.Matching.{outcome}
-use Rattle.gx_orders.specs.LiveOrders.{OrdersData, first_waiting, order_numbered}
+use Rattle.gx_orders.specs.LiveOrders.{OrdersData, first_waiting, live_numbered}
 
 -- what becomes of an order, over the best on the other side
 abbrev pub met : LiveOrder → Option LiveOrder → Verdict
@@ -17,7 +17,7 @@ met o best = outcome o (option_to_list best)
 
 -- the best that rests on the other side of its stock
 abbrev pub best_against : List StockOrders → List LiveOrder → LiveOrder → Option LiveOrder
-best_against book live o = option_and_then (λ (r : Resting). order_numbered live r.number) (best_in book o.terms.stock (not (is_buy o.terms.side)))
+best_against book live o = option_and_then (λ (r : Resting). live_numbered live r.number) (best_in book o.terms.stock (not (is_buy o.terms.side)))
 
 -- the next execution, if an order waits for one
 abbrev pub next_met : OrdersData → List StockOrders → Option Verdict

@@ -12,7 +12,7 @@ use Rattle.gx_history.specs.declared.live_order.UserToken.{UserToken}
 use Rattle.gx_history.specs.LiveOrders.{is_under, key, token_of}
 use Rattle.gx_history.specs.Live.{live_under}
 use Rattle.gx_slab.specs.Slabs as slabs
-use Rattle.gx_orders.specs.LiveOrders.{OrdersData, IsOpen, NumbersRise, at_rest, changed, is_used, open_ones, order_numbered, resized, resized_at, same_user_token, without}
+use Rattle.gx_orders.specs.LiveOrders.{OrdersData, IsOpen, NumbersRise, at_rest, changed, is_used, open_ones, live_numbered, resized, resized_at, same_user_token, without}
 use Rattle.gx_orders.specs.Tables.{AreTied, shown}
 use Rattle.gx_orders.proofs.Kept.{IsBelow, all_changed, changed_alike, changed_nowhere, found_has_number, none_shut, shut}
 use Rattle.gx_orders.proofs.Tying.{tied_entered, tied_resized}
@@ -26,14 +26,14 @@ checked user token (Some o) = if is_under user token o then Some o else None
 -- what is under the token, by the number that was put with it
 abbrev pub under_by : List LiveOrder → UserName → Token → Option ℕ → Option LiveOrder
 under_by live user token None = None
-under_by live user token (Some n) = checked user token (order_numbered live n)
+under_by live user token (Some n) = checked user token (live_numbered live n)
 
 under_in : (live : List LiveOrder) (ts : List (UserToken × ℕ)) → AreTied live ts → (user : UserName) (token : Token) (found : Option ℕ)
     → lookup (same_user_token (key user token)) ts ≡ found → live_under live user token ≡ under_by live user token found
 under_in live ts t user token None at = nothing_under live ts user token t.all_indexed (λ n was. let no : None ≡ Some n = sym at ∙ was in cc)
 under_in live ts t user token (Some n) at =
-    ap (last_or None) (under_found live ts user token n t.all_indexed t.rise at (order_numbered live n) refl)
-    ∙ by (order_numbered live n)
+    ap (last_or None) (under_found live ts user token n t.all_indexed t.rise at (live_numbered live n) refl)
+    ∙ by (live_numbered live n)
   where
     by : (found : Option LiveOrder) → last_or None (elim found [ None ↦ [] | Some o ↦ if is_under user token o then o ∷ [] else [] ]) ≡ checked user token found
     by None = refl
@@ -44,7 +44,7 @@ pub under_now : (live : List LiveOrder) (ts : List (UserToken × ℕ)) → AreTi
 under_now live ts t now is user token found at = sym (under_in live ts t user token found at) ∙ ap (λ (d : OrdersData). live_under d.live user token) is
 
 -- an order written in its place
-pub written_is : (f : LiveOrder → LiveOrder) (n : ℕ) (o w : LiveOrder) (live : List LiveOrder) → NumbersRise live → order_numbered live n ≡ Some o → w ≡ f o → w.number ≡ o.number
+pub written_is : (f : LiveOrder → LiveOrder) (n : ℕ) (o w : LiveOrder) (live : List LiveOrder) → NumbersRise live → live_numbered live n ≡ Some o → w ≡ f o → w.number ≡ o.number
     → slabs.written w live ≡ open_ones (changed f n live)
 written_is f n o w live rise found is named =
     ap (λ (k : ℕ). open_ones (changed (λ (p : LiveOrder). w) k live)) (named ∙ found_has_number n live o found)
@@ -62,7 +62,7 @@ pub open_no_more : (n total done : ℕ) (live : List LiveOrder) → AllByRecursi
 open_no_more n total done live all shares_gone = shut (resized total done) n (λ (o : LiveOrder) e. le-ltb done total shares_gone) live all
 
 -- nothing changes where the number is not there
-pub nowhere : (f : LiveOrder → LiveOrder) (n : ℕ) (live : List LiveOrder) → AllByRecursion IsOpen live → order_numbered live n ≡ None → live ≡ open_ones (changed f n live)
+pub nowhere : (f : LiveOrder → LiveOrder) (n : ℕ) (live : List LiveOrder) → AllByRecursion IsOpen live → live_numbered live n ≡ None → live ≡ open_ones (changed f n live)
 nowhere f n live all none = sym (ap open_ones (changed_nowhere f n live none) ∙ none_shut live all)
 
 -- an order written with another size
@@ -70,7 +70,7 @@ pub record IsResized (live : List LiveOrder) (ts : List (UserToken × ℕ)) (o :
   pub sized : now ≡ resized_at o.number total done live
   pub tied : AreTied now ts
 
-pub is_resized : (live : List LiveOrder) (ts : List (UserToken × ℕ)) (o : LiveOrder) (total done : ℕ) (now : List LiveOrder) → AreTied live ts → order_numbered live o.number ≡ Some o
+pub is_resized : (live : List LiveOrder) (ts : List (UserToken × ℕ)) (o : LiveOrder) (total done : ℕ) (now : List LiveOrder) → AreTied live ts → live_numbered live o.number ≡ Some o
     → now ≡ slabs.written (resized total done o) live → IsResized live ts o total done now
 is_resized live ts o total done now t found is =
     let sized : now ≡ resized_at o.number total done live = is ∙ written_is (resized total done) o.number o (resized total done o) live t.rise found refl refl in
@@ -84,10 +84,10 @@ entered_tied live ts o t shares_open below new now tokens e k =
     (subst (λ (ks : List (UserToken × ℕ)). AreTied (live ++ o ∷ []) ks) (sym k) (tied_entered live ts o t shares_open below new))
 
 -- no order has a number that is above all
-pub none_above : (n : ℕ) (live : List LiveOrder) → AllByRecursion (IsBelow n) live → order_numbered live n ≡ None
+pub none_above : (n : ℕ) (live : List LiveOrder) → AllByRecursion (IsBelow n) live → live_numbered live n ≡ None
 none_above n [] below = refl
 none_above n (o ∷ os) below =
-    ap (λ (b : Bool). cond b (Some o) (order_numbered os n)) (ne_eqb o.number n (λ same. absurd (omega (arith, below.0)))) ∙ none_above n os below.1
+    ap (λ (b : Bool). cond b (Some o) (live_numbered os n)) (ne_eqb o.number n (λ same. absurd (omega (arith, below.0)))) ∙ none_above n os below.1
 
 pub tokens_are : (ts now : List (UserToken × ℕ)) (user : UserName) (token : Token) (v : ℕ) → is_used (keys_of ts) user token ≡ false
     → now ≡ index.insert_entry same_user_token ts (key user token) v → now ≡ ts ++ (key user token, v) ∷ []

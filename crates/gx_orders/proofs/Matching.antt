@@ -20,7 +20,7 @@ use Rattle.gx_effects.proofs.NewOrders.{found_is}
 use Rattle.gx_effects.proofs.Resting.{does_not_rest, first_lives}
 use Rattle.gx_effects.proofs.Known.{RestsThere, all_resting}
 use Rattle.gx_effects.proofs.Orderly.{legal_is_orderly}
-use Rattle.gx_orders.specs.LiveOrders.{HasOpen, filled, filled_at, has_number, is_open, open_ones, order_numbered, IsOpen}
+use Rattle.gx_orders.specs.LiveOrders.{HasOpen, filled, filled_at, has_number, is_open, open_ones, live_numbered, IsOpen}
 use Rattle.gx_orders.specs.Laws.{CanFill, FillsFit}
 
 -- a fill
@@ -78,24 +78,24 @@ pub differ : (m n : ℕ) → (m == n) ≡ false → m ≡ n → ⊥
 differ m n h e = clash (eq-eqb m n e) h
 
 -- an open order is found under its number once another has changed
-found_beside : (n m shares : ℕ) (live : List LiveOrder) (o : LiveOrder) → (m == n) ≡ false → is_open o ≡ true → order_numbered live n ≡ Some o → order_numbered (filled_at m shares live) n ≡ Some o
+found_beside : (n m shares : ℕ) (live : List LiveOrder) (o : LiveOrder) → (m == n) ≡ false → is_open o ≡ true → live_numbered live n ≡ Some o → live_numbered (filled_at m shares live) n ≡ Some o
 found_beside n m shares [] o other opens found = cc
 found_beside n m shares (p ∷ ps) o other opens found = at (p.number == n) (p.number == m) refl refl found (found_beside n m shares ps o other opens)
   where
     rest : List LiveOrder
     rest = filled_at m shares ps
 
-    passed : (x : LiveOrder) (b : Bool) → has_number n x ≡ false → order_numbered (cond b (x ∷ rest) rest) n ≡ order_numbered rest n
-    passed x true e = ap (λ (b : Bool). cond b (Some x) (order_numbered rest n)) e
+    passed : (x : LiveOrder) (b : Bool) → has_number n x ≡ false → live_numbered (cond b (x ∷ rest) rest) n ≡ live_numbered rest n
+    passed x true e = ap (λ (b : Bool). cond b (Some x) (live_numbered rest n)) e
     passed x false e = refl
 
-    at : (this that : Bool) → has_number n p ≡ this → has_number m p ≡ that → cond this (Some p) (order_numbered ps n) ≡ Some o → (order_numbered ps n ≡ Some o → order_numbered rest n ≡ Some o)
-        → order_numbered (cond (is_open (if that then filled shares p else p)) ((if that then filled shares p else p) ∷ rest) rest) n ≡ Some o
+    at : (this that : Bool) → has_number n p ≡ this → has_number m p ≡ that → cond this (Some p) (live_numbered ps n) ≡ Some o → (live_numbered ps n ≡ Some o → live_numbered rest n ≡ Some o)
+        → live_numbered (cond (is_open (if that then filled shares p else p)) ((if that then filled shares p else p) ∷ rest) rest) n ≡ Some o
     at true true e k is later = absurd (clash (eq-eqb m n (sym (eqb-true p.number m k) ∙ eqb-true p.number n e)) other)
     at true false e k is later =
         let it : p ≡ o = some_same is in
-        ap (λ (b : Bool). order_numbered (cond b (p ∷ rest) rest) n) (ap is_open it ∙ opens)
-        ∙ ap (λ (b : Bool). cond b (Some p) (order_numbered rest n)) e
+        ap (λ (b : Bool). live_numbered (cond b (p ∷ rest) rest) n) (ap is_open it ∙ opens)
+        ∙ ap (λ (b : Bool). cond b (Some p) (live_numbered rest n)) e
         ∙ is
     at false true e k is later = passed (filled shares p) (is_open (filled shares p)) e ∙ later is
     at false false e k is later = passed p (is_open p) e ∙ later is
@@ -117,9 +117,9 @@ fills_fit policy history handed r f legal left fills = fit (may_by policy histor
         (subst (AllByRecursion (RestsThere policy history taker.terms.stock (not (is_buy taker.terms.side)))) is.is_best (all_resting policy history taker.terms.stock (not (is_buy taker.terms.side)) (legal_is_orderly policy history legal))).0 in
         let taker_is : f.taker ≡ taker.number = ap (λ (x : Fill). x.taker) is.is_theirs in
         let maker_is : f.maker ≡ maker.number = ap (λ (x : Fill). x.maker) is.is_theirs in
-        let taker_there : order_numbered now f.taker ≡ Some taker = ap (order_numbered now) taker_is ∙ (first_lives policy history taker is.waiting legal is.comes_first).0.found in
-        let maker_there : order_numbered now f.maker ≡ Some maker = ap (order_numbered now) maker_is ∙ best.known.is_found in
-        let opens : (n : ℕ) (o : LiveOrder) → order_numbered now n ≡ Some o → IsOpen o = λ n o found. found_is IsOpen (has_number n) now o (live_have_open policy history) found in
+        let taker_there : live_numbered now f.taker ≡ Some taker = ap (live_numbered now) taker_is ∙ (first_lives policy history taker is.waiting legal is.comes_first).0.found in
+        let maker_there : live_numbered now f.maker ≡ Some maker = ap (live_numbered now) maker_is ∙ best.known.is_found in
+        let opens : (n : ℕ) (o : LiveOrder) → live_numbered now n ≡ Some o → IsOpen o = λ n o found. found_is IsOpen (has_number n) now o (live_have_open policy history) found in
         let they_differ : (f.taker == f.maker) ≡ false = ne_eqb f.taker f.maker (λ same. does_not_rest policy history taker is.waiting legal is.comes_first maker best.known.is_found best.rests (sym maker_is ∙ sym same ∙ taker_is)) in
         let room : (o : LiveOrder) → f.shares ≤ shares_open o → IsOpen o → HasOpen f.shares o = λ o few some. room_of f.shares o.total o.done few some in
         let few : f.shares ≡ min (shares_open taker) (shares_open maker) = ap (λ (x : Fill). x.shares) is.is_theirs in

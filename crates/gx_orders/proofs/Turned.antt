@@ -3,7 +3,8 @@ use Rattle.std.proofs.Common.{◌≡◌, ℕ, ◌+◌, ◌<◌, Bool, true, fals
 use Rattle.std.specs.Prelude.{Option, Some, None, ◌||◌, ◌==◌, option_map}
 use Rattle.std.specs.Option.{option_map_or}
 use Rattle.std.specs.List.{AllByRecursion, cons_option, filter, filter_map}
-use Rattle.std.proofs.lemmas.Bool.{eq-eqb, eqb-true, ne_eqb, lt-ltb}
+use Rattle.std.specs.Cmp.{nat_eq_equiv}
+use Rattle.std.proofs.lemmas.Bool.{ne_eqb, lt-ltb}
 use Rattle.std.proofs.lemmas.List.{append-nil}
 use Rattle.std.proofs.lemmas.List.Elements.{filter-append}
 use Rattle.gx_units.specs.Names.{same_token, same_user}
@@ -40,7 +41,7 @@ use Rattle.gx_effects.proofs.Commanding.{command_of}
 use Rattle.gx_orders.proofs.Matching.{differ, fills_fit, in_turn}
 use Rattle.gx_effects.proofs.Live.{live_next}
 use Rattle.gx_effects.proofs.OrderRequests.{Grants, it_grants}
-use Rattle.gx_effects.proofs.World.{all_stay}
+use Rattle.gx_effects.proofs.World.{all_stay, those_go}
 use Rattle.gx_orders.specs.Changes.{is_lasting, keeps_orders, with_live}
 use Rattle.gx_orders.specs.InForce.{orders_in_force}
 use Rattle.gx_orders.specs.Laws.{CancelsAreKept, ClosesAreKept, EntersAreKept, ExpiriesAreKept, FillsAreKept, KillsAreKept, OthersKeepOrders, ReplacesAreKept, RestsAreKept}
@@ -48,14 +49,6 @@ use Rattle.gx_orders.specs.LiveOrders.{at_rest, filled, has_number, is_open, ope
 use Rattle.gx_orders.proofs.Staying.{data_is, live_within, no_verdict_uses, token_granted, used_stay, used_then}
 
 -- one lemma a word: what becomes of each, as a list
-those_go : (goes : LiveOrder → Bool) (os : List LiveOrder) → filter_map (λ (o : LiveOrder). cond (goes o) None (Some o)) os ≡ filter (λ (o : LiveOrder). not (goes o)) os
-those_go goes [] = refl
-those_go goes (o ∷ os) = ap (cons_option (cond (goes o) None (Some o))) (those_go goes os) ∙ at (goes o)
-  where
-    at : (b : Bool) → cons_option (cond b None (Some o)) (filter (λ (o : LiveOrder). not (goes o)) os) ≡ cond (not b) (o ∷ filter (λ (o : LiveOrder). not (goes o)) os) (filter (λ (o : LiveOrder). not (goes o)) os)
-    at true = refl
-    at false = refl
-
 those_change : (changes : LiveOrder → Bool) (change : LiveOrder → LiveOrder) (os : List LiveOrder) → AllByRecursion IsOpen os
     → filter_map (λ (o : LiveOrder). cond (changes o) (while_open (change o)) (Some o)) os ≡ open_ones (map (λ (o : LiveOrder). cond (changes o) (change o) o) os)
 those_change changes change [] h = refl
@@ -78,7 +71,7 @@ all_change f (o ∷ os) = ap (λ (more : List LiveOrder). f o ∷ more) (all_cha
 
 -- the live orders that are kept, after a record that does this
 live_turned : (policy : PolicyData) (history : List RecordData) (step : Step) (r : RecordData) (turn : Turn) → IsLegal policy history → next policy history step ≡ Some r → turn_of policy (world policy history) r ≡ turn
-    → (orders_in_force policy (history ++ r ∷ [])).live ≡ turned turn (orders_in_force policy history).live
+    → (orders_in_force policy (history ++ r ∷ [])).live ≡ turned turn (live policy history)
 live_turned policy history step r turn legal left is =
     live_next policy history step r legal left ∙ ap (λ (t : Turn). turned t (live policy history)) is
 
@@ -96,19 +89,19 @@ enters_more policy history a r m account legal left enters grants his =
     data_is _ _
     (live_turned policy history (steps.Asked a) r (turns.Adds (new_order policy r a.user account m)) legal left
     (turn_is policy history r a (requests.Enter m) g ∙ ap (λ (found : Option AccountName). turn_in (option_map_or (λ (x : AccountName). moves.Adds (new_order policy r a.user x m)) found moves.Nothing)) his)
-    ∙ ap (λ (os : List LiveOrder). os ++ new_order policy r a.user account m ∷ []) (all_stay (orders_in_force policy history).live))
+    ∙ ap (λ (os : List LiveOrder). os ++ new_order policy r a.user account m ∷ []) (all_stay (live policy history)))
     (used_then history r _ (token_granted r a (requests.Enter m) g))
 
 -- a granted command
 command_ends : (policy : PolicyData) (history : List RecordData) (a : Asked) (r : RecordData) (action : Action) → IsLegal policy history → next policy history (steps.Asked a) ≡ Some r → action_of a.request ≡ Some action → r.verdict ≡ verdicts.Granted
-    → orders_in_force policy (history ++ r ∷ []) ≡ with_live (filter (λ (o : LiveOrder). not (ends_account o.account action)) (orders_in_force policy history).live) (orders_in_force policy history)
+    → orders_in_force policy (history ++ r ∷ []) ≡ with_live (filter (λ (o : LiveOrder). not (ends_account o.account action)) (live policy history)) (orders_in_force policy history)
 command_ends policy history a r action legal left commands grants =
     let c : (c : Command) × (a.request ≡ requests.Command c) × (c.action ≡ action) = command_of a.request action commands in
     let g : Grants r a (requests.Command c.0) = it_grants policy history a r (requests.Command c.0) left c.1 grants in
     data_is _ _
     (live_turned policy history (steps.Asked a) r (turns.EndsAll action) legal left (turn_is policy history r a (requests.Command c.0) g ∙ ap turns.EndsAll c.2)
     ∙ append-nil _
-    ∙ those_go (λ (o : LiveOrder). ends_account o.account action) (orders_in_force policy history).live)
+    ∙ those_go (λ (o : LiveOrder). ends_account o.account action) (live policy history))
     (used_stay history r (token_granted r a (requests.Command c.0) g))
 
 pub kills_end : KillsAreKept
@@ -121,7 +114,7 @@ none_left (o ∷ os) = none_left os
 pub closes_end : ClosesAreKept
 closes_end policy history a r legal left closes grants =
     command_ends policy history a r actions.CloseDay legal left closes grants
-    ∙ ap (λ (live : List LiveOrder). with_live live (orders_in_force policy history)) (none_left (orders_in_force policy history).live)
+    ∙ ap (λ (live : List LiveOrder). with_live live (orders_in_force policy history)) (none_left (live policy history))
 
 -- a granted Cancel
 pub cuts_one : CancelsAreKept
@@ -132,7 +125,7 @@ cuts_one policy history a r m o legal left cancels grants named =
     (turn_is policy history r a (requests.Cancel m) g
     ∙ ap (λ (found : Option LiveOrder). turn_in (option_map_or (λ (cut : LiveOrder). moves.Sizes cut m.shares) found moves.Nothing)) named)
     ∙ append-nil _
-    ∙ those_change (has_number o.number) (sized m.shares) (orders_in_force policy history).live (live_have_open policy history))
+    ∙ those_change (has_number o.number) (sized m.shares) (live policy history) (live_have_open policy history))
     (used_stay history r (token_granted r a (requests.Cancel m) g))
 
 -- an order of another number that is entered first stays
@@ -145,7 +138,7 @@ pub replaces_one : ReplacesAreKept
 replaces_one policy history a r m o legal left replaces grants named =
     let g : Grants r a (requests.Replace m) = it_grants policy history a r (requests.Replace m) left replaces grants in
     let place : r.number ≡ length history + 1 = number_left policy history (steps.Asked a) r left in
-    let live_now : List LiveOrder = (orders_in_force policy history).live in
+    let live_now : List LiveOrder = live policy history in
     let below : o.number < r.number = last_such_is (λ (x : LiveOrder). x.number < r.number) (is_under a.user m.existing_token) live_now o (live_within policy history r.number legal place) named in
     let his : o.user ≡ a.user = user_is o.user a.user (both (same_user o.user a.user) (same_token o.token m.existing_token) (found_passes (is_under a.user m.existing_token) live_now o named)).0 in
     data_is _ _
@@ -157,29 +150,14 @@ replaces_one policy history a r m o legal left replaces grants named =
     (used_then history r _ (token_granted r a (requests.Replace m) g)
     ∙ ap (λ (user : UserName). (orders_in_force policy history).used ++ key user m.replacement_token ∷ []) (sym his))
 
-flipped : (a b : ℕ) → (a == b) ≡ (b == a)
-flipped a b = by (a == b) refl
-  where
-    clash : {x : Bool} → x ≡ true → x ≡ false → ⊥
-    clash h k = cc
-
-    by : (c : Bool) → (a == b) ≡ c → (a == b) ≡ (b == a)
-    by true e = e ∙ sym (eq-eqb b a (sym (eqb-true a b e)))
-    by false e = e ∙ sym (ne_eqb b a (λ same. clash (eq-eqb a b (sym same)) e))
-
--- the same test, the other way round
-becomes_alike : (f g : LiveOrder → Option LiveOrder) → ((o : LiveOrder) → f o ≡ g o) → (os : List LiveOrder) → filter_map f os ≡ filter_map g os
-becomes_alike f g same [] = refl
-becomes_alike f g same (o ∷ os) = ap (λ (x : Option LiveOrder). cons_option x (filter_map f os)) (same o) ∙ ap (cons_option (g o)) (becomes_alike f g same os)
-
 -- a matching step
 pub rests_one : RestsAreKept
 rests_one policy history handed r number legal next_is rests =
     data_is _ _
     (live_turned policy history (steps.Matching handed) r (turns.Rests number) legal next_is (ap (λ (v : Verdict). turn_by policy (world policy history) r v r.step) rests)
     ∙ append-nil _
-    ∙ becomes_alike (becomes (turns.Rests number)) (λ (o : LiveOrder). Some (cond (has_number number o) (at_rest o) o)) (λ o. ap (λ (b : Bool). Some (cond b (at_rest o) o)) (flipped number o.number)) (orders_in_force policy history).live
-    ∙ all_change (λ (o : LiveOrder). cond (has_number number o) (at_rest o) o) (orders_in_force policy history).live)
+    ∙ (λ i. filter_map (λ (o : LiveOrder). Some (cond (nat_eq_equiv.symm number o.number i) (at_rest o) o)) (live policy history))
+    ∙ all_change (λ (o : LiveOrder). cond (has_number number o) (at_rest o) o) (live policy history))
     (used_stay history r (no_verdict_uses r (ap uses_token rests)))
 
 pub ends_one : ExpiriesAreKept
@@ -187,14 +165,14 @@ ends_one policy history handed r number legal next_is expires =
     data_is _ _
     (live_turned policy history (steps.Matching handed) r (turns.Ends number) legal next_is (ap (λ (v : Verdict). turn_by policy (world policy history) r v r.step) expires)
     ∙ append-nil _
-    ∙ becomes_alike (becomes (turns.Ends number)) (λ (o : LiveOrder). cond (has_number number o) None (Some o)) (λ o. ap (λ (b : Bool). cond {A = Option LiveOrder} b None (Some o)) (flipped number o.number)) (orders_in_force policy history).live
-    ∙ those_go (has_number number) (orders_in_force policy history).live)
+    ∙ (λ i. filter_map (λ (o : LiveOrder). cond (nat_eq_equiv.symm number o.number i) None (Some o)) (live policy history))
+    ∙ those_go (has_number number) (live policy history))
     (used_stay history r (no_verdict_uses r (ap uses_token expires)))
 
 -- what changes nothing
 live_stays : (policy : PolicyData) (history : List RecordData) (step : Step) (r : RecordData) → IsLegal policy history → next policy history step ≡ Some r → turn_of policy (world policy history) r ≡ turns.Keeps
-    → (orders_in_force policy (history ++ r ∷ [])).live ≡ (orders_in_force policy history).live
-live_stays policy history step r legal left is = live_turned policy history step r turns.Keeps legal left is ∙ append-nil _ ∙ all_stay (orders_in_force policy history).live
+    → (orders_in_force policy (history ++ r ∷ [])).live ≡ live policy history
+live_stays policy history step r legal left is = live_turned policy history step r turns.Keeps legal left is ∙ append-nil _ ∙ all_stay (live policy history)
 
 lasts : (account : AccountName) (action : Action) → is_lasting action ≡ true → ends_account account action ≡ false
 lasts account (actions.Kill killed) h = cc
@@ -230,7 +208,7 @@ others_keep policy history a r legal left grants keeps = by a.request refl keeps
     by (requests.Cancel m) asks h = cc
     by (requests.Command c) asks h =
         command_ends policy history a r c.action legal left (ap action_of asks) grants
-        ∙ ap (λ (live : List LiveOrder). with_live live (orders_in_force policy history)) (all_left c.action h (orders_in_force policy history).live)
+        ∙ ap (λ (live : List LiveOrder). with_live live (orders_in_force policy history)) (all_left c.action h (live policy history))
 
 -- a fill: first the taker, then the maker
 pub fills_both : FillsAreKept
@@ -238,6 +216,6 @@ fills_both policy history handed r f legal next_is fills =
     data_is _ _
     (live_turned policy history (steps.Matching handed) r (turns.Fills f) legal next_is (ap (λ (v : Verdict). turn_by policy (world policy history) r v r.step) fills)
     ∙ append-nil _
-    ∙ those_change (λ (o : LiveOrder). o.number == f.taker || o.number == f.maker) (filled f.shares) (orders_in_force policy history).live (live_have_open policy history)
-    ∙ in_turn f (differ f.taker f.maker (fills_fit policy history handed r f legal next_is fills).sides_differ) (orders_in_force policy history).live)
+    ∙ those_change (λ (o : LiveOrder). o.number == f.taker || o.number == f.maker) (filled f.shares) (live policy history) (live_have_open policy history)
+    ∙ in_turn f (differ f.taker f.maker (fills_fit policy history handed r f legal next_is fills).sides_differ) (live policy history))
     (used_stay history r (no_verdict_uses r (ap uses_token fills)))

@@ -22,9 +22,9 @@ use Rattle.gx_history.specs.Requests.{action_of}
 use Rattle.gx_history.specs.Verdicts.{next, verdict, IsLegal}
 use Rattle.gx_history.specs.declared.live_order.LiveOrder.{LiveOrder}
 use Rattle.gx_history.specs.LiveOrders.{replacement_order}
-use Rattle.gx_history.specs.Live.{live_under}
+use Rattle.gx_history.specs.Live.{live_under, live}
 use Rattle.gx_history.specs.Turns.{new_order}
-use Rattle.gx_orders.specs.LiveOrders.{OrdersData, AreBelow, HasOpen, at_rest, changed, cut_at, filled_at, is_used, of_others, order_numbered, without}
+use Rattle.gx_orders.specs.LiveOrders.{OrdersData, AreBelow, HasOpen, at_rest, changed, cut_at, filled_at, is_used, of_others, live_numbered, without}
 use Rattle.gx_orders.specs.InForce.{orders_in_force}
 use Rattle.gx_orders.specs.Changes.{denied_token, entering, keeps_orders, marking, with_live}
 
@@ -40,7 +40,7 @@ UsedTokensAreKept = (policy : PolicyData) (history : List RecordData) (user : Us
 -- a live order is for the account that its user trades for
 abbrev pub AccountsAreTheUsers : Type 0
 AccountsAreTheUsers = (policy : PolicyData) (history : List RecordData)
-    → AllByRecursion (λ (o : LiveOrder). account_of policy o.user ≡ Some o.account) (orders_in_force policy history).live
+    → AllByRecursion (λ (o : LiveOrder). account_of policy o.user ≡ Some o.account) (live policy history)
 
 -- a denial changes no live order, and uses the new token where its rule is one that is answered
 abbrev pub DenialsKeepOrders : Type 0
@@ -87,7 +87,7 @@ EntersAreNew = (policy : PolicyData) (history : List RecordData) (a : Asked) (m 
 abbrev pub KillsAreKept : Type 0
 KillsAreKept = (policy : PolicyData) (history : List RecordData) (a : Asked) (r : RecordData) (account : AccountName)
     → IsLegal policy history → next policy history (steps.Asked a) ≡ Some r → action_of a.request ≡ Some (actions.Kill account) → r.verdict ≡ verdicts.Granted
-    → orders_in_force policy (history ++ r ∷ []) ≡ with_live (of_others account (orders_in_force policy history).live) (orders_in_force policy history)
+    → orders_in_force policy (history ++ r ∷ []) ≡ with_live (of_others account (live policy history)) (orders_in_force policy history)
 
 -- a granted Close Day ends all orders
 abbrev pub ClosesAreKept : Type 0
@@ -99,27 +99,27 @@ ClosesAreKept = (policy : PolicyData) (history : List RecordData) (a : Asked) (r
 abbrev pub CancelsAreKept : Type 0
 CancelsAreKept = (policy : PolicyData) (history : List RecordData) (a : Asked) (r : RecordData) (m : CancelOrder) (o : LiveOrder)
     → IsLegal policy history → next policy history (steps.Asked a) ≡ Some r → a.request ≡ requests.Cancel m → r.verdict ≡ verdicts.Granted
-    → live_under (orders_in_force policy history).live a.user m.token ≡ Some o
-    → orders_in_force policy (history ++ r ∷ []) ≡ with_live (cut_at o.number m.shares (orders_in_force policy history).live) (orders_in_force policy history)
+    → live_under (live policy history) a.user m.token ≡ Some o
+    → orders_in_force policy (history ++ r ∷ []) ≡ with_live (cut_at o.number m.shares (live policy history)) (orders_in_force policy history)
 
 -- and it names one
 abbrev pub CancelsNameOne : Type 0
 CancelsNameOne = (policy : PolicyData) (history : List RecordData) (a : Asked) (m : CancelOrder)
     → IsLegal policy history → a.request ≡ requests.Cancel m → verdict policy history a ≡ verdicts.Granted
-    → IsTrue (is_some (live_under (orders_in_force policy history).live a.user m.token))
+    → IsTrue (is_some (live_under (live policy history) a.user m.token))
 
 -- a granted Replace enters its own order, the last of those that wait, and ends the one that it names
 abbrev pub ReplacesAreKept : Type 0
 ReplacesAreKept = (policy : PolicyData) (history : List RecordData) (a : Asked) (r : RecordData) (m : ReplaceOrder) (o : LiveOrder)
     → IsLegal policy history → next policy history (steps.Asked a) ≡ Some r → a.request ≡ requests.Replace m → r.verdict ≡ verdicts.Granted
-    → live_under (orders_in_force policy history).live a.user m.existing_token ≡ Some o
+    → live_under (live policy history) a.user m.existing_token ≡ Some o
     → orders_in_force policy (history ++ r ∷ [])
-    ≡ with_live (without o.number ((orders_in_force policy history).live ++ replacement_order r m o ∷ [])) (entering (replacement_order r m o) (orders_in_force policy history))
+    ≡ with_live (without o.number ((live policy history) ++ replacement_order r m o ∷ [])) (entering (replacement_order r m o) (orders_in_force policy history))
 
 -- the order that a granted Replace names is live and has executed less than the new size, and the new one is new
 pub record CanReplace (policy : PolicyData) (history : List RecordData) (user : UserName) (m : ReplaceOrder) : Type 0 where
-  pub names_one : IsTrue (is_some (live_under (orders_in_force policy history).live user m.existing_token))
-  pub has_shares : IfSome (live_under (orders_in_force policy history).live user m.existing_token) (λ (o : LiveOrder). o.done < m.shares)
+  pub names_one : IsTrue (is_some (live_under (live policy history) user m.existing_token))
+  pub has_shares : IfSome (live_under (live policy history) user m.existing_token) (λ (o : LiveOrder). o.done < m.shares)
   pub is_new : IsNew history (orders_in_force policy history) user m.replacement_token
 
 abbrev pub ReplacesAreNew : Type 0
@@ -132,29 +132,29 @@ abbrev pub FillsAreKept : Type 0
 FillsAreKept = (policy : PolicyData) (history : List RecordData) (handed : ℕ) (r : RecordData) (f : Fill)
     → IsLegal policy history → next policy history (steps.Matching handed) ≡ Some r → r.verdict ≡ verdicts.Filled f
     → orders_in_force policy (history ++ r ∷ [])
-    ≡ with_live (filled_at f.maker f.shares (filled_at f.taker f.shares (orders_in_force policy history).live)) (orders_in_force policy history)
+    ≡ with_live (filled_at f.maker f.shares (filled_at f.taker f.shares (live policy history))) (orders_in_force policy history)
 
 -- each side of a fill is there and has its shares open, the maker also once the taker has executed them
 pub record CanFill (live : List LiveOrder) (f : Fill) : Type 0 where
   pub sides_differ : IsFalse (f.taker == f.maker)
-  pub taker_lives : IsTrue (is_some (order_numbered live f.taker))
-  pub maker_lives : IsTrue (is_some (order_numbered live f.maker))
-  pub taker_has_them : IfSome (order_numbered live f.taker) (HasOpen f.shares)
-  pub maker_has_them : IfSome (order_numbered (filled_at f.taker f.shares live) f.maker) (HasOpen f.shares)
+  pub taker_lives : IsTrue (is_some (live_numbered live f.taker))
+  pub maker_lives : IsTrue (is_some (live_numbered live f.maker))
+  pub taker_has_them : IfSome (live_numbered live f.taker) (HasOpen f.shares)
+  pub maker_has_them : IfSome (live_numbered (filled_at f.taker f.shares live) f.maker) (HasOpen f.shares)
 
 abbrev pub FillsFit : Type 0
 FillsFit = (policy : PolicyData) (history : List RecordData) (handed : ℕ) (r : RecordData) (f : Fill)
     → IsLegal policy history → next policy history (steps.Matching handed) ≡ Some r → r.verdict ≡ verdicts.Filled f
-    → CanFill (orders_in_force policy history).live f
+    → CanFill (live policy history) f
 
 -- an order that comes to rest waits no more
 abbrev pub RestsAreKept : Type 0
 RestsAreKept = (policy : PolicyData) (history : List RecordData) (handed : ℕ) (r : RecordData) (number : ℕ)
     → IsLegal policy history → next policy history (steps.Matching handed) ≡ Some r → r.verdict ≡ verdicts.Rested number
-    → orders_in_force policy (history ++ r ∷ []) ≡ with_live (changed at_rest number (orders_in_force policy history).live) (orders_in_force policy history)
+    → orders_in_force policy (history ++ r ∷ []) ≡ with_live (changed at_rest number (live policy history)) (orders_in_force policy history)
 
 -- an order that expires is gone
 abbrev pub ExpiriesAreKept : Type 0
 ExpiriesAreKept = (policy : PolicyData) (history : List RecordData) (handed : ℕ) (r : RecordData) (number : ℕ)
     → IsLegal policy history → next policy history (steps.Matching handed) ≡ Some r → r.verdict ≡ verdicts.Expired number
-    → orders_in_force policy (history ++ r ∷ []) ≡ with_live (without number (orders_in_force policy history).live) (orders_in_force policy history)
+    → orders_in_force policy (history ++ r ∷ []) ≡ with_live (without number (live policy history)) (orders_in_force policy history)

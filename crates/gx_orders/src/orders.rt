@@ -5,7 +5,7 @@ ghost use Rattle.std.specs.List.{filter};
 ghost use Rattle.gx_history.specs.LiveOrders.{key, token_of};
 ghost use Rattle.gx_history.specs.Live.{live_under};
 ghost use Rattle.gx_orders.specs.Changes.{IsUnused, marked_by};
-ghost use Rattle.gx_orders.specs.LiveOrders.{AreBelow, AreSound, HasOpen, at_rest, changed, cut_at, filled_at, first_waiting, is_of_user, is_used, of_others, order_numbered, resized_at, without};
+ghost use Rattle.gx_orders.specs.LiveOrders.{AreBelow, AreSound, HasOpen, at_rest, changed, cut_at, filled_at, first_waiting, is_of_user, is_used, of_others, live_numbered, resized_at, without};
 
 use crate::counts::{count_in, count_no_more, count_one_less, count_one_more};
 use crate::request_tokens::denied_token;
@@ -73,7 +73,7 @@ impl Orders {
 
     /// The live order of this number.
     pub fn numbered(&self, number: u64) -> Option<LiveOrder>
-        ensures found { result ≡ order_numbered self.now.live number }
+        ensures found { result ≡ live_numbered self.now.live number }
         ensures sound { AreSound self.now }
     {
         self.table.get(number).copied()
@@ -173,7 +173,7 @@ impl Orders {
 
     /// Writes the order with this size, and so many shares executed.
     fn resize(&mut self, order: LiveOrder, total: u32, done: u32)
-        requires there { order_numbered self.old.live order.number ≡ Some order }
+        requires there { live_numbered self.old.live order.number ≡ Some order }
         requires sound { AreSound self.old }
         ensures live { self.new.live ≡ resized_at order.number total done self.old.live }
         ensures used { self.new.used ≡ self.old.used }
@@ -191,7 +191,7 @@ impl Orders {
 
     /// So many shares of the order of this number are executed; it is gone where none is open then. It takes no memory.
     pub fn fill(&mut self, number: u64, shares: u32)
-        requires { IfSome (order_numbered self.old.live number) (HasOpen shares) }
+        requires { IfSome (live_numbered self.old.live number) (HasOpen shares) }
         ensures live { self.new.live ≡ filled_at number shares self.old.live }
         ensures used { self.new.used ≡ self.old.used }
     {

@@ -21,7 +21,7 @@ use Rattle.gx_effects.proofs.Among.{all_and}
 use Rattle.gx_effects.proofs.Entered.{all_found_of}
 use Rattle.gx_effects.proofs.NewOrders.{found_is}
 use Rattle.gx_effects.proofs.Sides.{becomes_same}
-use Rattle.gx_positions.specs.Sound.{IsNoLater, IsThere, MayChange, MayFill, NeverFall, numbers_of}
+use Rattle.gx_positions.specs.Sound.{IsNoLater, IsThere, MayChange, MayCome, MayFill, NeverFall, numbers_of}
 use Rattle.gx_positions.proofs.Sums.{IsNoMore, none_gains}
 
 -- few shares open and a low price
@@ -37,16 +37,17 @@ pub never_fall_next : (os : List Order) (o : Order) → NeverFall os → AllByRe
 never_fall_next [] o h k = (tt, tt)
 never_fall_next (x ∷ os) o h k = (all_both (λ (later : Order). IsNoLater later x) os (o ∷ []) h.0 (k.0, tt), never_fall_next os o h.1 k.1)
 
--- an order that comes new
-new_small : (policy : PolicyData) (held : Positions) (turn : Turn) (granted : List Order) → MayChange policy held turn granted → AllByRecursion IsSmall (new_in turn)
-new_small policy held Keeps granted may = tt
-new_small policy held (Adds new) granted may = let few = may.is_small in ((omega (arith, few), may.is_cheap), tt)
-new_small policy held (Sizes number size) granted may = tt
-new_small policy held (Replaces number new) granted may = let few = may.may_come.is_small in ((omega (arith, few), may.may_come.is_cheap), tt)
-new_small policy held (EndsAll action) granted may = tt
-new_small policy held (Fills f) granted may = tt
-new_small policy held (Rests number) granted may = tt
-new_small policy held (Ends number) granted may = tt
+-- what holds of an order that may come holds of each that comes new
+pub new_ones : (P : LiveOrder → Type 0) (policy : PolicyData) (held : Positions) (granted : List Order) → ((new : LiveOrder) → MayCome policy held new granted → P new) → (turn : Turn) → MayChange policy held turn granted
+    → AllByRecursion P (new_in turn)
+new_ones P policy held granted each Keeps may = tt
+new_ones P policy held granted each (Adds new) may = (each new may, tt)
+new_ones P policy held granted each (Sizes number size) may = tt
+new_ones P policy held granted each (Replaces number new) may = (each new may.may_come, tt)
+new_ones P policy held granted each (EndsAll action) may = tt
+new_ones P policy held granted each (Fills f) may = tt
+new_ones P policy held granted each (Rests number) may = tt
+new_ones P policy held granted each (Ends number) may = tt
 
 -- live orders are small then
 pub live_then : (policy : PolicyData) (held : Positions) (turn : Turn) (granted : List Order) → IsDistinct nat_eq (numbers_of held.live) → MayChange policy held turn granted → AllByRecursion IsSmall held.live
@@ -55,8 +56,11 @@ live_then policy held turn granted distinct may small =
     all_both IsSmall (filter_map (becomes turn) held.live) (new_in turn)
     (all_found_of (λ (x : LiveOrder). IsNoMore turn x × IsSmall x) IsSmall (becomes turn) (λ x o h e. goes_on x o h.0 h.1 e) held.live
     (all_and (IsNoMore turn) IsSmall held.live (none_gains policy held turn granted distinct may) small))
-    (new_small policy held turn granted may)
+    (new_ones IsSmall policy held granted comes_small turn may)
   where
+    comes_small : (new : LiveOrder) → MayCome policy held new granted → IsSmall new
+    comes_small new come = let few = come.is_small in (omega (arith, few), come.is_cheap)
+
     goes_on : (x o : LiveOrder) → IsNoMore turn x → IsSmall x → becomes turn x ≡ Some o → IsSmall o
     goes_on x o less was e =
         let same = ap (λ found. option_map_or shares_open found 0) e in

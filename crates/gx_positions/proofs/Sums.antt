@@ -364,9 +364,9 @@ module _ {figure : List LiveOrder → ℕ} {chosen : AccountName → OrderTerms 
       omega (arith, fall, parts, first, second)
 
   -- where each order has as much open, nothing falls
-  pub stays_by : (turn : Turn) (os : List LiveOrder) → AllByRecursion (λ (x : LiveOrder). left_by turn x ≡ shares_open x) os → figure (filter_map (becomes turn) os) ≡ figure os
+  pub stays_by : (turn : Turn) (os : List LiveOrder) → ((x : LiveOrder) → left_by turn x ≡ shares_open x) → figure (filter_map (becomes turn) os) ≡ figure os
   stays_by turn os same =
-      let fall = falls_by turn (λ x. 0) os (all_weaker (λ (x : LiveOrder). left_by turn x ≡ shares_open x) (λ (x : LiveOrder). left_by turn x + 0 ≡ shares_open x) (λ x h. omega (arith, h)) os same) in
+      let fall = falls_by turn (λ x. 0) os (every (λ (x : LiveOrder). left_by turn x + 0 ≡ shares_open x) (λ x. let h = same x in omega (arith, h)) os) in
       let none = (λ i. sum_where (is_chosen chosen) (λ x. weighs_nothing x.terms.price i) os) ∙ nothing_of (is_chosen chosen) os in
       omega (arith, fall, none)
 

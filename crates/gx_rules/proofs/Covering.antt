@@ -21,10 +21,11 @@ use Rattle.gx_policy.specs.declared.rule_name.RuleName.{RuleName}
 use Rattle.gx_policy.specs.declared.rule_name.RuleName.TheVariants.{File}
 use Rattle.gx_policy.specs.People.{covers}
 use Rattle.gx_history.specs.Rules.{figured, figured_from, first_file_rule, kind_forbids, of_proposed, proposed, rule_forbids}
+use Rattle.gx_history_laws.proofs.Granting.{left_false, right_false}
 use Rattle.gx_rules.specs.declared.book_rule.BookRule.{BookRule}
 use Rattle.gx_rules.specs.Books.{kind_of, rule_named, rules_of}
 use Rattle.gx_rules.specs.Places.{accounts_differ, covering, covering_from, forbids_at, named_at, places_of}
-use Rattle.gx_rules.proofs.Keeping.{left_false, none_before, right_false}
+use Rattle.gx_rules.proofs.Keeping.{none_before}
 
 -- the place of one more rule
 pub covering-more : (account : AccountName) (place : ℕ) (rules : List FileRule) (i : ℕ) (d : FileRule) → i < length rules

@@ -11,16 +11,9 @@ use Rattle.gx_units.specs.declared.names.Symbol.{Symbol}
 use Rattle.gx_policy.specs.declared.policy.FileRule.{FileRule}
 use Rattle.gx_history.specs.InForce.{adding, lists_stock, removing}
 use Rattle.gx_policy.specs.Lists.{are_distinct}
+use Rattle.gx_history_laws.proofs.Granting.{left_false, right_false}
 use Rattle.gx_rules.specs.declared.book_rule.BookRule.{BookRule}
 use Rattle.gx_rules.specs.Books.{names_differ, rule_named, rules_of}
-
-pub left_false : (a b : Bool) → (a || b) ≡ false → a ≡ false
-left_false true b h = h
-left_false false b h = refl
-
-pub right_false : (a b : Bool) → (a || b) ≡ false → b ≡ false
-right_false true b h = cc
-right_false false b h = h
 
 left_true : (a b : Bool) → (not a && b) ≡ true → a ≡ false
 left_true true b h = cc

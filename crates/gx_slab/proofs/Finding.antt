@@ -5,7 +5,7 @@ use Rattle.std.specs.List.{find, position, position_or_len}
 use Rattle.std.proofs.lemmas.Bool.{eqb-true, lt-ltb, le-ltb, ltb-false}
 use Rattle.std.proofs.lemmas.Option.{slice_get_within, slice_get_past}
 use Rattle.gx_history.specs.declared.live_order.LiveOrder.{LiveOrder}
-use Rattle.gx_slab.specs.Slabs.{IsPlaced, has_number, is_open, open_ones, order_numbered, stands_for}
+use Rattle.gx_slab.specs.Slabs.{IsPlaced, has_number, is_open, open_ones, live_numbered, stands_for}
 
 pub some_is : {X : Type 0} {x y : X} → Some x ≡ Some y → x ≡ y
 some_is {X} {x} h = ap (λ (o : Option X). elim o [ None ↦ x | Some z ↦ z ]) h
@@ -65,10 +65,10 @@ nowhere p xs false e h = ltb-false (position_or_len p xs) (length xs) e
 pub place_is : {X : Type 0} (p : X → Bool) (xs : List X) (i : ℕ) → position p xs ≡ Some i → position_or_len p xs ≡ i
 place_is p xs i at = position_at p xs i (nat_lt (position_or_len p xs) (length xs)) refl at
 
-pub found_at : (rows : List LiveOrder) (n i : ℕ) → position (stands_for n) rows ≡ Some i → slice_get rows i ≡ order_numbered (open_ones rows) n
+pub found_at : (rows : List LiveOrder) (n i : ℕ) → position (stands_for n) rows ≡ Some i → slice_get rows i ≡ live_numbered (open_ones rows) n
 found_at rows n i at = ap (slice_get rows) (sym (place_is (stands_for n) rows i at)) ∙ found_first (stands_for n) rows ∙ found_open (has_number n) rows
 
-pub found_nowhere : (rows : List LiveOrder) (n : ℕ) → position (stands_for n) rows ≡ None → order_numbered (open_ones rows) n ≡ None
+pub found_nowhere : (rows : List LiveOrder) (n : ℕ) → position (stands_for n) rows ≡ None → live_numbered (open_ones rows) n ≡ None
 found_nowhere rows n at =
     sym (found_first (stands_for n) rows ∙ found_open (has_number n) rows)
     ∙ slice_get_past rows (position_or_len (stands_for n) rows) (nowhere (stands_for n) rows (nat_lt (position_or_len (stands_for n) rows) (length rows)) refl at)

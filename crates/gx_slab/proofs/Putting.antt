@@ -6,7 +6,7 @@ use Rattle.std.proofs.lemmas.List.{length-append}
 use Rattle.std.proofs.lemmas.List.Elements.{filter-append}
 use Rattle.gx_history.specs.declared.live_order.LiveOrder.{LiveOrder}
 use Rattle.gx_slab.proofs.Finding.{some_is}
-use Rattle.gx_slab.specs.Slabs.{HasRoom, IsPlaced, IsTable, first_place, has_number, is_open, open_ones, order_numbered}
+use Rattle.gx_slab.specs.Slabs.{HasRoom, IsPlaced, IsTable, first_place, has_number, is_open, open_ones, live_numbered}
 
 -- what stands in a list with one more: what stood there, or the last
 stood : {X : Type 0} (xs : List X) (x p : X) (i : ℕ) → slice_get (xs ++ x ∷ []) i ≡ Some p → (slice_get xs i ≡ Some p) ⊎ ((i ≡ length xs) × (p ≡ x))
@@ -41,26 +41,26 @@ pub count_last : (rows : List LiveOrder) (x : LiveOrder) → is_open x ≡ true 
 count_last rows x lives = ap length (shown_last rows x lives) ∙ length-append (open_ones rows) (x ∷ [])
 
 -- where no live order has the number, no row that lives has it
-pub fresh_apart : (rows : List LiveOrder) (n : ℕ) → order_numbered (open_ones rows) n ≡ None → (i : ℕ) (o : LiveOrder) → slice_get rows i ≡ Some o → is_open o ≡ true → o.number ≡ n → ⊥
+pub fresh_apart : (rows : List LiveOrder) (n : ℕ) → live_numbered (open_ones rows) n ≡ None → (i : ℕ) (o : LiveOrder) → slice_get rows i ≡ Some o → is_open o ≡ true → o.number ≡ n → ⊥
 fresh_apart [] n none i o at lives is = let never : None ≡ Some o = at in cc
 fresh_apart (x ∷ rows) n none i o at lives is = by (is_open x) refl none (λ later. fresh_apart rows n later) i at
   where
-    passed : (b : Bool) → cond b (Some x) (order_numbered (open_ones rows) n) ≡ None → order_numbered (open_ones rows) n ≡ None
+    passed : (b : Bool) → cond b (Some x) (live_numbered (open_ones rows) n) ≡ None → live_numbered (open_ones rows) n ≡ None
     passed true h = let never : Some x ≡ None = h in cc
     passed false h = h
 
-    it : has_number n x ≡ true → cond (has_number n x) (Some x) (order_numbered (open_ones rows) n) ≡ None → ⊥
-    it same h = let never : Some x ≡ None = sym (ap (λ (b : Bool). cond b (Some x) (order_numbered (open_ones rows) n)) same) ∙ h in cc
+    it : has_number n x ≡ true → cond (has_number n x) (Some x) (live_numbered (open_ones rows) n) ≡ None → ⊥
+    it same h = let never : Some x ≡ None = sym (ap (λ (b : Bool). cond b (Some x) (live_numbered (open_ones rows) n)) same) ∙ h in cc
 
-    by : (b : Bool) → is_open x ≡ b → order_numbered (cond b (x ∷ open_ones rows) (open_ones rows)) n ≡ None
-        → (order_numbered (open_ones rows) n ≡ None → (k : ℕ) (p : LiveOrder) → slice_get rows k ≡ Some p → is_open p ≡ true → p.number ≡ n → ⊥) → (k : ℕ) → slice_get (x ∷ rows) k ≡ Some o → ⊥
+    by : (b : Bool) → is_open x ≡ b → live_numbered (cond b (x ∷ open_ones rows) (open_ones rows)) n ≡ None
+        → (live_numbered (open_ones rows) n ≡ None → (k : ℕ) (p : LiveOrder) → slice_get rows k ≡ Some p → is_open p ≡ true → p.number ≡ n → ⊥) → (k : ℕ) → slice_get (x ∷ rows) k ≡ Some o → ⊥
     by true e h later zero here = it (ap (has_number n) (some_is here) ∙ eq-eqb o.number n is) h
     by true e h later (suc k) here = later (passed (has_number n x) h) k o here lives is
     by false e h later zero here = let never : true ≡ false = sym lives ∙ ap is_open (sym (some_is here)) ∙ e in cc
     by false e h later (suc k) here = later h k o here lives is
 
 -- the table with one more
-pub put : (before room : List ℕ) (rows : List LiveOrder) (x : LiveOrder) → IsPlaced before rows → HasRoom x.number before room → order_numbered (open_ones rows) x.number ≡ None
+pub put : (before room : List ℕ) (rows : List LiveOrder) (x : LiveOrder) → IsPlaced before rows → HasRoom x.number before room → live_numbered (open_ones rows) x.number ≡ None
     → IsPlaced (set room x.number (length rows)) (rows ++ x ∷ [])
 put before room rows x placed has fresh i o at lives = elim (stood rows x o i at) [
   | inl h ↦ others_stay room x.number o.number (length rows) (fresh_apart rows x.number fresh i o h lives) ∙ has.kept o.number i (placed i o h lives)
@@ -68,7 +68,7 @@ put before room rows x placed has fresh i o at lives = elim (stood rows x o i at
 ]
 
 pub pushed : (places room : List ℕ) (rows now : List LiveOrder) (x : LiveOrder) (live first place at : ℕ) → IsTable places rows live first → HasRoom x.number places room
-    → is_open x ≡ true → order_numbered (open_ones rows) x.number ≡ None → now ≡ rows ++ x ∷ [] → place ≡ length rows → at ≡ first_place now → IsTable (set room x.number place) now (live + 1) at
+    → is_open x ≡ true → live_numbered (open_ones rows) x.number ≡ None → now ≡ rows ++ x ∷ [] → place ≡ length rows → at ≡ first_place now → IsTable (set room x.number place) now (live + 1) at
 pushed places room rows now x live first place at t has lives fresh is last found = record {
   placed = subst (λ (xs : List LiveOrder). IsPlaced (set room x.number place) xs) (sym is)
       (subst (λ (k : ℕ). IsPlaced (set room x.number k) (rows ++ x ∷ [])) (sym last) (put places room rows x t.placed has fresh));

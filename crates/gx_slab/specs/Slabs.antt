@@ -4,7 +4,7 @@ use Rattle.std.specs.List.{filter, find, position_or_len}
 use Rattle.gx_units.specs.Names.{same_account}
 use Rattle.gx_units.specs.declared.names.AccountName.{AccountName}
 use Rattle.gx_history.specs.declared.live_order.LiveOrder.{LiveOrder}
-pub use Rattle.gx_history.specs.Live.{of_others}
+pub use Rattle.gx_history.specs.Live.{live_numbered, of_others}
 
 -- some shares may still be executed
 abbrev pub is_open : LiveOrder → Bool
@@ -17,10 +17,6 @@ open_ones live = filter is_open live
 -- the order has this number
 abbrev pub has_number : ℕ → LiveOrder → Bool
 has_number number o = o.number == number
-
--- the order of this number
-abbrev pub order_numbered : List LiveOrder → ℕ → Option LiveOrder
-order_numbered live number = find (has_number number) live
 
 -- the first that waits to be matched
 abbrev pub first_waiting : List LiveOrder → Option LiveOrder

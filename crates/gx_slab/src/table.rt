@@ -1,7 +1,7 @@
 //! The table.
 
 ghost use Rattle.std.specs.Prelude.{◌≡◌, ◌<◌, ◌^◌, [], ◌∷◌, ◌++◌, length, None, option_copied, IsTrue, OnOk, OnErr};
-ghost use Rattle.gx_slab.specs.Slabs.{first_waiting, is_open, of_others, order_numbered, written};
+ghost use Rattle.gx_slab.specs.Slabs.{first_waiting, is_open, of_others, live_numbered, written};
 
 use crate::live::LiveOrders;
 use crate::places::{make_room, place_of, thin_out};
@@ -62,7 +62,7 @@ impl Table {
 
     /// The live order of this number.
     pub fn get(&self, number: u64) -> Option<&LiveOrder>
-        ensures { option_copied result ≡ order_numbered self.now number }
+        ensures { option_copied result ≡ live_numbered self.now number }
     {
         let place = place_of(&self.places, &self.rows, number)?;
         row(&self.rows, place)
@@ -89,7 +89,7 @@ impl Table {
     /// `OutOfMemory` where there is no memory for one more; then nothing has changed.
     pub fn push(&mut self, order: LiveOrder) -> Result<(), OutOfMemory>
         requires lives { IsTrue (is_open order) }
-        requires fresh { order_numbered self.old order.number ≡ None }
+        requires fresh { live_numbered self.old order.number ≡ None }
         ensures ok { OnOk result (self.new ≡ self.old ++ order ∷ []) }
         ensures err { OnErr result (self.new ≡ self.old) }
     {

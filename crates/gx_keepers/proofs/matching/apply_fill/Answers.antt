@@ -1,7 +1,7 @@
 use Rattle.std.proofs.Common.{◌≡◌, ℕ, ◌-◌, true, false, refl, ◌∙◌, ap, subst, sym, List}
 use Rattle.std.specs.Prelude.{IfSome, is_some}
 use Rattle.gx_history.specs.declared.live_order.LiveOrder.{LiveOrder}
-use Rattle.gx_orders.specs.LiveOrders.{HasOpen, filled_at, order_numbered}
+use Rattle.gx_orders.specs.LiveOrders.{HasOpen, filled_at, live_numbered}
 use Rattle.gx_keepers.proofs.Matches.{can_fill, fill_goes_on, maker_is_there, maker_told, taker_told}
 use Rattle.gx_streams.specs.declared.fill.ToldFill.{ToldFill}
 use Rattle.gx_keepers.proofs.Keepings.{known_told, known_told_but, match_keeps}
@@ -30,7 +30,7 @@ fill-requires c =
 
 pub fill-requires-2 : goal.fill-requires-2
 fill-requires-2 c =
-    subst (λ (live : List LiveOrder). IfSome (order_numbered live c.args.f.maker) (HasOpen c.args.f.shares)) (sym c.fill.ensures.live)
+    subst (λ (live : List LiveOrder). IfSome (live_numbered live c.args.f.maker) (HasOpen c.args.f.shares)) (sym c.fill.ensures.live)
     (can_fill c.args.next.policy.now c.args.next.history.now.records c.args.next.first.now c.args.next.left.now c.args.keepers.now c.args.f c.requires.takes c.requires.fills).maker_has_them
 
 pub returns-clause-ok : goal.returns-clause-ok

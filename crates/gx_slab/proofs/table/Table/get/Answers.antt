@@ -3,7 +3,7 @@ use Rattle.std.specs.Option.{option_copied}
 use Rattle.std.specs.Prelude.{Some, None, slice_get}
 use Rattle.std.specs.List.{position}
 use Rattle.gx_history.specs.declared.live_order.LiveOrder.{LiveOrder}
-use Rattle.gx_slab.specs.Slabs.{order_numbered, stands_for}
+use Rattle.gx_slab.specs.Slabs.{live_numbered, stands_for}
 use Rattle.gx_slab.proofs.Finding.{found_at, found_nowhere}
 use Rattle.gx_slab.proofs.table.Table.get.Goals as goal
 
@@ -13,7 +13,7 @@ returns-in_err-place c =
     ap (position (stands_for c.args.number)) (sym c.deref-2.ensures.value) ∙ sym c.place_of.ensures ∙ c.in_err-place.was in
     ap option_copied c.from_residual.ensures
     ∙ sym (found_nowhere c.self.inside.rows.items c.args.number nowhere)
-    ∙ ap (λ (live : List LiveOrder). order_numbered live c.args.number) c.self.view_is
+    ∙ ap (λ (live : List LiveOrder). live_numbered live c.args.number) c.self.view_is
 
 pub returns : goal.returns
 returns c =
@@ -22,4 +22,4 @@ returns c =
     c.row.ensures
     ∙ ap (λ (rows : List LiveOrder). slice_get rows c.in_ok-place.place) c.deref-3.ensures.value
     ∙ found_at c.self.inside.rows.items c.args.number c.in_ok-place.place there
-    ∙ ap (λ (live : List LiveOrder). order_numbered live c.args.number) c.self.view_is
+    ∙ ap (λ (live : List LiveOrder). live_numbered live c.args.number) c.self.view_is

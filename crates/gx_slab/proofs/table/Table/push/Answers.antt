@@ -1,7 +1,7 @@
 use Rattle.std.proofs.Common.{◌++◌, ◌∷◌, [], ◌∙◌, ap, List, arith, rules}
 use Rattle.std.proofs.lemmas.List.Sums.{count_by-le-length, length-filter}
 use Rattle.gx_history.specs.declared.live_order.LiveOrder.{LiveOrder}
-use Rattle.gx_slab.specs.Slabs.{first_place, is_open, order_numbered}
+use Rattle.gx_slab.specs.Slabs.{first_place, is_open, live_numbered}
 use Rattle.gx_slab.proofs.Putting.{pushed}
 use Rattle.gx_slab.proofs.table.Table.push.Goals as goal
 
@@ -13,7 +13,7 @@ pub invariant_of-self-2 : goal.invariant_of-self-2
 invariant_of-self-2 c =
     pushed c.self.inside.places.items c.make_room.new.places.items c.self.inside.rows.items c.push_reserved.new.self.items c.args.order c.self.inside.live c.self.inside.first c.len.result c.first_place-self-inside.result
     c.self.invariant c.in_ok-make_room.ensures.ok c.requires.lives
-    (ap (λ (live : List LiveOrder). order_numbered live c.args.order.number) c.self.view_is ∙ c.requires.fresh)
+    (ap (λ (live : List LiveOrder). live_numbered live c.args.order.number) c.self.view_is ∙ c.requires.fresh)
     (c.push_reserved.ensures.items ∙ ap (λ (xs : List LiveOrder). xs ++ c.args.order ∷ []) c.reserve.ensures.items)
     (search (rules, c.reserve.ensures.items))
     (c.first_place-self-inside.ensures ∙ ap first_place c.deref.ensures.value)
