@@ -6,6 +6,7 @@ use crate::ending::{Ended, Place};
 use crate::files::{Named, file_named, identity_of, tell_apart};
 use gx_answers::AccessGate;
 use gx_audit::write_audit;
+use gx_audit_bytes::AuditVersion;
 use gx_core::Gate;
 use gx_devices::Counted;
 use gx_files::FileIdentity;
@@ -156,12 +157,13 @@ fn way_through<'a>(rt: &HostRuntime, path: &'a str) -> Result<Way, Ended<'a>> {
 
 /// Writes the gate's audit to the device of this place.
 fn write_records<'a, W: Write + Drop>(
+    version: AuditVersion,
     gate: &Gate,
     device: W,
     place: Place<'a>,
 ) -> Result<(), Ended<'a>> {
     let mut writer = Counted::new(Noted::new(device));
-    match write_audit(gate, &mut writer) {
+    match write_audit(version, gate, &mut writer) {
         Ok(()) => Ok(()),
         Err(failed) => Err(Ended::of_writing(failed.into(), place, writer.into_inner().cause)),
     }
@@ -179,15 +181,25 @@ fn cut<'a>(path: &'a str, file: &File) -> Result<(), Ended<'a>> {
 }
 
 /// Writes the gate's audit into an open file, from its beginning.
-fn write_through<'a>(gate: &Gate, path: &'a str, file: &File) -> Result<(), Ended<'a>> {
+fn write_through<'a>(
+    version: AuditVersion,
+    gate: &Gate,
+    path: &'a str,
+    file: &File,
+) -> Result<(), Ended<'a>> {
     cut(path, file)?;
-    write_records(gate, file, Place::File(path))
+    write_records(version, gate, file, Place::File(path))
 }
 
 /// Writes the gate's audit into a named pipe.
-fn write_pipe<'a>(rt: &HostRuntime, gate: &Gate, path: &'a str) -> Result<(), Ended<'a>> {
+fn write_pipe<'a>(
+    rt: &HostRuntime,
+    version: AuditVersion,
+    gate: &Gate,
+    path: &'a str,
+) -> Result<(), Ended<'a>> {
     match open_to_write(rt, path, false) {
-        Ok(file) => write_records(gate, file, Place::File(path)),
+        Ok(file) => write_records(version, gate, file, Place::File(path)),
         Err(error) => Err(unwritten(path, error)),
     }
 }
@@ -241,14 +253,14 @@ impl<'a> AuditFile<'a> {
         Ok(AuditFile { path, way })
     }
 
-    /// Writes the gate's audit there.
-    fn write(self, rt: &HostRuntime, gate: &Gate) -> Result<(), Ended<'a>> {
+    /// Writes the gate's audit there in this version.
+    fn write(self, rt: &HostRuntime, version: AuditVersion, gate: &Gate) -> Result<(), Ended<'a>> {
         let AuditFile { path, way } = self;
         match way {
-            Way::Through(file) => write_through(gate, path, &file),
-            Way::Pipe => write_pipe(rt, gate, path),
+            Way::Through(file) => write_through(version, gate, path, &file),
+            Way::Pipe => write_pipe(rt, version, gate, path),
             Way::Beside(beside) => {
-                write_through(gate, path, &beside.file)?;
+                write_through(version, gate, path, &beside.file)?;
                 beside.put(rt, path)
             }
         }
@@ -273,14 +285,15 @@ pub(crate) fn open_audit<'a>(
     }
 }
 
-/// Closes a gate, and writes its audit, where one is wanted.
+/// Closes a gate, and writes its audit in this version, where one is wanted.
 pub(crate) fn close_audited<'a>(
     rt: &HostRuntime,
+    version: AuditVersion,
     gate: Gate,
     audit: Option<AuditFile<'a>>,
 ) -> Result<(), Ended<'a>> {
     let kept = match audit {
-        Some(file) => file.write(rt, &gate),
+        Some(file) => file.write(rt, version, &gate),
         None => Ok(()),
     };
     gate.close();

@@ -6,7 +6,7 @@ use crate::ending::{Ended, Place};
 use crate::files::{Content, expected_of, look_before, read_file};
 use gx_answers::AccessGate;
 use gx_audit::{Resumed, resume};
-use gx_audit_bytes::write_header;
+use gx_audit_bytes::{AuditVersion, write_header_in};
 use gx_command_line::JournalFile;
 use gx_core::Gate;
 use gx_devices::{Counted, write_whole};
@@ -45,6 +45,8 @@ impl Write for JournalDevice {
 pub(crate) struct Day {
     /// The gate of the records in the journal.
     pub(crate) gate: Gate,
+    /// The version of the journal.
+    pub(crate) version: AuditVersion,
     /// How many bytes of another one, which was cut off, stood behind them.
     pub(crate) cut: u64,
     /// The journal, behind its last whole record.
@@ -67,16 +69,34 @@ pub(crate) fn open_journal<'a>(rt: &HostRuntime, path: &'a str) -> Result<File, 
     }
 }
 
-/// The day that the file holds, and how many bytes it has.
+/// A day as its journal's file holds it.
+struct Found {
+    resumed: Resumed<Gate>,
+    /// The version of the journal: that of the file where a day was begun in it, else the one that is asked for.
+    version: AuditVersion,
+    /// How many bytes the file has.
+    length: u64,
+}
+
+/// The day that the file holds.
 fn read_day<'a>(
     rt: &HostRuntime,
     policy: &Policy,
     path: &'a str,
     file: &File,
-) -> Result<(Resumed<Gate>, u64), Ended<'a>> {
+    asked: AuditVersion,
+) -> Result<Found, Ended<'a>> {
     let bytes = read_file(rt, path, Content::Records, file, expected_of(file))?;
     match resume(rt.alloc(), policy, bytes.as_slice()) {
-        Ok(resumed) => Ok((resumed, bytes.len() as u64)),
+        Ok(resumed) => Ok(Found {
+            version: if resumed.kept > 0 {
+                AuditVersion::of(bytes.as_slice())
+            } else {
+                asked
+            },
+            resumed,
+            length: bytes.len() as u64,
+        }),
         Err(fault) => Err(ProgramFault::from(fault).into()),
     }
 }
@@ -90,9 +110,10 @@ fn sync_folder(rt: &HostRuntime, path: &str) -> io::Result<()> {
     }
 }
 
-/// Cuts off what does not stand, and writes the header where no day was begun.
+/// Cuts off what does not stand, and writes the header in this version where no day was begun.
 fn prepare<'a>(
     policy: &Policy,
+    version: AuditVersion,
     path: &'a str,
     kept: u64,
     device: &mut Counted<Noted<JournalDevice>>,
@@ -105,7 +126,7 @@ fn prepare<'a>(
     if kept > 0 {
         return Ok(());
     }
-    match write_whole(device, &write_header(policy)) {
+    match write_whole(device, &write_header_in(version, policy)) {
         Ok(()) => Ok(()),
         Err(failed) => Err(Ended::of_journal(failed.into(), path, device.device().cause)),
     }
@@ -115,13 +136,14 @@ fn prepare<'a>(
 fn prepare_named<'a>(
     rt: &HostRuntime,
     policy: &Policy,
+    version: AuditVersion,
     journal: JournalFile<'a>,
     kept: u64,
     device: &mut Counted<Noted<JournalDevice>>,
 ) -> Result<(), Ended<'a>>
     requires { device.old.failed < 2 ^ 64 - 1 }
 {
-    prepare(policy, journal.path, kept, device)?;
+    prepare(policy, version, journal.path, kept, device)?;
     if !journal.is_synced {
         return Ok(());
     }
@@ -131,23 +153,30 @@ fn prepare_named<'a>(
     }
 }
 
-/// The day of the journal in its open file, which is this program's from now on.
+/// The day of the journal in its open file, which is this program's from now on. A day that is begun there is kept in the
+/// version that is asked for.
 pub(crate) fn take_up<'a>(
     rt: &HostRuntime,
     policy: &Policy,
     journal: JournalFile<'a>,
     file: File,
+    asked: AuditVersion,
 ) -> Result<Day, Ended<'a>> {
-    let (resumed, length) = read_day(rt, policy, journal.path, &file)?;
+    let Found {
+        resumed,
+        version,
+        length,
+    } = read_day(rt, policy, journal.path, &file, asked)?;
     let Resumed { gate, kept } = resumed;
     let mut device = Counted::new(Noted::new(JournalDevice {
         watched: Watched { file, length: kept },
         is_synced: journal.is_synced,
     }));
-    match prepare_named(rt, policy, journal, kept, &mut device) {
+    match prepare_named(rt, policy, version, journal, kept, &mut device) {
         Ok(()) => Ok(Day {
             cut: length.saturating_sub(kept),
             gate,
+            version,
             device: device.into_inner(),
         }),
         Err(ended) => {

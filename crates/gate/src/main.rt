@@ -3,6 +3,7 @@
 
 ghost use Rattle.std.specs.Prelude.{◌-◌, ◌^◌, ◌<◌};
 
+mod announcing;
 mod auditing;
 mod desk;
 mod ending;
@@ -10,8 +11,12 @@ mod ends;
 mod files;
 mod keeping;
 mod limits;
+mod showing;
+mod starts;
+mod state;
 mod streams;
 
+use announcing::Announcer;
 use auditing::{AuditFile, close_audited, leave_audit, open_audit};
 use clap::Error;
 use clap::error::ErrorKind as UsageFault;
@@ -20,10 +25,11 @@ use ending::{Ended, Place, tell, tell_in};
 use ends::{await_ends, connections_of};
 use files::{Content, Named, bytes_of, tell_apart};
 use gx_answers::AccessGate;
-use gx_audit::{AuditAnswer, Choice, more_of_audit, show_audit, told_of_audit};
-use gx_clock::DayClock;
+use gx_audit::{AuditAnswer, more_of_audit, told_of_audit};
+use gx_audit_bytes::AuditVersion;
+use gx_clock::UtcOffset;
 use gx_command_line::{
-    Asked, AuditFiles, BadCall, JournalFile, LONGEST_WORD, RunFiles, Serving, Wanted,
+    Asked, AuditFiles, BadCall, JournalFile, LONGEST_WORD, RunFiles, Serving, Shape, Wanted,
     first_bad_word,
 };
 use gx_core::Gate;
@@ -40,6 +46,9 @@ use gx_shared::{Kept, Served, serve, serve_journaled};
 use gx_units::{Moment, OutOfMemory};
 use keeping::{Day, JournalDevice, look_back, open_journal, take_up, tell_cut};
 use limits::places_for;
+use showing::show_under;
+use starts::{Start, audit_version};
+use state::state;
 use std::alloc::Global;
 use std::io::{ErrorKind, Read, Write};
 use std::net::{Ipv4Addr, Net, SocketAddr, TcpListener, TcpStream};
@@ -112,16 +121,17 @@ fn follow<'a>(rt: &HostRuntime, input: Input, gate: &mut Gate) -> Result<(), End
     }
 }
 
-/// Runs standard input on a gate, and writes the audit.
+/// Runs standard input on a gate, and writes the audit in this version.
 fn follow_audited<'a>(
     rt: &HostRuntime,
     input: Input,
+    version: AuditVersion,
     gate: Gate,
     audit: Option<AuditFile<'a>>,
 ) -> Result<(), Ended<'a>> {
     let mut gate = gate;
     let followed = follow(rt, input, &mut gate);
-    let kept = close_audited(rt, gate, audit);
+    let kept = close_audited(rt, version, gate, audit);
     followed.and(kept)
 }
 
@@ -129,12 +139,13 @@ fn follow_audited<'a>(
 fn follow_under<'a>(
     rt: &HostRuntime,
     input: Input,
+    version: AuditVersion,
     file: Option<&[u8]>,
     named: Named<'a>,
 ) -> Result<(), Ended<'a>> {
     let gate: Gate = open_gate(rt.alloc(), file)?;
     match open_audit(rt, named) {
-        Ok(audit) => follow_audited(rt, input, gate, audit),
+        Ok(audit) => follow_audited(rt, input, version, gate, audit),
         Err(ended) => {
             gate.close();
             Err(ended)
@@ -159,9 +170,10 @@ fn names_of<'a>(
 
 /// Runs standard input, and writes the audit.
 fn run_files<'a>(rt: &HostRuntime, input: Input, files: RunFiles<'a>) -> Result<(), Ended<'a>> {
+    let start = Start::of_run(rt, files.version, UtcOffset::UTC);
     let named = names_of(rt, files, None)?;
     let file = policy_file(rt, files.policy)?;
-    follow_under(rt, input, file.as_deref(), named)
+    follow_under(rt, input, start.version, file.as_deref(), named)
 }
 
 /// The policy of a server or of a check: that of the file that was asked for, if one was.
@@ -182,23 +194,24 @@ fn listen<'a, R: Net<Listener = TcpListener, Stream = TcpStream>>(
     }
 }
 
-/// Tells on standard output that a server listens.
-fn tell_listening<'a>(rt: &HostRuntime, port: u16) -> Result<(), Ended<'a>> {
-    match println!(rt; "listening {port}") {
-        Ok(()) => Ok(()),
-        Err(error) => Err(Ended::unwritten(Place::Output, error)),
-    }
+/// Where connections come in: who listens for them, the lobby of the server, and who tells that it listens.
+#[derive(Drop)]
+struct Entrance {
+    listener: TcpListener,
+    lobby: Arc<Lobby, Global>,
+    announcer: Announcer,
 }
 
-/// Listens for connections, and tells so: the listener, and the lobby of the server, which ends as was asked for. Its clock
-/// begins, no earlier than at the moment `last`.
+/// Listens for connections, which is told once they are taken. The server of the lobby ends as was asked for, and its clock
+/// has begun at the start, no earlier than at the moment `last`.
 fn open_lobby<'a, R>(
     rt: &R,
     host: &HostRuntime,
     serving: &Serving<'a>,
+    start: Start,
     last: Moment,
     log: &Arc<Log, Global>,
-) -> Result<(TcpListener, Arc<Lobby, Global>), Ended<'a>>
+) -> Result<Entrance, Ended<'a>>
 where
     R: Net<Listener = TcpListener, Stream = TcpStream>
         + Threads
@@ -212,7 +225,7 @@ where
     let listener = listen(rt, serving.port)?;
     let alloc = host.alloc();
     let places = places_for(rt, host, log, serving.at_once);
-    let clock = DayClock::begin(rt, serving.midnight, last);
+    let clock = start.clock(serving.midnight, last);
     let Ok(log) = Arc::try_clone(log) else {
         return Err(OutOfMemory.into());
     };
@@ -221,18 +234,24 @@ where
         return Err(OutOfMemory.into());
     };
     await_ends(*rt, *host, serving.ends, &lobby)?;
-    tell_listening(host, serving.port)?;
-    Ok((listener, lobby))
+    let announcer = Announcer::begin(*rt, *host, &lobby, serving.port)?;
+    Ok(Entrance {
+        listener,
+        lobby,
+        announcer,
+    })
 }
 
-/// Serves connections, until as many as were asked for have ended, or standard input has, where that was asked for.
+/// Serves connections, until as many as were asked for have ended, or standard input has, where that was asked for. Tells
+/// beside it whether it was told that the server listens.
 fn serve_on<'a, R>(
     rt: &R,
     host: &HostRuntime,
     policy: &Policy,
     serving: &Serving<'a>,
+    start: Start,
     log: &Arc<Log, Global>,
-) -> Result<Served<Gate>, Ended<'a>>
+) -> Result<(Served<Gate>, Result<(), Ended<'a>>), Ended<'a>>
 where
     R: Net<Listener = TcpListener, Stream = TcpStream>
         + Threads
@@ -243,9 +262,15 @@ where
         + Sync
         + 'static,
 {
-    let (listener, lobby) = open_lobby(rt, host, serving, NO_MOMENT, log)?;
+    let Entrance {
+        listener,
+        lobby,
+        announcer,
+    } = open_lobby(rt, host, serving, start, NO_MOMENT, log)?;
     let connections = connections_of(serving.ends);
-    Ok(serve(rt, host.alloc(), policy, &lobby, listener, connections)?)
+    let served = serve(rt, host.alloc(), policy, &lobby, listener, connections);
+    let announced = announcer.end(rt);
+    Ok((served?, announced))
 }
 
 /// How a server ended.
@@ -262,6 +287,7 @@ fn serve_under<'a, R>(
     host: &HostRuntime,
     policy: &Policy,
     serving: &Serving<'a>,
+    start: Start,
     named: Named<'a>,
     log: &Arc<Log, Global>,
 ) -> Result<(), Ended<'a>>
@@ -276,10 +302,11 @@ where
         + 'static,
 {
     let audit = open_audit(host, named)?;
-    match serve_on(rt, host, policy, serving, log) {
-        Ok(Served { gate, ended }) => {
-            let audited = close_audited(host, gate, audit);
-            served(ended).and(audited)
+    match serve_on(rt, host, policy, serving, start, log) {
+        Ok((left, announced)) => {
+            let Served { gate, ended } = left;
+            let audited = close_audited(host, start.version, gate, audit);
+            served(ended).and(announced).and(audited)
         }
         Err(ended) => {
             leave_audit(host, audit);
@@ -288,14 +315,16 @@ where
     }
 }
 
-/// Serves connections of a day that goes on, and keeps its records. Tells how the server ended, too.
+/// Serves connections of a day that goes on, and keeps its records. Tells how the server ended, too, and whether it was
+/// told that it listens.
 fn go_on<'a, R>(
     rt: &R,
     host: &HostRuntime,
     serving: &Serving<'a>,
+    start: Start,
     day: Day,
     log: &Arc<Log, Global>,
-) -> Result<(Kept<Gate, Noted<JournalDevice>>, Ending), Ended<'a>>
+) -> Result<(Kept<Gate, Noted<JournalDevice>>, Result<(), Ended<'a>>), Ended<'a>>
 where
     R: Net<Listener = TcpListener, Stream = TcpStream>
         + Threads
@@ -306,9 +335,20 @@ where
         + Sync
         + 'static,
 {
-    let Day { gate, cut, device } = day;
-    match open_lobby(rt, host, serving, gate.last_moment(), log) {
-        Ok((listener, lobby)) => {
+    let Day {
+        gate,
+        version,
+        cut,
+        device,
+    } = day;
+    match open_lobby(rt, host, serving, start, gate.last_moment(), log) {
+        Ok(
+            Entrance {
+                listener,
+                lobby,
+                announcer,
+            },
+        ) => {
             let count = gate.length();
             tell_cut(rt, host, log, count, cut);
             let connections = connections_of(serving.ends);
@@ -317,13 +357,16 @@ where
                 rt,
                 alloc,
                 gate,
+                version,
                 count,
                 device,
                 &lobby,
                 listener,
                 connections,
             );
-            Ok(kept?)
+            let announced = announcer.end(rt);
+            let (kept, ended) = kept?;
+            Ok((kept, served(ended).and(announced)))
         }
         Err(ended) => {
             gate.close();
@@ -349,7 +392,8 @@ fn close_server<'a>(
     host: &HostRuntime,
     path: &'a str,
     left: Kept<Gate, Noted<JournalDevice>>,
-    ended: Ending,
+    ended: Result<(), Ended<'a>>,
+    version: AuditVersion,
     audit: Option<AuditFile<'a>>,
 ) -> Result<(), Ended<'a>> {
     let Kept {
@@ -357,11 +401,11 @@ fn close_server<'a>(
         fault,
         device,
     } = left;
-    let audited = close_audited(host, gate, audit);
+    let audited = close_audited(host, version, gate, audit);
     let Noted { device, cause } = device;
     kept(fault, path, cause)
         .and(look_back(path, &device))
-        .and(served(ended))
+        .and(ended)
         .and(audited)
 }
 
@@ -371,11 +415,12 @@ fn open_day<'a>(
     policy: &Policy,
     journal: JournalFile<'a>,
     named: Named<'a>,
+    asked: AuditVersion,
 ) -> Result<(Day, Option<AuditFile<'a>>), Ended<'a>> {
     let file = open_journal(host, journal.path)?;
     tell_apart(host, named)?;
     let audit = open_audit(host, named)?;
-    match take_up(host, policy, journal, file) {
+    match take_up(host, policy, journal, file, asked) {
         Ok(day) => Ok((day, audit)),
         Err(ended) => {
             leave_audit(host, audit);
@@ -390,6 +435,7 @@ fn serve_kept<'a, R>(
     host: &HostRuntime,
     policy: &Policy,
     serving: &Serving<'a>,
+    start: Start,
     journal: JournalFile<'a>,
     named: Named<'a>,
     log: &Arc<Log, Global>,
@@ -404,9 +450,10 @@ where
         + Sync
         + 'static,
 {
-    let (day, audit) = open_day(host, policy, journal, named)?;
-    match go_on(rt, host, serving, day, log) {
-        Ok((left, ended)) => close_server(host, journal.path, left, ended, audit),
+    let (day, audit) = open_day(host, policy, journal, named, start.version)?;
+    let version = audit_version(start.version, day.version);
+    match go_on(rt, host, serving, start, day, log) {
+        Ok((left, ended)) => close_server(host, journal.path, left, ended, version, audit),
         Err(ended) => {
             leave_audit(host, audit);
             Err(ended)
@@ -431,12 +478,13 @@ where
         + Sync
         + 'static,
 {
+    let start = Start::of_run(rt, serving.files.version, serving.midnight);
     let path = serving.journal.map(|journal| journal.path);
     let named = names_of(host, serving.files, path)?;
     let policy = policy_of(host, serving.files.policy)?;
     match serving.journal {
-        Some(journal) => serve_kept(rt, host, &policy, &serving, journal, named, log),
-        None => serve_under(rt, host, &policy, &serving, named, log),
+        Some(journal) => serve_kept(rt, host, &policy, &serving, start, journal, named, log),
+        None => serve_under(rt, host, &policy, &serving, start, named, log),
     }
 }
 
@@ -487,46 +535,15 @@ fn check<'a>(rt: &HostRuntime, files: AuditFiles<'a>) -> Result<ExitCode, Ended<
     check_under(rt, &policy, files.audit)
 }
 
-/// Shows the records of an audit that were chosen: the status that says whether all were records.
-fn show_records<'a>(
-    rt: &HostRuntime,
-    policy: &Policy,
-    audit: &[u8],
-    choice: &Choice,
-) -> Result<ExitCode, Ended<'a>> {
-    let mut writer = Counted::new(Noted::new(io::writer(rt)));
-    match show_audit(rt.alloc(), policy, choice, audit, &mut writer) {
-        Ok(Some(number)) => {
-            let _ = eprintln!(rt; "bad record {number}");
-            Ok(ExitCode::from(4))
-        }
-        Ok(None) => Ok(ExitCode::SUCCESS),
-        Err(fault) => Err(Ended::of_writing(fault, Place::Output, writer.device().cause)),
-    }
-}
-
-/// Shows the records of an audit that are wanted, none where a name can be nobody's.
-fn show_under<'a>(
-    rt: &HostRuntime,
-    policy: &Policy,
-    path: &'a str,
-    wanted: Wanted,
-) -> Result<ExitCode, Ended<'a>> {
-    let audit = bytes_of(rt, path, Content::Records)?;
-    match Choice::named(wanted.account, wanted.user) {
-        Some(choice) => show_records(rt, policy, audit.as_slice(), &choice),
-        None => Ok(ExitCode::SUCCESS),
-    }
-}
-
 /// Shows records of an audit: the status that says whether all were records.
 fn show<'a>(
     rt: &HostRuntime,
     files: AuditFiles<'a>,
-    wanted: Wanted,
+    wanted: Wanted<'a>,
+    shape: Shape,
 ) -> Result<ExitCode, Ended<'a>> {
     let policy = policy_of(rt, files.policy)?;
-    show_under(rt, &policy, files.audit, wanted)
+    show_under(rt, &policy, files.audit, wanted, shape)
 }
 
 /// Prints a text.
@@ -561,7 +578,8 @@ fn run<'a>(rt: &HostRuntime, asked: Asked<'a>) -> Result<ExitCode, Ended<'a>> {
         // by `main`, which alone may start threads
         Asked::Serve(_) | Asked::Desk(_) => {}
         Asked::Check(files) => return check(rt, files),
-        Asked::Show(files, wanted) => return show(rt, files, wanted),
+        Asked::Show(files, wanted, shape) => return show(rt, files, wanted, shape),
+        Asked::State(files, asked) => return state(rt, files, asked),
     }
     Ok(ExitCode::SUCCESS)
 }

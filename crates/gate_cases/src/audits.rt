@@ -1,14 +1,14 @@
 //! Audits: how that of a gate's records is written, what is told of it, as it is and changed, and how it is shown.
 
-use gx_audit::{
-    AuditAnswer, AuditingFault, Choice, audit_of, more_of_audit, show_audit, told_of_audit,
-    write_audit,
-};
+use gx_audit::{AuditAnswer, AuditingFault, audit_of, more_of_audit, told_of_audit, write_audit};
 use gx_audit_bytes::AuditVersion;
 use gx_core::Gate;
 use gx_devices::Counted;
 use gx_policy::Policy;
 use gx_policyfile::{SAMPLE, read_policy};
+use gx_show::{
+    AskedNames, AuditRecords, Choice, FindingFault, Style, choice_of, found_in_audit, write_records,
+};
 use gx_trials::{
     Limits, Sips, Told, change, chosen_by, put_audit, put_ended, put_shown, put_written,
 };
@@ -30,7 +30,7 @@ pub(crate) fn audit_in(
 /// Writes the gate's audit, and tells of it: its bytes, and how that ended.
 pub(crate) fn tell_audit(alloc: Global, out: &mut Told, gate: &Gate, limits: Limits) {
     let mut writer = Counted::new(Sips::new(alloc, limits));
-    let ended = write_audit(gate, &mut writer);
+    let ended = write_audit(AuditVersion::Two, gate, &mut writer);
     let written = writer.into_inner().taken;
     put_written(
         alloc,
@@ -40,9 +40,9 @@ pub(crate) fn tell_audit(alloc: Global, out: &mut Told, gate: &Gate, limits: Lim
     )
 }
 
-/// Tells the bytes of the gate's audit in version 1.
-pub(crate) fn tell_audit_1(alloc: Global, out: &mut Told, gate: &Gate) {
-    let audit = audit_in(alloc, out, AuditVersion::One, gate);
+/// Tells the bytes of the gate's audit in this version.
+pub(crate) fn tell_audit_in(alloc: Global, out: &mut Told, version: AuditVersion, gate: &Gate) {
+    let audit = audit_in(alloc, out, version, gate);
     put_audit(alloc, out, audit.as_slice())
 }
 
@@ -111,6 +111,15 @@ pub(crate) fn tell_checks(
     }
 }
 
+/// Puts the lines of records that were found.
+fn put_found(alloc: Global, out: &mut Told, policy: &Policy, found: &AuditRecords, limits: Limits) {
+    let mut writer = Counted::new(Sips::new(alloc, limits));
+    let records = found.records.as_slice();
+    let ended = write_records(alloc, policy, &Style::PLAIN, records, &mut writer);
+    let shown = writer.into_inner().taken;
+    put_shown(out, shown.as_slice(), ended.err())
+}
+
 /// Shows the records of an audit that were chosen.
 fn show_chosen(
     alloc: Global,
@@ -120,10 +129,14 @@ fn show_chosen(
     audit: &[u8],
     limits: Limits,
 ) {
-    let mut writer = Counted::new(Sips::new(alloc, limits));
-    let ended = show_audit(alloc, policy, choice, audit, &mut writer);
-    let shown = writer.into_inner().taken;
-    put_shown(out, shown.as_slice(), ended.err())
+    let found = match found_in_audit(alloc, policy, choice, audit) {
+        Ok(found) => found,
+        Err(FindingFault::OtherPolicy) => return out.put("other policy\n"),
+        Err(FindingFault::OutOfMemory) => {
+            return put_ended(out, Some(AuditingFault::OutOfMemory));
+        }
+    };
+    put_found(alloc, out, policy, &found, limits)
 }
 
 /// Shows the records of the gate's audit in this version that the words choose.
@@ -137,7 +150,13 @@ pub(crate) fn tell_shown(
     words: &str,
 ) {
     let (account, user) = chosen_by(words);
-    let Some(choice) = Choice::named(account, user) else {
+    let names = AskedNames {
+        account,
+        user,
+        stock: None,
+        rule: None,
+    };
+    let Ok(choice) = choice_of(policy, &names, &Choice::ALL) else {
         return out.put("no such name\n");
     };
     let audit = audit_in(alloc, out, version, gate);

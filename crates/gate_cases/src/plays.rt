@@ -179,7 +179,7 @@ pub(crate) fn play_at<N: GateName + Send + Sync, R: Threads + Wait + Clock + Syn
 {
     let device = Sips::new(alloc, setting.limits);
     let door: Journaled<'_, SharedGate<Gate, N>, Sips, Brand> = Journaled::new(
-        alloc, &shared, pass, 0, device,
+        alloc, Two, &shared, pass, 0, device,
     );
     let vain = play(
         rt,

@@ -3,10 +3,12 @@
 ghost use Rattle.std.specs.Prelude.{◌-◌, ◌^◌, ◌<◌};
 
 use crate::alone::Alone;
-use crate::audits::{tell_audit, tell_audit_1, tell_checks, tell_shown};
+use crate::audits::{tell_audit, tell_audit_in, tell_checks, tell_shown};
 use crate::endless::tell_endless;
 use gx_answers::AccessGate;
-use gx_audit_bytes::AuditVersion::{One, Two};
+use gx_audit_bytes::AuditDay;
+use gx_audit_bytes::AuditVersion::{One, Three, Two};
+use gx_clock::UtcOffset;
 use gx_core::Gate;
 use gx_devices::Counted;
 use gx_pipe::{PipeFault, run_pipe};
@@ -20,6 +22,12 @@ use gx_trials::{
 use std::alloc::Global;
 use std::io::Read;
 use std::{fmt, io};
+
+/// The day of audits of version 3: 27 November 2026, five hours behind UTC.
+const DAY: AuditDay = AuditDay {
+    date: 20_784,
+    offset: UtcOffset::Behind(300),
+};
 
 /// Runs the input that the reader gives.
 pub(crate) fn run_kind<R: Read, W: io::Write>(
@@ -184,9 +192,11 @@ fn tell_audited(
     usual: Limits,
 ) {
     match kind {
-        "audit-1" => tell_audit_1(alloc, out, gate),
+        "audit-1" => tell_audit_in(alloc, out, One, gate),
+        "audit-3" => tell_audit_in(alloc, out, Three(DAY), gate),
         "check" => tell_checks(alloc, out, One, gate, policy, text),
         "check-2" => tell_checks(alloc, out, Two, gate, policy, text),
+        "check-3" => tell_checks(alloc, out, Three(DAY), gate, policy, text),
         "show" => tell_shown(alloc, out, One, gate, policy, usual, words),
         _ => tell_shown(alloc, out, Two, gate, policy, usual, words),
     }
@@ -206,7 +216,7 @@ fn tell_part(
     match (kind, limits_of(words, usual)) {
         ("pipe-endless", _) => tell_endless(alloc, out, gate, usual, words, text),
         ("session", _) => tell_session(alloc, out, words, text),
-        ("audit-1" | "check" | "check-2" | "show" | "show-2", _) => {
+        ("audit-1" | "audit-3" | "check" | "check-2" | "check-3" | "show" | "show-2", _) => {
             tell_audited(alloc, out, gate, policy, kind, words, text, usual)
         }
         ("pipe" | "script" | "script-in-hex" | "again" | "audit", Some(limits)) => {

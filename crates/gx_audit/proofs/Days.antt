@@ -1,50 +1,35 @@
 -- What a file holds.
-use Rattle.std.proofs.Common.{◌≡◌, ℕ, ◌+◌, ◌*◌, ◌<◌, Bool, true, List, [], ◌∷◌, length, take, drop, nat_eq, inr, refl, sym, ap, ◌∙◌, arith, length-append}
+use Rattle.std.proofs.Common.{◌≡◌, ℕ, ◌+◌, ◌<◌, Bool, true, List, length, take, drop, nat_eq, inr, sym, ap, ◌∙◌, arith, length-append}
 use Rattle.std.specs.List.{starts_with}
 use Rattle.std.proofs.lemmas.List.{take_at}
 use Rattle.std.proofs.lemmas.Slice.Eq.{starts_is}
 use Rattle.std.proofs.lemmas.Bool.Decides.{Decides-eqb}
 use Rattle.gx_policy.specs.declared.policy.PolicyData.{PolicyData}
 use Rattle.gx_history.specs.declared.record.RecordData.{RecordData}
-use Rattle.gx_audit_bytes.specs.declared.version.AuditVersion.TheVariants as versions
-use Rattle.gx_audit_bytes.specs.Audits.{all_bytes, whole_audit, AreShown}
-use Rattle.gx_audit_bytes.specs.Headers.{header_bytes}
-use Rattle.gx_audit_bytes.specs.Records.{record_bytes}
+use Rattle.gx_audit_bytes.specs.Audits.{whole_audit}
+use Rattle.gx_audit_bytes.specs.Headers.{header_in}
 use Rattle.gx_audit.specs.Replaying.{journal_size, HoldsRecords}
-use Rattle.gx_audit_bytes.proofs.HeaderParts.{header_size}
-use Rattle.gx_audit.proofs.Only.{shown_size}
+use Rattle.gx_audit_bytes.specs.Versions.{version_of}
+use Rattle.gx_audit.proofs.Journals.{audit_size}
 use Rattle.gx_audit.specs.Resuming.{IsNew, Stands}
 
 -- the file is a front of the header
-pub begins_header : (policy : PolicyData) (file header : List ℕ) (answer : Bool) → length file < 128 → header ≡ header_bytes policy → answer ≡ starts_with nat_eq header file → answer ≡ true → IsNew policy file
+pub begins_header : (policy : PolicyData) (file header : List ℕ) (answer : Bool) → length file < 128 → header ≡ header_in (version_of file) policy → answer ≡ starts_with nat_eq header file → answer ≡ true → IsNew policy file
 begins_header policy file header answer short is tested agreed = record {
   rest = drop (length file) header;
   short = short;
   begins = sym ((starts_is {E = nat_eq} Decides-eqb header file answer tested).0 agreed) ∙ is;
 }
 
-records_size : (records : List RecordData) → AreShown versions.Two records → length (all_bytes versions.Two records) ≡ 128 * length records
-unfolding all_bytes
-records_size [] shown = refl
-records_size (r ∷ records) shown =
-    let one = shown_size versions.Two r shown.0 in
-    let more = records_size records shown.1 in
-    omega (arith, one, more, length-append (record_bytes versions.Two r) (all_bytes versions.Two records))
-
-audit_size : (policy : PolicyData) (records : List RecordData) → AreShown versions.Two records → length (whole_audit versions.Two policy records) ≡ journal_size (length records)
-audit_size policy records shown =
-    let parts : length (whole_audit versions.Two policy records) ≡ length (header_bytes policy) + length (all_bytes versions.Two records) =
-    length-append (header_bytes policy) (all_bytes versions.Two records) in
-    omega (arith, parts, header_size policy, records_size records shown)
-
 -- the file is the journal of these records, and at most a part of one
 pub is_day : (policy : PolicyData) (file : List ℕ) (records : List RecordData) (kept count : ℕ) → HoldsRecords policy file records → count ≡ length records → kept ≡ journal_size count → Stands policy file records kept
 is_day policy file records kept count holds counted is =
-    let audit = whole_audit versions.Two policy records in
-    let size : kept ≡ length audit = is ∙ ap journal_size counted ∙ sym (audit_size policy records holds.shown) in
+    let audit = whole_audit (version_of file) policy records in
+    let size : kept ≡ length audit = is ∙ ap journal_size counted ∙ sym (audit_size (version_of file) policy records holds.headed holds.shown) in
     let all : length file ≡ length audit + length holds.rest = ap length (sym holds.bytes_are) ∙ length-append audit holds.rest in
     let short = holds.short in
     inr (record {
+      headed = holds.headed;
       whole = ap (take kept) (sym holds.bytes_are) ∙ take_at audit holds.rest kept (sym size);
       cut = omega (arith, size, all, short);
     })

@@ -20,7 +20,7 @@ use Rattle.gx_audit_bytes.specs.Reading.{record_of, IsShown}
 use Rattle.gx_audit_bytes.specs.Audits.{all_bytes, whole_audit, AreShown}
 use Rattle.gx_audit.specs.Auditing.{HasCutHeader, HasOtherHeader, IsAnswer, IsFaultAt, IsFirstFault, IsJudgement, IsOnlyAnswer}
 use Rattle.gx_audit_bytes.proofs.ReadBack.{both_true, fields_lie}
-use Rattle.gx_audit.proofs.Fronts.{version_known, begins_so, long_enough, same_header}
+use Rattle.gx_audit.proofs.Fronts.{begins_so, long_enough, same_header}
 
 -- each record of a legal day follows those before it
 follows_there : {X : Type 0} (P : List X × X → Type 0) (earlier before : List X) (x : X) (rest : List X) → AllByRecursion P (each_after earlier (before ++ x ∷ rest)) → P (earlier ++ before, x)
@@ -150,8 +150,7 @@ at_fault policy bytes fault found =
 
 where_it_stands : (policy : PolicyData) (bytes : List ℕ) (answer : Result ℕ AuditFault) → IsJudgement answer → IsAnswer policy bytes answer → Stands policy bytes answer
 where_it_stands policy bytes (Ok n) judges found =
-    let version_is : found.version ≡ version_of bytes = sym (version_known found.version policy found.records) ∙ ap version_of found.bytes_are in
-    Behind (subst (λ (v : AuditVersion). Ends v policy bytes (Ok n)) version_is
+    Behind (subst (λ (v : AuditVersion). Ends v policy bytes (Ok n)) (sym found.version_is)
     (record {
       before = found.records;
       legal = found.legal;
@@ -187,14 +186,14 @@ behind_front version policy bytes h k l m one other =
 -- behind a header that is cut short nothing stands
 not_cut : (policy : PolicyData) (bytes : List ℕ) (a : Result ℕ AuditFault) → HasCutHeader bytes → Ends (version_of bytes) policy bytes a → ⊥
 not_cut policy bytes a cut x =
-    let front = begins_so (version_of bytes) policy x.before x.left bytes cut.version_is x.bytes_are in
-    omega (arith, cut.short, long_enough policy (all_bytes (version_of bytes) x.before ++ x.left) bytes front)
+    let front = begins_so (version_of bytes) policy x.before x.left bytes cut.headed x.bytes_are in
+    omega (arith, cut.short, long_enough (version_of bytes) policy (all_bytes (version_of bytes) x.before ++ x.left) bytes front)
 
 -- nor behind another than the policy's
 not_other : (policy : PolicyData) (bytes : List ℕ) (a : Result ℕ AuditFault) → HasOtherHeader policy bytes → Ends (version_of bytes) policy bytes a → ⊥
 not_other policy bytes a other x =
-    let front = begins_so (version_of bytes) policy x.before x.left bytes other.version_is x.bytes_are in
-    other.other (same_header policy (all_bytes (version_of bytes) x.before ++ x.left) bytes front)
+    let front = begins_so (version_of bytes) policy x.before x.left bytes other.headed x.bytes_are in
+    other.other (same_header (version_of bytes) policy (all_bytes (version_of bytes) x.before ++ x.left) bytes front)
 
 cut_or_other : (policy : PolicyData) (bytes : List ℕ) → HasCutHeader bytes → HasOtherHeader policy bytes → ⊥
 cut_or_other policy bytes cut other = omega (arith, cut.short, other.whole)

@@ -106,11 +106,12 @@ left_told version policy records bytes end is legal ends some =
     (omega (arith, some, length-drop end bytes), omega (arith, short, length-drop end bytes)))
 
 -- no bytes are left
-pub all_legal : (version : AuditVersion) (policy : PolicyData) (records : List RecordData) (bytes : List ℕ) (end count : ℕ) → IsLegal policy records
+pub all_legal : (version : AuditVersion) (policy : PolicyData) (records : List RecordData) (bytes : List ℕ) (end count : ℕ) → version_of bytes ≡ version → IsLegal policy records
     → EndsAt version policy bytes records end → length bytes ≤ end → count ≡ length records → IsAnswer policy bytes (Ok count)
-all_legal version policy records bytes end count legal ends past counted =
+all_legal version policy records bytes end count is legal ends past counted =
     record {
       version = version;
+      version_is = is;
       records = records;
       legal = legal;
       shown = ends.shown;

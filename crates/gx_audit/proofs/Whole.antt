@@ -8,7 +8,9 @@ use Rattle.gx_history.specs.Verdicts.{IsLegal}
 use Rattle.gx_audit_bytes.specs.declared.version.AuditVersion.{AuditVersion}
 use Rattle.gx_audit_bytes.specs.Headers.{front_of}
 use Rattle.gx_audit_bytes.specs.Audits.{all_bytes, whole_audit, AreShown}
+use Rattle.gx_audit_bytes.specs.Versions.{version_of, DayFits}
 use Rattle.gx_audit.specs.Auditing.{IsLegalAudit}
+use Rattle.gx_audit.proofs.Fronts.{version_known}
 
 -- all records, from the first on
 pub whole_day : (all part : List RecordData) → part ≡ slice all 1 (length all) → part ≡ all
@@ -21,10 +23,11 @@ whole_is version policy records part front bytes is begun written =
     (λ i. begun i ++ written i) ∙ ap (λ (rs : List RecordData). whole_audit version policy rs) (whole_day records part is)
 
 pub is_audit : (version : AuditVersion) (policy : PolicyData) (records part : List RecordData) (audit : List ℕ) → part ≡ slice records 1 (length records)
-    → IsLegal policy records → AreShown version part → audit ≡ whole_audit version policy records → IsLegalAudit policy audit (length records)
-is_audit version policy records part audit is legal shown written =
+    → DayFits version → IsLegal policy records → AreShown version part → audit ≡ whole_audit version policy records → IsLegalAudit policy audit (length records)
+is_audit version policy records part audit is fits legal shown written =
     record {
       version = version;
+      version_is = ap version_of written ∙ version_known version policy records fits;
       records = records;
       legal = legal;
       shown = subst (AreShown version) (whole_day records part is) shown;

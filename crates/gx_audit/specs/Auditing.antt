@@ -1,5 +1,5 @@
 -- What the check of an audit answers.
-use Rattle.std.specs.Prelude.{◌≡◌, ◌≢◌, ℕ, ◌+◌, ◌<◌, ◌≤◌, List, [], ◌∷◌, ◌++◌, take, length, ◌⊎◌, Option, Some, Result, Ok, Err}
+use Rattle.std.specs.Prelude.{◌≡◌, ◌≢◌, ℕ, ◌+◌, ◌<◌, ◌≤◌, List, [], ◌∷◌, ◌++◌, take, length, ◌⊎◌, Option, Some, Result, Ok, Err, IsTrue}
 use Rattle.gx_policy.specs.declared.policy.PolicyData.{PolicyData}
 use Rattle.gx_history.specs.declared.record.RecordData.{RecordData}
 use Rattle.gx_history.specs.declared.record.Step.{Step}
@@ -7,16 +7,16 @@ use Rattle.gx_history.specs.Verdicts.{IsLegal, Follows}
 use Rattle.gx_audit.specs.declared.fault.AuditFault.{AuditFault}
 use Rattle.gx_audit.specs.declared.fault.AuditFault.TheVariants as faults
 use Rattle.gx_audit_bytes.specs.declared.version.AuditVersion.{AuditVersion}
-use Rattle.gx_audit_bytes.specs.declared.version.AuditVersion.TheVariants as versions
-use Rattle.gx_audit_bytes.specs.Versions.{version_of}
+use Rattle.gx_audit_bytes.specs.Versions.{has_header, version_of}
 use Rattle.gx_audit_bytes.specs.Audits.{record_size, whole_audit, AreShown}
-use Rattle.gx_audit_bytes.specs.Headers.{header_bytes}
+use Rattle.gx_audit_bytes.specs.Headers.{header_in}
 use Rattle.gx_audit_bytes.specs.Records.{record_bytes}
 use Rattle.gx_audit_bytes.specs.Reading.{record_of, IsShown}
 
 -- the bytes are the audit of a legal day, in one of the versions, with so many records
 pub record IsLegalAudit (policy : PolicyData) (bytes : List ℕ) (count : ℕ) : Type 0 where
   pub version : AuditVersion
+  pub version_is : version_of bytes ≡ version
   pub records : List RecordData
   pub legal : IsLegal policy records
   pub shown : AreShown version records
@@ -64,14 +64,14 @@ pub record IsFirstFault (policy : PolicyData) (bytes : List ℕ) (fault : AuditF
 
 -- the header is cut short
 pub record HasCutHeader (bytes : List ℕ) : Type 0 where
-  pub version_is : version_of bytes ≡ versions.Two
+  pub headed : IsTrue (has_header (version_of bytes))
   pub short : length bytes < record_size
 
--- the header is whole, and another than the policy's
+-- the header is whole, and another than the policy's in its version and of its day
 pub record HasOtherHeader (policy : PolicyData) (bytes : List ℕ) : Type 0 where
-  pub version_is : version_of bytes ≡ versions.Two
+  pub headed : IsTrue (has_header (version_of bytes))
   pub whole : record_size ≤ length bytes
-  pub other : take record_size bytes ≢ header_bytes policy
+  pub other : take record_size bytes ≢ header_in (version_of bytes) policy
 
 -- what the answer says is so; where memory ran out nothing is said
 abbrev pub IsAnswer : PolicyData → List ℕ → Result ℕ AuditFault → Type 0

@@ -2,3 +2,4 @@ pub mod Auditing
 pub mod Replaying
 pub mod Telling
 pub mod Resuming
+pub mod Beginning

@@ -1,14 +1,14 @@
--- What is made of a journal: the audit, in version 2, of a day that goes on. It may be cut in its last record.
-use Rattle.std.specs.Prelude.{◌≡◌, ◌≢◌, ℕ, ◌+◌, ◌*◌, ◌<◌, ◌≤◌, List, ◌++◌, take, drop, length, ◌⊎◌}
+-- What is made of a journal: the audit, in a version that has a header, of a day that goes on. It may be cut in its last record.
+use Rattle.std.specs.Prelude.{◌≡◌, ◌≢◌, ℕ, ◌+◌, ◌*◌, ◌<◌, ◌≤◌, List, ◌++◌, take, drop, length, ◌⊎◌, IsTrue}
 use Rattle.gx_policy.specs.declared.policy.PolicyData.{PolicyData}
 use Rattle.gx_history.specs.declared.record.RecordData.{RecordData}
 use Rattle.gx_audit.specs.declared.fault.AuditFault.{AuditFault}
 use Rattle.gx_audit.specs.declared.fault.AuditFault.TheVariants as faults
 use Rattle.gx_audit_bytes.specs.declared.version.AuditVersion.{AuditVersion}
-use Rattle.gx_audit_bytes.specs.declared.version.AuditVersion.TheVariants as versions
+use Rattle.gx_audit_bytes.specs.Versions.{has_header, version_of}
 use Rattle.gx_audit_bytes.specs.Audits.{record_size, whole_audit, AreShown}
 use Rattle.gx_audit.specs.Auditing.{IsFirstFault}
-use Rattle.gx_audit_bytes.specs.Headers.{header_bytes}
+use Rattle.gx_audit_bytes.specs.Headers.{header_in}
 
 -- the bytes are the audit of these records up to this place, behind which too few are left for another record
 pub record EndsAt (version : AuditVersion) (policy : PolicyData) (bytes : List ℕ) (records : List RecordData) (end : ℕ) : Type 0 where
@@ -19,10 +19,11 @@ pub record EndsAt (version : AuditVersion) (policy : PolicyData) (bytes : List �
 
 -- the journal is the audit of these records, but for fewer bytes than a record has, behind them
 pub record HoldsRecords (policy : PolicyData) (journal : List ℕ) (records : List RecordData) : Type 0 where
-  pub shown : AreShown versions.Two records
+  pub headed : IsTrue (has_header (version_of journal))
+  pub shown : AreShown (version_of journal) records
   pub rest : List ℕ
   pub short : length rest < record_size
-  pub bytes_are : whole_audit versions.Two policy records ++ rest ≡ journal
+  pub bytes_are : whole_audit (version_of journal) policy records ++ rest ≡ journal
 
 -- how many bytes a journal of so many records has: its header's and theirs
 abbrev pub journal_size : ℕ → ℕ
@@ -31,7 +32,7 @@ journal_size count = record_size + record_size * count
 -- the bytes do not begin with the policy's header: they are too few for one, or begin otherwise
 abbrev pub IsHeaderFault : PolicyData → List ℕ → AuditFault → Type 0
 IsHeaderFault policy bytes faults.Truncated = length bytes < record_size
-IsHeaderFault policy bytes faults.OtherPolicy = (record_size ≤ length bytes) × (take record_size bytes ≢ header_bytes policy)
+IsHeaderFault policy bytes faults.OtherPolicy = (record_size ≤ length bytes) × (take record_size bytes ≢ header_in (version_of bytes) policy)
 IsHeaderFault policy bytes other = ⊥
 
 -- behind the front and the records of a legal day the next record's bytes have the fault; where memory ran out nothing is said

@@ -3,25 +3,26 @@
 ghost use Rattle.std.specs.Prelude.{◌≡◌, ◌≢◌, ◌+◌, ◌-◌, ◌<◌, ◌≤◌, ◌^◌, IsTrue, IsFalse, IfOk, IfErr, OnOk, Err, ◌++◌, [], length, take, drop, Some};
 ghost use Rattle.gx_history.specs.Verdicts.{next, IsLegal};
 ghost use Rattle.gx_answers.specs.declared.outcome.StepFault.TheVariants as stepping;
-ghost use Rattle.gx_audit.specs.Auditing.{with_left, IsAnswer, IsOneMore, IsOnlyAnswer, IsRecordFault, NoneFollows};
+ghost use Rattle.gx_audit.specs.declared.fault.AuditFault.TheVariants as faults;
+ghost use Rattle.gx_audit.specs.Auditing.{with_left, HasOtherHeader, IsAnswer, IsOneMore, IsOnlyAnswer, IsRecordFault, NoneFollows};
 ghost use Rattle.gx_audit_bytes.specs.Reading.{record_of, IsAskableStep, IsShown};
 ghost use Rattle.gx_audit.specs.Replaying.{EndsAt, IsHeaderFault, IsRecordsFault};
-ghost use Rattle.gx_audit_bytes.specs.Headers.{front_of, header_bytes};
+ghost use Rattle.gx_audit_bytes.specs.Headers.{front_of};
 ghost use Rattle.gx_audit_bytes.specs.Records.{record_bytes};
-ghost use Rattle.gx_audit_bytes.specs.Versions.{version_of};
+ghost use Rattle.gx_audit_bytes.specs.Versions.{has_header, version_of};
 
 use crate::fault::AuditFault;
 use gx_answers::{AccessGate, Outcome, StepFault};
 use gx_audit_bytes::{
-    AuditVersion, RECORD_SIZE, has_bytes, read_record_in, same_bytes, whole, write_header,
+    AuditVersion, RECORD_SIZE, has_bytes, read_record_in, same_bytes, whole, write_header_in,
 };
 use gx_history::record::{RecordData, Step};
 use gx_policy::Policy;
 use std::alloc::Global;
 
 /// Whether the bytes are the audit of a legal day under the policy: how many records there are, or the first fault. Bytes
-/// that begin with `GXH2` are taken as version 2, all others as version 1. The steps are made again on a gate of its own,
-/// a `G`.
+/// that begin with `GXH2` are taken as version 2, those that begin with `GXH3` as version 3 with the day of their header,
+/// all others as version 1. The steps are made again on a gate of its own, a `G`.
 #[tactic(auto, using(crate::proofs::Only::is_only))]
 pub fn check_audit<G: AccessGate>(
     alloc: Global,
@@ -40,35 +41,69 @@ pub fn check_audit<G: AccessGate>(
 }
 
 /// Where the records begin: behind the header, where there has to be one.
-#[tactic(auto, using(crate::proofs::Fronts::told_of_header))]
-fn records_start(policy: &Policy, version: AuditVersion, bytes: &[u8]) -> Result<usize, AuditFault>
+#[tactic(auto, using(crate::proofs::Fronts::told_of_header, crate::proofs::Fronts::headless))]
+pub(crate) fn records_start(
+    policy: &Policy,
+    version: AuditVersion,
+    bytes: &[u8],
+) -> Result<usize, AuditFault>
     requires version { version_of bytes.now ≡ version }
     ensures within { IfOk result (λ start. start ≤ length bytes.now) }
     ensures front { IfOk result (λ start.
         front_of version policy.now ++ drop start bytes.now ≡ bytes.now) }
     ensures fault { IfErr result (λ e. IsAnswer policy.now bytes.now (Err e)) }
 {
-    match version {
-        AuditVersion::One => Ok(0),
-        AuditVersion::Two => header_end(policy, bytes),
+    if !version.has_header() {
+        return Ok(0);
     }
+    header_end(policy, version, bytes)
 }
 
-/// Where the policy's header ends, with which the bytes have to begin.
+/// Where the policy's header in this version ends, with which the bytes have to begin.
 #[tactic(auto, using(crate::proofs::Fronts::other_header))]
-pub(crate) fn header_end(policy: &Policy, bytes: &[u8]) -> Result<usize, AuditFault>
+pub(crate) fn header_end(
+    policy: &Policy,
+    version: AuditVersion,
+    bytes: &[u8],
+) -> Result<usize, AuditFault>
+    requires version { version_of bytes.now ≡ version }
     ensures within { IfOk result (λ end. end ≤ length bytes.now) }
+    ensures headed { OnOk result (IsTrue (has_header version)) }
     ensures front { IfOk result (λ end.
-        header_bytes policy.now ++ drop end bytes.now ≡ bytes.now) }
+        front_of version policy.now ++ drop end bytes.now ≡ bytes.now) }
     ensures fault { IfErr result (λ e. IsHeaderFault policy.now bytes.now e) }
 {
     if bytes.len() < RECORD_SIZE {
         return Err(AuditFault::Truncated);
     }
-    if same_bytes(&record_at(bytes, 0), &write_header(policy)) {
+    if same_bytes(&record_at(bytes, 0), &write_header_in(version, policy)) {
         Ok(RECORD_SIZE)
     } else {
         Err(AuditFault::OtherPolicy)
+    }
+}
+
+/// Whether the fault is that of another header.
+fn tells_other_policy(fault: AuditFault) -> bool
+    ensures other { IsTrue result → fault ≡ faults.OtherPolicy }
+    ensures same { IsFalse result → fault ≢ faults.OtherPolicy }
+{
+    matches!(fault, AuditFault::OtherPolicy)
+}
+
+/// Whether the audit has a whole header, which is not the policy's.
+#[tactic(auto, using(crate::proofs::Fronts::no_header, crate::proofs::Fronts::no_other_header, crate::proofs::Fronts::header_told, crate::proofs::Fronts::header_not_told))]
+pub fn is_of_other_policy(policy: &Policy, bytes: &[u8]) -> bool
+    ensures other { IsTrue result → HasOtherHeader policy.now bytes.now }
+    ensures same { IsFalse result → ¬ (HasOtherHeader policy.now bytes.now) }
+{
+    let version = AuditVersion::of(bytes);
+    if !version.has_header() {
+        return false;
+    }
+    match header_end(policy, version, bytes) {
+        Ok(_) => false,
+        Err(fault) => tells_other_policy(fault),
     }
 }
 

@@ -3,32 +3,38 @@
 ghost use Rattle.std.specs.Prelude.{◌≡◌, IfOk, length};
 ghost use Rattle.gx_audit.specs.Auditing.{IsLegalAudit};
 ghost use Rattle.gx_audit_bytes.specs.Audits.{whole_audit};
-ghost use Rattle.gx_audit_bytes.specs.Headers.{front_of, header_bytes};
+ghost use Rattle.gx_audit_bytes.specs.Headers.{front_of, header_in};
+ghost use Rattle.gx_audit_bytes.specs.Versions.{DayFits};
 
 use gx_answers::AccessGate;
-use gx_audit_bytes::{AuditVersion, RECORD_SIZE, audit_bytes, write_header};
+use gx_audit_bytes::{AuditVersion, RECORD_SIZE, audit_bytes, write_header_in};
 use gx_units::OutOfMemory;
 use std::alloc::Global;
 
-/// The header of the gate's policy. Takes no memory.
-pub fn header_of<G: AccessGate>(gate: &G) -> [u8; RECORD_SIZE]
-    ensures { result ≡ header_bytes (G.seen gate.now).policy }
+/// The header of the gate's policy in this version. Takes no memory.
+pub fn header_of<G: AccessGate>(version: AuditVersion, gate: &G) -> [u8; RECORD_SIZE]
+    ensures header { result ≡ header_in version (G.seen gate.now).policy }
+    ensures fits { DayFits version }
 {
-    write_header(gate.policy())
+    write_header_in(version, gate.policy())
 }
 
-/// What stands in front of the gate's records: in version 2 the policy's header.
+/// What stands in front of the gate's records: the policy's header in a version that has one.
+#[tactic(auto, using(crate::proofs::Fronts::no_front, crate::proofs::Fronts::front_is))]
 fn front<G: AccessGate>(
     alloc: Global,
     version: AuditVersion,
     gate: &G,
 ) -> Result<Vec<u8>, OutOfMemory>
-    ensures { IfOk result (λ front. front.items ≡ front_of version (G.seen gate.now).policy) }
+    ensures front { IfOk result
+        (λ front. front.items ≡ front_of version (G.seen gate.now).policy) }
+    ensures fits { DayFits version }
 {
-    match version {
-        AuditVersion::One => Ok(Vec::new(alloc)),
-        AuditVersion::Two => Ok(Vec::from_slice(alloc, &header_of(gate))?),
+    let header = header_of(version, gate);
+    if !version.has_header() {
+        return Ok(Vec::new(alloc));
     }
+    Ok(Vec::from_slice(alloc, &header)?)
 }
 
 /// The audit of the gate's records in this version: that of a legal day under its policy.

@@ -3,15 +3,14 @@
 ghost use Rattle.std.specs.Prelude.{◌≡◌, ◌^◌, ◌*◌, ◌+◌, ◌<◌, ◌≤◌, ◌-◌, ◌++◌, length, OnErr, OnOk};
 ghost use Rattle.std.specs.Io.KnownBytes.{Appends};
 ghost use Rattle.arrayvec.specs.ArrayVec.{array_vec_len};
-ghost use Rattle.gx_audit_bytes.specs.declared.version.AuditVersion.TheVariants as versions;
 ghost use Rattle.gx_audit_bytes.specs.Audits.{all_bytes, whole_audit};
-ghost use Rattle.gx_audit_bytes.specs.Headers.{header_bytes};
+ghost use Rattle.gx_audit_bytes.specs.Headers.{front_of};
 ghost use Rattle.gx_audit_bytes.specs.Records.{record_bytes};
 ghost use Rattle.gx_devices.specs.Devices.{IsFront};
 
 use crate::day::header_of;
 use arrayvec::ArrayVec;
-use gx_audit_bytes::{RECORD_SIZE, write_record_2};
+use gx_audit_bytes::{AuditVersion, RECORD_SIZE, write_record_in};
 use gx_devices::{Counted, WriteFailed, write_whole};
 use gx_history::record::Record;
 use gx_records::ShowsRecords;
@@ -23,36 +22,64 @@ const PIECE: usize = 64;
 /// The bytes of so many records: no memory is asked for.
 type PieceBytes = ArrayVec<u8, 8_192>;
 
-/// Writes the audit of the gate's records in version 2: the policy's header, and then each record as its 128 bytes, one
-/// behind the other. Takes no memory. After a fault a front of that is written.
+/// Writes the audit of the gate's records in this version: the policy's header, where it has one, and then each record as
+/// its 128 bytes, one behind the other. Takes no memory. After a fault a front of that is written.
 #[tactic(auto, using(crate::proofs::Pieces::behind_front, crate::proofs::Pieces::front_cut, crate::proofs::Pieces::records_cut))]
 pub fn write_audit<G: ShowsRecords, W: Write>(
+    version: AuditVersion,
     gate: &G,
     writer: &mut Counted<W>,
 ) -> Result<(), WriteFailed>
     requires { writer.old.failed < 2 ^ 64 - 1 }
     ensures written { OnOk result (Appends
         (W.contents writer.old.device) (W.contents writer.new.device)
-        (whole_audit versions.Two (G.seen gate.now).policy (G.seen gate.now).records)) }
+        (whole_audit version (G.seen gate.now).policy (G.seen gate.now).records)) }
     ensures front { OnErr result (IsFront
         (W.contents writer.old.device) (W.contents writer.new.device)
-        (whole_audit versions.Two (G.seen gate.now).policy (G.seen gate.now).records)) }
+        (whole_audit version (G.seen gate.now).policy (G.seen gate.now).records)) }
     ensures kept { OnOk result (writer.new.failed ≡ writer.old.failed) }
     ensures told { OnErr result (writer.old.failed < writer.new.failed) }
 {
-    write_whole(writer, &header_of(gate))?;
-    write_records(gate.shown_records(), writer)
+    write_front(version, gate, writer)?;
+    write_records(version, gate.shown_records(), writer)
 }
 
-/// Writes the records.
-fn write_records<W: Write>(records: &[Record], writer: &mut Counted<W>) -> Result<(), WriteFailed>
+/// Writes what stands in front of the records.
+#[tactic(auto, using(crate::proofs::Pieces::no_front_written, crate::proofs::Fronts::front_is))]
+fn write_front<G: ShowsRecords, W: Write>(
+    version: AuditVersion,
+    gate: &G,
+    writer: &mut Counted<W>,
+) -> Result<(), WriteFailed>
     requires { writer.old.failed < 2 ^ 64 - 1 }
     ensures written { OnOk result (Appends
         (W.contents writer.old.device) (W.contents writer.new.device)
-        (all_bytes versions.Two records.now)) }
+        (front_of version (G.seen gate.now).policy)) }
     ensures front { OnErr result (IsFront
         (W.contents writer.old.device) (W.contents writer.new.device)
-        (all_bytes versions.Two records.now)) }
+        (front_of version (G.seen gate.now).policy)) }
+    ensures kept { OnOk result (writer.new.failed ≡ writer.old.failed) }
+    ensures told { OnErr result (writer.old.failed < writer.new.failed) }
+{
+    if !version.has_header() {
+        return Ok(());
+    }
+    write_whole(writer, &header_of(version, gate))
+}
+
+/// Writes the records.
+fn write_records<W: Write>(
+    version: AuditVersion,
+    records: &[Record],
+    writer: &mut Counted<W>,
+) -> Result<(), WriteFailed>
+    requires { writer.old.failed < 2 ^ 64 - 1 }
+    ensures written { OnOk result (Appends
+        (W.contents writer.old.device) (W.contents writer.new.device)
+        (all_bytes version records.now)) }
+    ensures front { OnErr result (IsFront
+        (W.contents writer.old.device) (W.contents writer.new.device)
+        (all_bytes version records.now)) }
     ensures kept { OnOk result (writer.new.failed ≡ writer.old.failed) }
     ensures told { OnErr result (writer.old.failed < writer.new.failed) }
 {
@@ -60,48 +87,52 @@ fn write_records<W: Write>(records: &[Record], writer: &mut Counted<W>) -> Resul
     let mut done = 0;
     while done < count {
         let size = PIECE.min(count - done);
-        write_piece(&records[done..done + size], writer)?;
+        write_piece(version, &records[done..done + size], writer)?;
         done += size;
     }
     Ok(())
 }
 
 /// Writes a few records.
-fn write_piece<W: Write>(piece: &[Record], writer: &mut Counted<W>) -> Result<(), WriteFailed>
+fn write_piece<W: Write>(
+    version: AuditVersion,
+    piece: &[Record],
+    writer: &mut Counted<W>,
+) -> Result<(), WriteFailed>
     requires few { length piece.now ≤ 64 }
     requires writer { writer.old.failed < 2 ^ 64 - 1 }
     ensures written { OnOk result (Appends
         (W.contents writer.old.device) (W.contents writer.new.device)
-        (all_bytes versions.Two piece.now)) }
+        (all_bytes version piece.now)) }
     ensures front { OnErr result (IsFront
         (W.contents writer.old.device) (W.contents writer.new.device)
-        (all_bytes versions.Two piece.now)) }
+        (all_bytes version piece.now)) }
     ensures kept { OnOk result (writer.new.failed ≡ writer.old.failed) }
     ensures told { OnErr result (writer.old.failed < writer.new.failed) }
 {
-    let bytes = piece_bytes(piece);
+    let bytes = piece_bytes(version, piece);
     write_whole(writer, bytes.as_slice())
 }
 
 /// The bytes of a few records.
-fn piece_bytes(piece: &[Record]) -> PieceBytes
+fn piece_bytes(version: AuditVersion, piece: &[Record]) -> PieceBytes
     requires { length piece.now ≤ 64 }
-    ensures { result.items ≡ all_bytes versions.Two piece.now }
+    ensures { result.items ≡ all_bytes version piece.now }
 {
     let mut bytes = PieceBytes::new();
     for given in piece {
-        put(&mut bytes, given);
+        put(version, &mut bytes, given);
     }
     bytes
 }
 
 /// Puts the record's bytes last.
-fn put(bytes: &mut PieceBytes, given: &Record)
+fn put(version: AuditVersion, bytes: &mut PieceBytes, given: &Record)
     requires { array_vec_len bytes.old + 128 ≤ 8192 }
-    ensures bytes { bytes.new.items ≡ bytes.old.items ++ record_bytes versions.Two given.now }
+    ensures bytes { bytes.new.items ≡ bytes.old.items ++ record_bytes version given.now }
     ensures length { array_vec_len bytes.new ≡ array_vec_len bytes.old + 128 }
 {
-    let shown: [u8; RECORD_SIZE] = write_record_2(given);
+    let shown: [u8; RECORD_SIZE] = write_record_in(version, given);
     match bytes.try_extend_from_slice(&shown) {
         Ok(()) => {}
         Err(_) => unreachable!(),

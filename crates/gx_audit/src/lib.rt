@@ -5,8 +5,8 @@
 //! records to a person.
 #![tactic(auto)]
 
+mod beginning;
 mod checking;
-mod choosing;
 mod day;
 mod explaining;
 mod fault;
@@ -14,18 +14,16 @@ mod keeping;
 mod places;
 mod replaying;
 mod resuming;
-mod showing;
 mod telling;
 mod writing_fault;
 
-pub use checking::{check_audit, check_record, record_at};
-pub use choosing::Choice;
+pub use beginning::{count_until, replay_first};
+pub use checking::{check_audit, check_record, is_of_other_policy, record_at};
 pub use day::{audit_of, header_of};
 pub use explaining::more_of_audit;
 pub use fault::AuditFault;
 pub use keeping::write_audit;
 pub use replaying::replay;
 pub use resuming::{Resumed, resume};
-pub use showing::show_audit;
-pub use telling::{AuditAnswer, told_of_audit};
+pub use telling::{AuditAnswer, told_of_audit, told_of_fault};
 pub use writing_fault::AuditingFault;

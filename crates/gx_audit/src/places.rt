@@ -5,9 +5,10 @@ use gx_audit_bytes::{AuditVersion, RECORD_SIZE};
 
 /// Where the first record begins: behind the header, where there is one.
 fn first_place(audit: &[u8]) -> usize {
-    match AuditVersion::of(audit) {
-        AuditVersion::One => 0,
-        AuditVersion::Two => RECORD_SIZE,
+    if AuditVersion::of(audit).has_header() {
+        RECORD_SIZE
+    } else {
+        0
     }
 }
 

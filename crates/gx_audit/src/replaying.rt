@@ -11,12 +11,13 @@ use gx_audit_bytes::AuditVersion;
 use gx_policy::Policy;
 use std::alloc::Global;
 
-/// The gate of the records that a journal holds: an audit of version 2, which may be cut in its last record. Each step is
-/// made again, as [`check_audit`](crate::check_audit) does.
+/// The gate of the records that a journal holds: an audit of version 2 or 3, which may be cut in its last record. Each step
+/// is made again, as [`check_audit`](crate::check_audit) does.
 ///
 /// # Errors
 ///
-/// `Truncated` only where the bytes are too few for a header, and `OtherPolicy` where they do not begin with the policy's.
+/// `Truncated` only where the bytes are too few for a header, and `OtherPolicy` where they do not begin with the policy's, in
+/// version 3 that of the day which they name.
 /// Any other fault names its record.
 #[tactic(auto, using(crate::proofs::Journals::holds_records, crate::proofs::Journals::is_within))]
 pub fn replay<G: AccessGate>(
@@ -32,11 +33,12 @@ pub fn replay<G: AccessGate>(
         journal_size (length (G.seen gate).records) ≤ length journal.now) }
     ensures fault { IfErr result (λ e. IsReplayFault policy.now journal.now e) }
 {
-    let start = header_end(policy, journal)?;
+    let version = AuditVersion::of(journal);
+    let start = header_end(policy, version, journal)?;
     let Ok(mut gate) = G::open(alloc, policy) else {
         return Err(AuditFault::OutOfMemory);
     };
-    match follow_records(&mut gate, AuditVersion::Two, journal, start) {
+    match follow_records(&mut gate, version, journal, start) {
         Ok(_) => Ok(gate),
         Err(fault) => {
             gate.close();

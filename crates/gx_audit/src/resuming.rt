@@ -9,7 +9,7 @@ ghost use Rattle.gx_audit.specs.Resuming.{IsNew, Stands};
 use crate::fault::AuditFault;
 use crate::replaying::replay;
 use gx_answers::AccessGate;
-use gx_audit_bytes::{RECORD_SIZE, write_header};
+use gx_audit_bytes::{AuditVersion, RECORD_SIZE, write_header_in};
 use gx_policy::Policy;
 use std::alloc::Global;
 
@@ -22,11 +22,11 @@ pub struct Resumed<G> {
     pub kept: u64,
 }
 
-/// Whether the bytes are a front of the policy's header, but not all of it.
+/// Whether the bytes are a front of the policy's header in their version, but not all of it.
 fn is_new(policy: &Policy, file: &[u8]) -> bool
     ensures { IsTrue result → IsNew policy.now file.now }
 {
-    file.len() < RECORD_SIZE && write_header(policy).starts_with(file)
+    file.len() < RECORD_SIZE && write_header_in(AuditVersion::of(file), policy).starts_with(file)
 }
 
 /// How many bytes the journal of so many records has.

@@ -1,6 +1,6 @@
 //! What is told of an audit.
 
-ghost use Rattle.std.specs.Prelude.{◌≡◌, ◌++◌, decimal, IfOk, OnOk};
+ghost use Rattle.std.specs.Prelude.{◌≡◌, ◌++◌, decimal, Err, IfOk, OnOk};
 ghost use Rattle.gx_audit.specs.Auditing.{IsAnswer, IsJudgement, IsOnlyAnswer};
 ghost use Rattle.gx_audit.specs.Telling.{answer_line, answer_status};
 ghost use Rattle.gx_script.specs.Printing.{line_end};
@@ -45,6 +45,20 @@ pub fn told_of_audit<G: AccessGate>(
     ensures line { IfOk result (λ told. told.line.items ≡ answer_line told.answer) }
 {
     let answer = check_audit::<G>(alloc, policy, audit);
+    let line = line_of(alloc, answer)?;
+    Ok(AuditAnswer { answer, line })
+}
+
+/// What is told of an audit that has this fault, as [`told_of_audit`] tells it.
+///
+/// # Errors
+///
+/// `OutOfMemory` where that is the fault, or where memory was refused.
+pub fn told_of_fault(alloc: Global, fault: AuditFault) -> Result<AuditAnswer, AuditingFault>
+    ensures answer { IfOk result (λ told. told.answer ≡ Err fault) }
+    ensures line { IfOk result (λ told. told.line.items ≡ answer_line (Err fault)) }
+{
+    let answer = Err(fault);
     let line = line_of(alloc, answer)?;
     Ok(AuditAnswer { answer, line })
 }

@@ -1,5 +1,6 @@
 pub mod Contents
 pub mod Bodies
+pub mod Days
 pub mod Versions
 pub mod Records
 pub mod Headers

@@ -1,7 +1,8 @@
-//! The bytes of an audit: how its header and its records are written in either version, and which record bytes show.
+//! The bytes of an audit: how its header and its records are written in each version, and which record bytes show.
 #![tactic(auto)]
 
 mod bodies;
+mod day;
 mod draft;
 mod header;
 mod reading;
@@ -10,10 +11,11 @@ mod version;
 mod writing;
 mod wrong;
 
+pub use day::AuditDay;
 pub use draft::{RECORD_SIZE, same_bytes, whole};
-pub use header::write_header;
-pub use reading::{has_bytes, read_record, read_record_2, read_record_in};
+pub use header::{write_header, write_header_3, write_header_in};
+pub use reading::{has_bytes, is_built_in, read_record, read_record_2, read_record_in};
 pub use records::audit_bytes;
 pub use version::AuditVersion;
-pub use writing::{write_record, write_record_2, write_record_in};
+pub use writing::{rule_bytes, write_record, write_record_2, write_record_in};
 pub use wrong::{message_shown, wrong_field};

@@ -302,8 +302,9 @@ fn is_rule_shown(rule: &RuleName) -> bool
     }
 }
 
+/// Whether the name is that of a built-in rule.
 #[tactic(auto, unfolding(gx_policy::specs::RuleNames::rules_before, gx_policy::specs::RuleNames::rules_behind))]
-fn is_built_in(name: &RuleId) -> bool
+pub fn is_built_in(name: &RuleId) -> bool
     ensures { result ≡ is_built_in name.now }
 {
     is_listed(&BUILT_IN, name.bytes)
@@ -330,7 +331,7 @@ fn long(field: &[u8]) -> u64
 }
 
 /// The number in a field of four bytes.
-fn number(field: &[u8]) -> u32
+pub(crate) fn number(field: &[u8]) -> u32
     requires { length field.now ≡ 4 }
     ensures { result ≡ from_be_bytes w32 field.now }
 {
@@ -338,7 +339,7 @@ fn number(field: &[u8]) -> u32
 }
 
 /// The number in a field of one byte.
-fn byte(field: &[u8]) -> u8
+pub(crate) fn byte(field: &[u8]) -> u8
     requires { length field.now ≡ 1 }
     ensures { result ≡ from_be_bytes w8 field.now }
 {
@@ -346,7 +347,7 @@ fn byte(field: &[u8]) -> u8
 }
 
 /// The number in a field of two bytes.
-fn short(field: &[u8]) -> u16
+pub(crate) fn short(field: &[u8]) -> u16
     requires { length field.now ≡ 2 }
     ensures { result ≡ from_be_bytes w16 field.now }
 {

@@ -99,6 +99,7 @@ fn mark(version: AuditVersion) -> [u8; 4]
     match version {
         AuditVersion::One => *b"GXA1",
         AuditVersion::Two => *b"GXA2",
+        AuditVersion::Three(_) => *b"GXA3",
     }
 }
 
@@ -173,7 +174,7 @@ fn rule(verdict: &Verdict) -> [u8; 8]
 }
 
 /// The name of a rule, padded with spaces.
-pub(crate) fn rule_bytes(rule: RuleName) -> [u8; 8]
+pub fn rule_bytes(rule: RuleName) -> [u8; 8]
     ensures bytes { result ≡ (rule_id rule).bytes }
     ensures fits { NameFits rule }
 {

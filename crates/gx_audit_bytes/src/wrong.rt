@@ -51,6 +51,7 @@ fn has_mark(version: AuditVersion, bytes: &[u8]) -> bool {
     match version {
         AuditVersion::One => matches!(bytes, [b'G', b'X', b'A', b'1', ..]),
         AuditVersion::Two => matches!(bytes, [b'G', b'X', b'A', b'2', ..]),
+        AuditVersion::Three(_) => matches!(bytes, [b'G', b'X', b'A', b'3', ..]),
     }
 }
 

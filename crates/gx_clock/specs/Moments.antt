@@ -1,5 +1,5 @@
 -- Moments of a server's day, in nanoseconds past its midnight.
-use Rattle.std.specs.Prelude.{ℕ, ◌+◌, ◌-◌, ◌*◌, ◌%◌, min, max, Option, Some, None, ◌≡◌}
+use Rattle.std.specs.Prelude.{ℕ, ◌+◌, ◌-◌, ◌*◌, ◌/◌, ◌%◌, ◌^◌, min, max, Option, Some, None, ◌≡◌}
 use Rattle.gx_clock.specs.declared.offset.UtcOffset.{UtcOffset}
 use Rattle.gx_clock.specs.declared.offset.UtcOffset.TheVariants as offsets
 
@@ -14,6 +14,10 @@ day = 86400000000000
 abbrev pub last_shown : ℕ
 last_shown = 3 * day - 1
 
+-- the last date
+abbrev pub last_date : ℕ
+last_date = 2 ^ 32 - 1
+
 -- by how much local time is ahead of UTC, less whole days
 abbrev pub ahead : UtcOffset → ℕ
 ahead (offsets.Ahead minutes) = minutes * minute
@@ -22,6 +26,16 @@ ahead (offsets.Behind minutes) = day - minutes * minute % day
 -- how long ago local midnight was, so many nanoseconds behind the beginning of 1970 in UTC
 abbrev pub moment_of_day : UtcOffset → ℕ → ℕ
 moment_of_day offset since = (since + ahead offset) % day
+
+-- the local time, so many nanoseconds behind the beginning of 1970 there; no earlier than that
+abbrev pub local_time : UtcOffset → ℕ → ℕ
+local_time (offsets.Ahead minutes) since = since + minutes * minute
+local_time (offsets.Behind minutes) since = since - minutes * minute
+
+-- the local date, in days since 1 January 1970, as far as dates go; 0 where the wall clock can't be read
+abbrev pub date_of : UtcOffset → Option ℕ → ℕ
+date_of offset (Some since) = min (local_time offset since / day) last_date
+date_of offset None = 0
 
 -- a clock began at one reading, at the moment `start`: the moment at another reading
 abbrev pub moment_at : ℕ → ℕ → ℕ → ℕ

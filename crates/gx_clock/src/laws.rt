@@ -1,9 +1,9 @@
 //! What holds of all offsets and moments, as functions that do nothing.
 
-ghost use Rattle.std.specs.Prelude.{◌≡◌, ℕ, ◌+◌, ◌*◌, ◌%◌, ◌≤◌, List, Some};
+ghost use Rattle.std.specs.Prelude.{◌≡◌, ℕ, ◌+◌, ◌*◌, ◌/◌, ◌%◌, ◌≤◌, List, Some};
 ghost use Rattle.gx_clock.specs.declared.offset.UtcOffset.{UtcOffset};
 ghost use Rattle.gx_clock.specs.declared.offset.UtcOffset.TheVariants as offsets;
-ghost use Rattle.gx_clock.specs.Moments.{day, minute, moment_at, moment_of_day};
+ghost use Rattle.gx_clock.specs.Moments.{date_of, day, last_date, local_time, minute, moment_at, moment_of_day};
 ghost use Rattle.gx_clock.specs.Offsets.{minutes_in, most_minutes, offset_of, written};
 
 /// An offset of at most 14 hours is read from its text.
@@ -16,6 +16,14 @@ pub fn offsets_are_read()
 pub fn local_time_is_behind()
     ensures { (minutes since : ℕ) →
         (moment_of_day (offsets.Behind minutes) since + minutes * minute) % day ≡ since % day }
+{}
+
+/// A date and the moment of that day are the local time, as far as dates go.
+pub fn days_begin_at_midnight()
+    ensures { (offset : UtcOffset) (since : ℕ) → minutes_in offset * minute ≤ since
+        → local_time offset since / day ≤ last_date
+        → date_of offset (Some since) * day + moment_of_day offset since
+        ≡ local_time offset since }
 {}
 
 /// A later reading shows no earlier moment.

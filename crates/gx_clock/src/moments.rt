@@ -10,10 +10,10 @@ use gx_units::Moment;
 use std::time::{Duration, Instant};
 
 /// The nanoseconds of a minute.
-const MINUTE: u128 = 60_000_000_000;
+pub(crate) const MINUTE: u128 = 60_000_000_000;
 
 /// The nanoseconds of a day.
-const DAY: u128 = 86_400_000_000_000;
+pub(crate) const DAY: u128 = 86_400_000_000_000;
 
 /// The last moment that a clock shows: three days behind its midnight, less a nanosecond.
 pub(crate) const LAST_SHOWN: Moment = 259_199_999_999_999;

@@ -63,6 +63,8 @@ enum Kind {
     Port,
     /// An option with a number from 1 to the most, and the one that holds without it.
     Count(i64, &'static [&'static str]),
+    /// An option with a number from 1 on.
+    Number,
     /// An option with an offset from UTC, which may begin with `-`, and the one that holds without it.
     Offset(&'static [&'static str]),
     /// An option with nothing, which stands beside the option of this name.
@@ -118,6 +120,15 @@ const RUN_AUDIT: Argument = Argument {
     help: "Where to write the audit of the run: all its records, when it ends; what stands there stays until then",
 };
 
+/// The option `--audit-version N` of a run.
+const RUN_VERSION: Argument = Argument {
+    name: AUDIT_VERSION,
+    value: "N",
+    kind: Kind::Choice(&[SECOND, THIRD]),
+    help: "The version in which audit and journal are written: 2, which holds without it, or 3, whose header has \
+           the policy's digest and the date; a journal that goes on keeps its own",
+};
+
 /// The argument FILE.
 const POLICY_FILE: Argument = Argument {
     name: "file",
@@ -136,16 +147,33 @@ pub(crate) const TEXT: &str = "text";
 
 pub(crate) const JSON: &str = "json";
 
+/// The name of the option `--audit-version`, and its values.
+pub(crate) const AUDIT_VERSION: &str = "audit-version";
+
+pub(crate) const SECOND: &str = "2";
+
+pub(crate) const THIRD: &str = "3";
+
+/// The name of the option `--format`, and the value that `--log` has not.
+pub(crate) const FORMAT: &str = "format";
+
+pub(crate) const CSV: &str = "csv";
+
 /// The name of the words of a command.
 pub(crate) const WORDS: &str = "words";
 
 /// The name of the option `--until`, whose value is read by itself too.
 pub(crate) const UNTIL: &str = "until";
 
+/// The names of the options `--from` and `--to`, whose values are read by themselves.
+pub(crate) const FROM: &str = "from";
+
+pub(crate) const TO: &str = "to";
+
 const PIPE: Subcommand = Subcommand {
     name: "pipe",
     about: "Serves one SoupBinTCP connection: client packets on standard input, server packets on standard output",
-    arguments: &[RUN_POLICY, RUN_AUDIT],
+    arguments: &[RUN_POLICY, RUN_AUDIT, RUN_VERSION],
     lines: None,
 };
 
@@ -225,6 +253,7 @@ const SERVE: Subcommand = Subcommand {
         },
         RUN_POLICY,
         RUN_AUDIT,
+        RUN_VERSION,
     ],
     lines: None,
 };
@@ -232,7 +261,7 @@ const SERVE: Subcommand = Subcommand {
 const SCRIPT: Subcommand = Subcommand {
     name: "script",
     about: "Runs a script of steps from standard input, and prints what becomes of each",
-    arguments: &[RUN_POLICY, RUN_AUDIT],
+    arguments: &[RUN_POLICY, RUN_AUDIT, RUN_VERSION],
     lines: Some(SCRIPT_LINES),
 };
 
@@ -279,7 +308,8 @@ const SHOW: Subcommand = Subcommand {
             name: "account",
             value: "ACCOUNT",
             kind: Kind::Text,
-            help: "Only what concerns the account: of its users, of commands that name it, of its orders",
+            help: "Only what concerns the account: requests of its users, what became of its orders, and commands that \
+                   name it or a rule that covers it, or close the day",
         },
         Argument {
             name: "user",
@@ -287,9 +317,114 @@ const SHOW: Subcommand = Subcommand {
             kind: Kind::Text,
             help: "Only what the user asked for, and what became of his orders",
         },
+        Argument {
+            name: "order",
+            value: "N",
+            kind: Kind::Number,
+            help: "Only what concerns the order that record N made: that record, each request that names it, what it came \
+                   to in matching, and the Kill or Close Day that it ended by",
+        },
+        Argument {
+            name: "stock",
+            value: "STOCK",
+            kind: Kind::Text,
+            help: "Only what concerns the stock: orders in it, and commands that put it on a list or take it off",
+        },
+        Argument {
+            name: "rule",
+            value: "RULE",
+            kind: Kind::Text,
+            help: "Only denials by the rule, and commands on it",
+        },
+        Argument {
+            name: "denied",
+            value: "",
+            kind: Kind::Flag,
+            help: "Only what was denied",
+        },
+        Argument {
+            name: FROM,
+            value: "TIME",
+            kind: Kind::Text,
+            help: "Nothing of an earlier moment; TIME is HH:MM or HH:MM:SS behind the midnight that moments count from",
+        },
+        Argument {
+            name: TO,
+            value: "TIME",
+            kind: Kind::Text,
+            help: "Nothing of a later moment",
+        },
+        Argument {
+            name: "clock",
+            value: "",
+            kind: Kind::Flag,
+            help: "In text, show each moment as a clock does, in front of the line",
+        },
+        Argument {
+            name: "words",
+            value: "",
+            kind: Kind::Flag,
+            help: "In text, say behind each denial why it was denied, and the letter of its Rejected",
+        },
+        Argument {
+            name: FORMAT,
+            value: "FORMAT",
+            kind: Kind::Choice(&[TEXT, CSV, JSON]),
+            help: "How the records are shown: as text, as it is without this, as CSV or as JSON, an object a line",
+        },
         DAY_POLICY,
     ],
     lines: Some(SHOWN_LINES),
+};
+
+/// The name of the option `--at`, whose value is read by itself too.
+pub(crate) const AT: &str = "at";
+
+/// The name of the option `--orders`.
+pub(crate) const ORDERS: &str = "orders";
+
+/// What `gate state --help` says of the lines.
+const STATE_LINES: &str =
+    "The first line has the day, its last record and that one's moment, whether the day is closed, and how many records
+may still come. Then there is a line for each user who is logged in, and for each account: its live orders, their
+open shares on each side, and where it is killed by whom. Then, rule by rule in the file's order, its limit, that of the
+file and who set it last; what each account, or all together, have used of it and what is left; and the stocks that it
+lists, and who put them there. Values are in dollars. A net rule has a line for each account and stock with anything.
+With --json all of it is one object, where values are in ten-thousandths of a dollar.
+Nothing is told of an audit that is none of a legal day up to there: its fault is, as by `gate check`, with status 4.";
+
+const STATE: Subcommand = Subcommand {
+    name: "state",
+    about: "Tells what stands in an audit's day: accounts, limits and what is used of them, lists, users who are on",
+    arguments: &[
+        Argument {
+            name: "audit",
+            value: "AUDIT",
+            kind: Kind::Word,
+            help: "The audit, or the journal of a server; its last record may be cut",
+        },
+        Argument {
+            name: AT,
+            value: "PLACE",
+            kind: Kind::Text,
+            help: "Behind the record of this number, or the last that is no later than this time of day, \
+                   HH:MM or HH:MM:SS; without it behind the last",
+        },
+        Argument {
+            name: ORDERS,
+            value: "",
+            kind: Kind::Flag,
+            help: "Tell each live order too",
+        },
+        Argument {
+            name: JSON,
+            value: "",
+            kind: Kind::Flag,
+            help: "Write one JSON object",
+        },
+        DAY_POLICY,
+    ],
+    lines: Some(STATE_LINES),
 };
 
 /// What `gate desk --help` says of the password and of the lines.
@@ -375,6 +510,7 @@ fn build_argument<'a>(alloc: Global, asked: &Argument) -> Result<Arg<'a>, AllocE
         ),
         Kind::Port => Ok(number(made.required(true), asked, 65_535)),
         Kind::Count(most, default) => Ok(number(made.default_values(default), asked, most)),
+        Kind::Number => Ok(number(made, asked, i64::MAX)),
         Kind::Offset(default) => Ok(offset(made.default_values(default), asked)),
         Kind::FlagBeside(other) => flag(made, asked).requires_arg(other),
         Kind::FlagInPlaceOf(other) => flag(made, asked).conflicts_with(other),
@@ -456,7 +592,9 @@ fn with_subcommand<'a>(
 /// The command line: what may be asked, with its help.
 pub(crate) fn command_line<'a>(alloc: Global) -> Result<Command<'a>, AllocError> {
     let mut gate = program(alloc);
-    for asked in &[PIPE, SERVE, SCRIPT, POLICY, MIGRATE, CHECK, SHOW, DESK] {
+    for asked in &[
+        PIPE, SERVE, SCRIPT, POLICY, MIGRATE, CHECK, SHOW, STATE, DESK,
+    ] {
         gate = with_subcommand(alloc, gate, asked)?;
     }
     Ok(gate)

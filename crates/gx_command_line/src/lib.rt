@@ -3,17 +3,32 @@
 
 mod commands;
 mod refused;
+mod state;
 mod values;
 mod words;
 
 use clap::{ArgMatches, Error};
-use commands::{JSON, LOG, MIDNIGHT, UNTIL, WORDS, command_line};
+use commands::{
+    AT, AUDIT_VERSION, CSV, FORMAT, FROM, JSON, LOG, MIDNIGHT, ORDERS, THIRD, TO, UNTIL, WORDS,
+    command_line,
+};
 use gx_clock::{TimeOfDay, UtcOffset};
 use gx_text::Form;
 use refused::told_of;
+use state::state_asked;
+pub use state::{Behind, StateAsked};
 use std::alloc::Global;
 pub use values::{BadValue, ReadOption};
 pub use words::{BadWord, LONGEST_WORD, first_bad_word};
+
+/// In which version the audit of a run is written, and a journal that is begun.
+#[derive(Clone, Copy, Debug, PartialEq, Eq)]
+pub enum VersionAsked {
+    /// Version 2.
+    Two,
+    /// Version 3, whose header has the policy's digest and the day.
+    Three,
+}
 
 /// The files of a run.
 #[derive(Clone, Copy, Debug)]
@@ -22,6 +37,8 @@ pub struct RunFiles<'a> {
     pub policy: Option<&'a str>,
     /// Where to write the audit, if it is wanted.
     pub audit: Option<&'a str>,
+    /// In which version the audit is written, and a journal that is begun.
+    pub version: VersionAsked,
 }
 
 /// An audit, and the policy of its day.
@@ -83,6 +100,39 @@ pub struct Wanted<'a> {
     pub account: Option<&'a str>,
     /// Those that this user asked for, and what became of his orders.
     pub user: Option<&'a str>,
+    /// Those that concern the order of this number.
+    pub order: Option<u64>,
+    /// Those that concern this stock.
+    pub stock: Option<&'a str>,
+    /// Denials by this rule, and commands on it.
+    pub rule: Option<&'a str>,
+    /// Denied requests alone.
+    pub only_denied: bool,
+    /// None of an earlier time.
+    pub from: Option<TimeOfDay>,
+    /// None of a later time.
+    pub to: Option<TimeOfDay>,
+}
+
+/// The form in which records are shown.
+#[derive(Clone, Copy, Debug, PartialEq, Eq)]
+pub enum TableForm {
+    /// As lines of a script.
+    Text,
+    /// As CSV.
+    Csv,
+    /// As JSON, an object a line.
+    Json,
+}
+
+/// How records of an audit are shown.
+#[derive(Clone, Copy, Debug)]
+pub struct Shape {
+    pub form: TableForm,
+    /// Whether moments stand in front as a clock shows them.
+    pub has_clock: bool,
+    /// Whether denials say why.
+    pub has_words: bool,
 }
 
 /// What a terminal client is to do.
@@ -122,7 +172,9 @@ pub enum Asked<'a> {
     /// `gate check`: to check an audit.
     Check(AuditFiles<'a>),
     /// `gate show`: to show records of an audit.
-    Show(AuditFiles<'a>, Wanted<'a>),
+    Show(AuditFiles<'a>, Wanted<'a>, Shape),
+    /// `gate state`: to tell what stands in an audit's day.
+    State(AuditFiles<'a>, StateAsked),
     /// `gate desk`: to be a terminal of a gate.
     Desk(Desk<'a>),
 }
@@ -132,7 +184,7 @@ pub enum Asked<'a> {
 pub enum BadCall<'a> {
     /// What `clap` says: what is wrong with the words, the help or the version that they ask for, or that memory was refused.
     Words(Error),
-    /// What `--midnight` or `--until` is given can't be read.
+    /// What `--midnight`, `--until`, `--from`, `--to` or `--at` is given can't be read.
     Value(BadValue<'a>),
 }
 
@@ -142,11 +194,20 @@ impl<'a> From<Error> for BadCall<'a> {
     }
 }
 
+/// In which version the audit of a run is wanted.
+fn version_asked<'a>(given: &ArgMatches<'a>) -> VersionAsked {
+    match given.get_str(AUDIT_VERSION) {
+        Some(THIRD) => VersionAsked::Three,
+        _ => VersionAsked::Two,
+    }
+}
+
 /// The files of a run.
 fn run_files<'a>(given: &ArgMatches<'a>) -> RunFiles<'a> {
     RunFiles {
         policy: given.get_str("policy"),
         audit: given.get_str("audit"),
+        version: version_asked(given),
     }
 }
 
@@ -169,7 +230,7 @@ fn ends_of_server<'a>(given: &ArgMatches<'a>) -> Ends<'a> {
     let ends = Ends {
         connections: None,
         with_input: given.get_flag("until-input-ends"),
-        at: time_to_end(given),
+        at: time_of(given, UNTIL),
         stop_file: given.get_str("stop-file"),
     };
     if ends.with_input || ends.at.is_some() || ends.stop_file.is_some() {
@@ -182,9 +243,9 @@ fn ends_of_server<'a>(given: &ArgMatches<'a>) -> Ends<'a> {
     }
 }
 
-/// When a server is to end by the clock, if that is asked for.
-fn time_to_end<'a>(given: &ArgMatches<'a>) -> Option<TimeOfDay> {
-    TimeOfDay::parse(given.get_str(UNTIL)?)
+/// The time of day that the option has, if it has one.
+fn time_of<'a>(given: &ArgMatches<'a>, option: &str) -> Option<TimeOfDay> {
+    TimeOfDay::parse(given.get_str(option)?)
 }
 
 /// How a log is written, if one is wanted.
@@ -216,7 +277,32 @@ fn wanted_records<'a>(given: &ArgMatches<'a>) -> Wanted<'a> {
     Wanted {
         account: given.get_str("account"),
         user: given.get_str("user"),
+        order: given.get_one::<u64>("order"),
+        stock: given.get_str("stock"),
+        rule: given.get_str("rule"),
+        only_denied: given.get_flag("denied"),
+        from: time_of(given, FROM),
+        to: time_of(given, TO),
     }
+}
+
+/// The form in which records are shown.
+fn form_of_table<'a>(given: &ArgMatches<'a>) -> TableForm {
+    match given.get_str(FORMAT) {
+        Some(CSV) => TableForm::Csv,
+        Some(JSON) => TableForm::Json,
+        _ => TableForm::Text,
+    }
+}
+
+/// To show records of an audit.
+fn show_options<'a>(given: &ArgMatches<'a>) -> Option<Asked<'a>> {
+    let shape = Shape {
+        form: form_of_table(given),
+        has_clock: given.get_flag("clock"),
+        has_words: given.get_flag("words"),
+    };
+    Some(Asked::Show(audit_files(given)?, wanted_records(given), shape))
 }
 
 /// The last so many words.
@@ -252,7 +338,8 @@ fn asked_for<'a>(given: &ArgMatches<'a>, words: &'a [String]) -> Option<Asked<'a
         "policy" => Some(Asked::Policy(given.get_str("file")?)),
         "migrate" => Some(Asked::Migrate(given.get_str("file")?)),
         "check" => Some(Asked::Check(audit_files(given)?)),
-        "show" => Some(Asked::Show(audit_files(given)?, wanted_records(given))),
+        "show" => Some(show_options(given)?),
+        "state" => Some(Asked::State(audit_files(given)?, state_asked(given, AT, ORDERS, JSON)?)),
         "desk" => Some(Asked::Desk(desk_options(given, words)?)),
         _ => None,
     }
@@ -264,10 +351,23 @@ fn bad_midnight<'a>(given: &ArgMatches<'a>) -> Option<BadValue<'a>> {
     BadValue::of_midnight(given.get_str(MIDNIGHT)?)
 }
 
-/// The value of `--until`, where one is given that is no time of day.
-fn bad_until<'a>(given: &ArgMatches<'a>) -> Option<BadValue<'a>> {
+/// The value of the option of this name, where one is given that is no time of day.
+fn bad_time<'a>(given: &ArgMatches<'a>, option: ReadOption, name: &str) -> Option<BadValue<'a>> {
     let (_name, given) = given.subcommand()?;
-    BadValue::of_until(given.get_str(UNTIL)?)
+    BadValue::of_time(option, given.get_str(name)?)
+}
+
+/// A value that is no time of day.
+fn bad_times<'a>(given: &ArgMatches<'a>) -> Option<BadValue<'a>> {
+    bad_time(given, ReadOption::Until, UNTIL)
+        .or(bad_time(given, ReadOption::From, FROM))
+        .or(bad_time(given, ReadOption::To, TO))
+}
+
+/// The value of `--at`, where one is given that is no place.
+fn bad_place<'a>(given: &ArgMatches<'a>) -> Option<BadValue<'a>> {
+    let (_name, given) = given.subcommand()?;
+    BadValue::of_at(given.get_str(AT)?)
 }
 
 /// The words of a call, as the command line has them. The error is `clap`'s: what is wrong with the words, the help or the
@@ -282,7 +382,10 @@ fn matches_of<'a>(alloc: Global, words: &'a [String]) -> Result<ArgMatches<'a>, 
 /// What the words of a call ask for, the program's name being the first.
 pub fn read<'a>(alloc: Global, words: &'a [String]) -> Result<Option<Asked<'a>>, BadCall<'a>> {
     let given = matches_of(alloc, words)?;
-    match bad_midnight(&given).or(bad_until(&given)) {
+    match bad_midnight(&given)
+        .or(bad_times(&given))
+        .or(bad_place(&given))
+    {
         Some(bad) => Err(BadCall::Value(bad)),
         None => Ok(asked_for(&given, words)),
     }

@@ -4,6 +4,7 @@ ghost use Rattle.std.specs.Prelude.{◌≡◌, ◌↔◌, IsSome, IfSome, None};
 ghost use Rattle.gx_clock.specs.Offsets.{offset_of};
 ghost use Rattle.gx_clock.specs.Times.{time_of};
 
+use crate::state::Behind;
 use gx_clock::{TimeOfDay, UtcOffset};
 use std::fmt;
 
@@ -17,6 +18,12 @@ pub enum ReadOption {
     Midnight,
     /// `--until <TIME>`.
     Until,
+    /// `--from <TIME>`.
+    From,
+    /// `--to <TIME>`.
+    To,
+    /// `--at <PLACE>`.
+    At,
 }
 
 impl ReadOption {
@@ -25,6 +32,9 @@ impl ReadOption {
         match self {
             ReadOption::Midnight => "--midnight <OFFSET>",
             ReadOption::Until => "--until <TIME>",
+            ReadOption::From => "--from <TIME>",
+            ReadOption::To => "--to <TIME>",
+            ReadOption::At => "--at <PLACE>",
         }
     }
 
@@ -32,7 +42,10 @@ impl ReadOption {
     fn wanted(self) -> &'static str {
         match self {
             ReadOption::Midnight => "it is not +HH:MM or -HH:MM of at most 14 hours",
-            ReadOption::Until => "it is not a time of day, HH:MM or HH:MM:SS",
+            ReadOption::At => {
+                "it is neither a record's number nor a time of day, HH:MM or HH:MM:SS"
+            }
+            _ => "it is not a time of day, HH:MM or HH:MM:SS",
         }
     }
 }
@@ -60,15 +73,27 @@ impl<'a> BadValue<'a> {
         }
     }
 
-    /// The value of `--until`, if it is no time of day.
-    pub fn of_until(text: &'a str) -> Option<BadValue<'a>>
+    /// The value of the option, if it is no time of day.
+    pub fn of_time(option: ReadOption, text: &'a str) -> Option<BadValue<'a>>
         ensures bad { IsSome result ↔ time_of text.entry.now ≡ None }
         ensures text { IfSome result (λ bad. bad.text ≡ text.entry) }
     {
         match TimeOfDay::parse(text) {
             Some(_) => None,
+            None => Some(BadValue { option, text }),
+        }
+    }
+}
+
+impl<'a> BadValue<'a> {
+    /// The value of `--at`, if it is neither a record's number nor a time of day.
+    pub fn of_at(text: &'a str) -> Option<BadValue<'a>>
+        ensures text { IfSome result (λ bad. bad.text ≡ text.entry) }
+    {
+        match Behind::parse(text) {
+            Some(_) => None,
             None => Some(BadValue {
-                option: ReadOption::Until,
+                option: ReadOption::At,
                 text,
             }),
         }

@@ -11,8 +11,7 @@ use Rattle.gx_history.specs.InForce.{rules_in_force}
 use Rattle.gx_history.specs.Requests.{granted_action}
 use Rattle.gx_history.specs.Verdicts.{last_moment}
 use Rattle.gx_history_laws.proofs.NextInForce.{last_moment_next, rules_in_force_next, rules_in_force_none}
-use Rattle.gx_events.specs.declared.limits.RuleLimit.{RuleLimit}
-use Rattle.gx_events.specs.Known.{Known, counted, denied_within, denies_login, highest_line, known_next, known_of, limits_of, login_line, minute_of}
+use Rattle.gx_events.specs.Known.{counted, denied_within, denies_login, highest_line, known_next, known_of, limits_of, login_line, minute_of}
 use Rattle.gx_events.proofs.Counting.{denied_is, denied_more}
 use Rattle.gx_events.proofs.Limiting.{limits_changed}
 
@@ -32,20 +31,17 @@ denied_next records r =
     ap (λ moment. denied_within (minute_of moment) (records ++ r ∷ [])) (last_moment_next records r)
     ∙ denied_more (minute_of r.moment) records r (eq-eqb (minute_of r.moment) (minute_of r.moment) refl)
 
-made : List RuleLimit → ℕ → ℕ → ℕ → Known
-made limits minute denied highest = record { limits = limits; minute = minute; denied = denied; highest = highest }
-
 -- what is known before the first record
-pub known_first : (policy : PolicyData) → known_of policy [] ≡ record { limits = limits_of policy.rules; minute = 0; denied = 0; highest = 0 }
+pub known_first : (policy : PolicyData) → known_of policy [] ≡ record { limits = limits_of policy.rules; moment = 0; denied = 0; highest = 0 }
 unfolding known_of
-known_first policy = ap (λ rules. record { limits = limits_of rules; minute = 0; denied = 0; highest = 0 }) (rules_in_force_none policy)
+known_first policy = ap (λ rules. record { limits = limits_of rules; moment = 0; denied = 0; highest = 0 }) (rules_in_force_none policy)
 
 -- one more record
 pub known_more : (policy : PolicyData) (records : List RecordData) (r : RecordData) → known_of policy (records ++ r ∷ []) ≡ known_next (known_of policy records) r
 unfolding known_of
 known_more policy records r = λ i. record {
   limits = (ap limits_of (rules_in_force_next policy records r) ∙ limits_changed (rules_in_force policy records) (granted_action r)) i;
-  minute = ap minute_of (last_moment_next records r) i;
+  moment = last_moment_next records r i;
   denied = (denied_next records r ∙ ap (counted (denies_login r)) (denied_is (minute_of r.moment) records)) i;
   highest = highest_more records r i;
 }

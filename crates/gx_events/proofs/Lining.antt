@@ -205,27 +205,27 @@ moment_inside Nine moment = simp (list_all-append, minute_inside, zeros_inside, 
 
 pub events_are_lines : EventsAreLines
 unfolding event_line
-events_are_lines Text r event = record {
-  words = moment_text Six r.moment ++ codes " " ++ event_text event ++ record_text event r.number;
+events_are_lines Text moment number event = record {
+  words = moment_text Six moment ++ codes " " ++ event_text event ++ record_text event number;
   ended = refl;
   no_other =
-      both (moment_text Six r.moment ++ codes " " ++ event_text event) (record_text event r.number)
-      (both (moment_text Six r.moment ++ codes " ") (event_text event)
-      (both (moment_text Six r.moment) (codes " ") (moment_inside Six r.moment) refl)
+      both (moment_text Six moment ++ codes " " ++ event_text event) (record_text event number)
+      (both (moment_text Six moment ++ codes " ") (event_text event)
+      (both (moment_text Six moment) (codes " ") (moment_inside Six moment) refl)
       (text_inside event))
-      (record_text_inside event r.number);
+      (record_text_inside event number);
 }
-events_are_lines Json r event =
-    let front : List ℕ = codes "{\"at\":\"" ++ moment_text Nine r.moment ++ codes "\"" ++ event_fields event ++ record_field event r.number in
+events_are_lines Json moment number event =
+    let front : List ℕ = codes "{\"at\":\"" ++ moment_text Nine moment ++ codes "\"" ++ event_fields event ++ record_field event number in
     record {
       words = front ++ codes "}";
       ended = sym (append_assoc front (codes "}") (10 ∷ []));
       no_other =
           both front (codes "}")
-          (both (codes "{\"at\":\"" ++ moment_text Nine r.moment ++ codes "\"" ++ event_fields event) (record_field event r.number)
-          (both (codes "{\"at\":\"" ++ moment_text Nine r.moment ++ codes "\"") (event_fields event)
-          (both (codes "{\"at\":\"" ++ moment_text Nine r.moment) (codes "\"") (moment_inside Nine r.moment) refl)
+          (both (codes "{\"at\":\"" ++ moment_text Nine moment ++ codes "\"" ++ event_fields event) (record_field event number)
+          (both (codes "{\"at\":\"" ++ moment_text Nine moment ++ codes "\"") (event_fields event)
+          (both (codes "{\"at\":\"" ++ moment_text Nine moment) (codes "\"") (moment_inside Nine moment) refl)
           (json_fields_inside event))
-          (record_field_inside event r.number))
+          (record_field_inside event number))
           refl;
     }

@@ -1,5 +1,5 @@
 -- What the log tells of a record.
-use Rattle.std.specs.Prelude.{ℕ, ◌-◌, ◌*◌, ◌==◌, Bool, not, ◌&&◌, nat_le, nat_lt, List, [], ◌∷◌, find, Option, Some, None, option_and_then, option_map}
+use Rattle.std.specs.Prelude.{ℕ, ◌-◌, ◌*◌, ◌==◌, Bool, not, ◌&&◌, if◌then◌else◌, nat_le, nat_lt, List, [], ◌∷◌, find, Option, Some, None, option_and_then, option_map}
 use Rattle.gx_units.specs.declared.names.UserName.{UserName}
 use Rattle.gx_desk.specs.declared.Action.{Action}
 use Rattle.gx_desk.specs.declared.Action.TheVariants as actions
@@ -54,10 +54,13 @@ abbrev pub own_event : Known → RecordData → Option Event
 own_event known r =
     option_and_then (λ (a : Asked). request_event known (is_first_within known r) r.verdict a.user a.line a.request) (asked r.step)
 
--- with the first record of another minute: how many more logins were denied within the last one
+-- how many more logins were denied within the minute of the last record
+abbrev pub untold_denials : Known → Option Event
+untold_denials known = where_true (nat_lt 1 known.denied) (events.MoreDenied (known.denied - 1) (minute_of known.moment))
+
+-- this is told with the first record of another minute
 abbrev pub more_denied : Known → RecordData → Option Event
-more_denied known r =
-    where_true (not (known.minute == minute_of r.moment) && nat_lt 1 known.denied) (events.MoreDenied (known.denied - 1) known.minute)
+more_denied known r = if minute_of known.moment == minute_of r.moment then None else untold_denials known
 
 -- so many hundredths of the most
 abbrev pub is_reached : ℕ → ℕ → ℕ → Bool

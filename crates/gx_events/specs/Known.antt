@@ -69,16 +69,16 @@ limit_named limits name = option_and_then (λ (l : RuleLimit). l.limit) (find (�
 pub record Known : Type 0 where
   -- the limits in force
   pub limits : List RuleLimit
-  -- the minute of the last record
-  pub minute : ℕ
-  -- how many logins were denied within it
+  -- the moment of the last record; 0 where there is none
+  pub moment : ℕ
+  -- how many logins were denied within the minute of that record
   pub denied : ℕ
   pub highest : ℕ
 
 unfoldable pub known_of : PolicyData → List RecordData → Known
 known_of policy records = record {
   limits = limits_of (rules_in_force policy records);
-  minute = minute_of (last_moment records);
+  moment = last_moment records;
   denied = denied_within (minute_of (last_moment records)) records;
   highest = highest_line records;
 }
@@ -96,7 +96,7 @@ limits_after limits other = limits
 
 -- how many logins were denied so far within the minute
 abbrev pub denied_so_far : Known → ℕ → ℕ
-denied_so_far known minute = if known.minute == minute then known.denied else 0
+denied_so_far known minute = if minute_of known.moment == minute then known.denied else 0
 
 -- the count with one more, where there is one
 abbrev pub counted : Bool → ℕ → ℕ
@@ -105,7 +105,7 @@ counted one_more count = if one_more then min most_counted (count + 1) else coun
 abbrev pub known_next : Known → RecordData → Known
 known_next known r = record {
   limits = option_map_or (limits_after known.limits) (granted_action r) known.limits;
-  minute = minute_of r.moment;
+  moment = r.moment;
   denied = counted (denies_login r) (denied_so_far known (minute_of r.moment));
   highest = option_map_or (max known.highest) (login_line r) known.highest;
 }

@@ -29,4 +29,4 @@ pub record IsLine (text : List ℕ) : Type 0 where
 
 -- each event is one line, whatever bytes its names have: nobody can make up lines of the log
 abbrev pub EventsAreLines : Type 0
-EventsAreLines = (form : Form) (r : RecordData) (event : Event) → IsLine (event_line form r event)
+EventsAreLines = (form : Form) (moment number : ℕ) (event : Event) → IsLine (event_line form moment number event)

@@ -11,7 +11,7 @@ use Rattle.gx_events.specs.declared.event.Event.TheVariants as events
 use Rattle.gx_text.specs.declared.form.Form.{Form}
 use Rattle.gx_text.specs.declared.form.Form.TheVariants.{Text, Json}
 use Rattle.gx_events.specs.Known.{Known, known_of}
-use Rattle.gx_events.specs.Events.{own_event, more_denied, records_used, lines_used}
+use Rattle.gx_events.specs.Events.{own_event, more_denied, records_used, lines_used, untold_denials}
 use Rattle.gx_events.specs.Words.{event_text}
 use Rattle.gx_events.specs.Fields.{event_fields, number_field}
 
@@ -27,21 +27,21 @@ record_text event number = if is_of_record event then codes ", record " ++ decim
 abbrev pub record_field : Event → ℕ → List ℕ
 record_field event number = if is_of_record event then number_field (codes "record") number else []
 
--- an event, told with a record: its moment and what happened
-unfoldable pub event_line : Form → RecordData → Event → List ℕ
-event_line Text r event = moment_text Six r.moment ++ codes " " ++ event_text event ++ record_text event r.number ++ codes "\n"
-event_line Json r event =
-    codes "{\"at\":\"" ++ moment_text Nine r.moment ++ codes "\"" ++ event_fields event ++ record_field event r.number ++ codes "}\n"
+-- an event, told at this moment with the record of this number
+unfoldable pub event_line : Form → (moment number : ℕ) → Event → List ℕ
+event_line Text moment number event = moment_text Six moment ++ codes " " ++ event_text event ++ record_text event number ++ codes "\n"
+event_line Json moment number event =
+    codes "{\"at\":\"" ++ moment_text Nine moment ++ codes "\"" ++ event_fields event ++ record_field event number ++ codes "}\n"
 
 -- the line of an event, if there is one
-abbrev pub maybe_line : Form → RecordData → Option Event → List ℕ
-maybe_line form r event = option_map_or (event_line form r) event []
+abbrev pub maybe_line : Form → (moment number : ℕ) → Option Event → List ℕ
+maybe_line form moment number event = option_map_or (event_line form moment number) event []
 
 -- the lines of a record, by what is known of the records before it
 abbrev pub record_lines : Form → Known → RecordData → List ℕ
 record_lines form known r =
-    maybe_line form r (more_denied known r) ++ maybe_line form r (own_event known r)
-    ++ maybe_line form r (lines_used known r) ++ maybe_line form r (records_used r)
+    maybe_line form r.moment r.number (more_denied known r) ++ maybe_line form r.moment r.number (own_event known r)
+    ++ maybe_line form r.moment r.number (lines_used known r) ++ maybe_line form r.moment r.number (records_used r)
 
 -- the lines of a record behind those before it
 abbrev pub line_of : Form → PolicyData → List RecordData → RecordData → List ℕ
@@ -54,6 +54,10 @@ lines_behind form policy before records = flat_map (λ (e : List RecordData × R
 -- the log of a day
 abbrev pub log_of : Form → PolicyData → List RecordData → List ℕ
 log_of form policy records = lines_behind form policy [] records
+
+-- where the log ends: how many more logins were denied within the minute of its last record, at the moment of this one
+abbrev pub closing_line : Form → Known → List ℕ
+closing_line form known = maybe_line form known.moment 0 (untold_denials known)
 
 -- the form of a log, and what it knows of the records that were told or passed over
 pub record Standing : Type 0 where

@@ -3,9 +3,9 @@
 ghost use Rattle.std.specs.Prelude.{◌≡◌, ◌++◌, [], List, IfOk, OnErr, OnOk};
 ghost use Rattle.gx_policy.specs.declared.policy.PolicyData.{PolicyData};
 ghost use Rattle.gx_history.specs.declared.record.RecordData.{RecordData};
-ghost use Rattle.gx_events.specs.Events.{earlier_limit, is_first_within, lines_used, more_denied, own_event};
+ghost use Rattle.gx_events.specs.Events.{earlier_limit, is_first_within, lines_used, more_denied, own_event, untold_denials};
 ghost use Rattle.gx_events.specs.Known.{counted, denied_so_far, known_next, known_of, minute_of};
-ghost use Rattle.gx_events.specs.Lines.{lines_behind, record_lines};
+ghost use Rattle.gx_events.specs.Lines.{closing_line, lines_behind, record_lines};
 
 use crate::event::Event;
 use crate::judged::{command_event, denies_login, login_event, login_line, logout_event};
@@ -24,12 +24,13 @@ use std::marker::Model;
 const MINUTE: u64 = 60_000_000_000;
 
 /// The log of a day, record by record. Contracts see its form and what it knows of the records that were told or passed
-/// over: the limits in force, how many logins were denied within the minute of the last record, and the highest line.
+/// over: the limits in force, the moment of the last record, how many logins were denied within its minute, and the highest
+/// line.
 #[derive(Drop)]
 pub struct EventLog {
     form: Form,
     limits: Limits,
-    minute: u64,
+    moment: Moment,
     denied: u64,
     highest_line: u16,
 }
@@ -43,7 +44,7 @@ impl Model for EventLog {
       form = log.form;
       known = record {
         limits = log.limits;
-        minute = log.minute;
+        moment = log.moment;
         denied = log.denied;
         highest = log.highest_line;
       };
@@ -83,7 +84,7 @@ impl EventLog {
         Ok(EventLog {
             form,
             limits,
-            minute: 0,
+            moment: 0,
             denied: 0,
             highest_line: 0,
         })
@@ -97,7 +98,7 @@ impl EventLog {
         Ok(EventLog {
             form: self.form,
             limits,
-            minute: self.minute,
+            moment: self.moment,
             denied: self.denied,
             highest_line: self.highest_line,
         })
@@ -107,7 +108,7 @@ impl EventLog {
     fn denied_so_far(&self, minute: u64) -> u64
         ensures { result ≡ denied_so_far self.now.known minute }
     {
-        if self.minute == minute {
+        if minute_of(self.moment) == minute {
             self.denied
         } else {
             0
@@ -152,14 +153,24 @@ impl EventLog {
         }
     }
 
-    /// With the first record of another minute: how many more logins were denied within the last one.
+    /// How many more logins were denied within the minute of the last record.
+    fn untold_denials(&self) -> Option<Event>
+        ensures { result ≡ untold_denials self.now.known }
+    {
+        if self.denied <= 1 {
+            return None;
+        }
+        Some(Event::MoreDenied(self.denied - 1, minute_of(self.moment)))
+    }
+
+    /// This is told with the first record of another minute.
     fn more_denied(&self, shown: &RecordData) -> Option<Event>
         ensures { result ≡ more_denied self.now.known shown.now }
     {
-        if self.minute == minute_of(shown.moment) || self.denied <= 1 {
+        if minute_of(self.moment) == minute_of(shown.moment) {
             return None;
         }
-        Some(Event::MoreDenied(self.denied - 1, self.minute))
+        self.untold_denials()
     }
 
     /// How many lines are used, with a login on the first line at so many hundredths of them.
@@ -174,10 +185,11 @@ impl EventLog {
         ensures { OnOk result (text.new.items
             ≡ text.old.items ++ record_lines self.now.form self.now.known shown.now) }
     {
-        append_line(text, self.form, shown, self.more_denied(shown))?;
-        append_line(text, self.form, shown, self.own_event(shown))?;
-        append_line(text, self.form, shown, self.lines_used(shown))?;
-        append_line(text, self.form, shown, records_used(shown))
+        let (form, moment, number) = (self.form, shown.moment, shown.number);
+        append_line(text, form, moment, number, self.more_denied(shown))?;
+        append_line(text, form, moment, number, self.own_event(shown))?;
+        append_line(text, form, moment, number, self.lines_used(shown))?;
+        append_line(text, form, moment, number, records_used(shown))
     }
 
     /// The highest line on which a login was asked for, this record's among them.
@@ -195,9 +207,9 @@ impl EventLog {
         ensures known { self.new.known ≡ known_next self.old.known shown.now }
         ensures form { self.new.form ≡ self.old.form }
     {
-        let minute = minute_of(shown.moment);
-        self.denied = counted(denies_login(shown), self.denied_so_far(minute));
-        self.minute = minute;
+        let earlier = self.denied_so_far(minute_of(shown.moment));
+        self.denied = counted(denies_login(shown), earlier);
+        self.moment = shown.moment;
         self.highest_line = self.highest_with(shown);
         self.limits.note(shown);
     }
@@ -226,6 +238,21 @@ impl EventLog {
             next.note(&content);
         }
         *self = next;
+        Ok(text)
+    }
+
+    /// What is left to be told where the log ends behind the records that were told or passed over: how many more logins
+    /// were denied within the minute of the last one. Empty where there were none.
+    ///
+    /// # Errors
+    ///
+    /// `OutOfMemory` where memory was refused.
+    pub fn close(&self, alloc: Global) -> Result<Vec<u8>, OutOfMemory>
+        ensures { IfOk result (λ text.
+            text.items ≡ closing_line self.now.form self.now.known) }
+    {
+        let mut text = Vec::new(alloc);
+        append_line(&mut text, self.form, self.moment, 0, self.untold_denials())?;
         Ok(text)
     }
 

@@ -7,9 +7,8 @@ ghost use Rattle.gx_text.specs.declared.form.Form.TheVariants as forms;
 use crate::event::Event;
 use crate::fields::{append_event_fields, append_number_field};
 use crate::words::append_event_text;
-use gx_history::record::RecordData;
 use gx_text::{Decimals, Form, append, append_moment, append_number};
-use gx_units::OutOfMemory;
+use gx_units::{Moment, OutOfMemory};
 
 /// Whether the event is this record's, and not of the minute before it.
 fn is_of_record(event: &Event) -> bool
@@ -40,51 +39,54 @@ fn append_record_field(text: &mut Vec<u8>, event: &Event, number: u64) -> Result
 #[tactic(auto, unfolding(crate::specs::Lines::event_line))]
 fn append_text_line(
     text: &mut Vec<u8>,
-    shown: &RecordData,
+    moment: Moment,
+    number: u64,
     event: &Event,
 ) -> Result<(), OutOfMemory>
     ensures { OnOk result (text.new.items
-        ≡ text.old.items ++ event_line forms.Text shown.now event.now) }
+        ≡ text.old.items ++ event_line forms.Text moment number event.now) }
 {
-    append_moment(text, shown.moment, Decimals::Six)?;
+    append_moment(text, moment, Decimals::Six)?;
     append(text, b" ")?;
     append_event_text(text, event)?;
-    append_record_text(text, event, shown.number)?;
+    append_record_text(text, event, number)?;
     append(text, b"\n")
 }
 
 #[tactic(auto, unfolding(crate::specs::Lines::event_line))]
 fn append_json_line(
     text: &mut Vec<u8>,
-    shown: &RecordData,
+    moment: Moment,
+    number: u64,
     event: &Event,
 ) -> Result<(), OutOfMemory>
     ensures { OnOk result (text.new.items
-        ≡ text.old.items ++ event_line forms.Json shown.now event.now) }
+        ≡ text.old.items ++ event_line forms.Json moment number event.now) }
 {
     append(text, b"{\"at\":\"")?;
-    append_moment(text, shown.moment, Decimals::Nine)?;
+    append_moment(text, moment, Decimals::Nine)?;
     append(text, b"\"")?;
     append_event_fields(text, event)?;
-    append_record_field(text, event, shown.number)?;
+    append_record_field(text, event, number)?;
     append(text, b"}\n")
 }
 
-/// Puts the line of the event, if there is one, at the end of the text.
+/// Puts the line of the event, if there is one, at the end of the text: told at this moment, with the record of this number.
 pub(crate) fn append_line(
     text: &mut Vec<u8>,
     form: Form,
-    shown: &RecordData,
+    moment: Moment,
+    number: u64,
     event: Option<Event>,
 ) -> Result<(), OutOfMemory>
     ensures { OnOk result (text.new.items
-        ≡ text.old.items ++ maybe_line form shown.now event) }
+        ≡ text.old.items ++ maybe_line form moment number event) }
 {
     let Some(event) = event else {
         return Ok(());
     };
     match form {
-        Form::Text => append_text_line(text, shown, &event),
-        Form::Json => append_json_line(text, shown, &event),
+        Form::Text => append_text_line(text, moment, number, &event),
+        Form::Json => append_json_line(text, moment, number, &event),
     }
 }

@@ -6,6 +6,7 @@ use mathlib.Core.List.{IsPrefix}
 use Rattle.gx_devices.specs.Devices.{IsFront}
 use Rattle.gx_policy.specs.declared.policy.PolicyData.{PolicyData}
 use Rattle.gx_history.specs.declared.record.RecordData.{RecordData}
+use Rattle.gx_audit_bytes.specs.declared.version.AuditVersion.{AuditVersion}
 use Rattle.gx_policy.specs.Lists.{slice}
 use Rattle.gx_pass.specs.declared.view.Holds.{Holds}
 use Rattle.gx_pass.proofs.Fronts.{prefix_length}
@@ -34,57 +35,62 @@ begins_later earlier was is begins later =
     ap (take (length earlier)) (sym later.1) ∙ take-append-le (length earlier) was later.0 longer ∙ begins
 
 -- nothing is written yet
-pub kept_begun : (begun : Option (List ℕ)) (count : ℕ) (earlier : List RecordData) (met : Holds) (tape : TapeData) → met.front ≡ earlier → count ≤ length earlier → tape.contents ≡ begun → tape.done ≡ count → tape.fault ≡ None → IsKept begun count earlier (journal met tape)
-kept_begun begun count earlier met tape same within held done none = record {
+pub kept_begun : (begun : Option (List ℕ)) (count : ℕ) (earlier : List RecordData) (version : AuditVersion) (met : Holds) (tape : TapeData) → met.front ≡ earlier → count ≤ length earlier → tape.contents ≡ begun → tape.done ≡ count → tape.fault ≡ None → tape.version ≡ version → IsKept begun count earlier version (journal met tape)
+kept_begun begun count earlier version met tape same within held done none is = record {
+  version_is = is;
   begins = ap (take (length earlier)) same ∙ take_all (length earlier) earlier (omega arith);
   first = omega (arith, done);
   met = omega (arith, done, within, ap (λ (rs : List RecordData). length rs) same);
   whole = λ sound.
-      subst (λ (o : Option (List ℕ)). IsGrown begun o (journal_bytes (added count tape.done met.front))) (sym held)
-      (subst (λ (n : ℕ). IsGrown begun begun (journal_bytes (added count n met.front))) (sym done) (none_added begun count met.front));
+      subst (λ (o : Option (List ℕ)). IsGrown begun o (journal_bytes version (added count tape.done met.front))) (sym held)
+      (subst (λ (n : ℕ). IsGrown begun begun (journal_bytes version (added count n met.front))) (sym done) (none_added version begun count met.front));
   cut = λ broken. clash (is_broken tape) broken (sound_of tape none);
 }
 
 -- the pass has met more
-pub kept_later : (begun : Option (List ℕ)) (count : ℕ) (earlier : List RecordData) (was is : Holds) (tape : TapeData) → is_broken tape ≡ false → IsPrefix was.front is.front → IsKept begun count earlier (journal was tape) → IsKept begun count earlier (journal is tape)
-kept_later begun count earlier was is tape sound begins kept = record {
+pub kept_later : (begun : Option (List ℕ)) (count : ℕ) (earlier : List RecordData) (version : AuditVersion) (was is : Holds) (tape : TapeData) → is_broken tape ≡ false → IsPrefix was.front is.front → IsKept begun count earlier version (journal was tape) → IsKept begun count earlier version (journal is tape)
+kept_later begun count earlier version was is tape sound begins kept = record {
+  version_is = kept.version_is;
   begins = begins_later earlier was.front is.front kept.begins begins;
   first = kept.first;
   met = omega (arith, kept.met, prefix_length was.front is.front begins);
   whole = λ s.
-      subst (λ (rs : List RecordData). IsGrown begun tape.contents (journal_bytes rs)) (sym (added_later count tape.done was.front is.front kept.met begins)) (kept.whole s);
+      subst (λ (rs : List RecordData). IsGrown begun tape.contents (journal_bytes version rs)) (sym (added_later count tape.done was.front is.front kept.met begins)) (kept.whole s);
   cut = λ broken. clash (is_broken tape) broken sound;
 }
 
 -- the pass was told how many records there are
-pub kept_told : (begun : Option (List ℕ)) (count : ℕ) (earlier : List RecordData) (was is : Holds) (tape : TapeData) → is.front ≡ was.front → IsKept begun count earlier (journal was tape) → IsKept begun count earlier (journal is tape)
-kept_told begun count earlier was is tape same kept = record {
+pub kept_told : (begun : Option (List ℕ)) (count : ℕ) (earlier : List RecordData) (version : AuditVersion) (was is : Holds) (tape : TapeData) → is.front ≡ was.front → IsKept begun count earlier version (journal was tape) → IsKept begun count earlier version (journal is tape)
+kept_told begun count earlier version was is tape same kept = record {
+  version_is = kept.version_is;
   begins = ap (take (length earlier)) same ∙ kept.begins;
   first = kept.first;
   met = subst (λ (rs : List RecordData). tape.done ≤ length rs) (sym same) kept.met;
-  whole = subst (λ (rs : List RecordData). is_broken tape ≡ false → IsGrown begun tape.contents (journal_bytes (added count tape.done rs))) (sym same) kept.whole;
-  cut = subst (λ (rs : List RecordData). is_broken tape ≡ true → ∥ IsFront begun tape.contents (journal_bytes (drop count rs)) ∥₁) (sym same) kept.cut;
+  whole = subst (λ (rs : List RecordData). is_broken tape ≡ false → IsGrown begun tape.contents (journal_bytes version (added count tape.done rs))) (sym same) kept.whole;
+  cut = subst (λ (rs : List RecordData). is_broken tape ≡ true → ∥ IsFront begun tape.contents (journal_bytes version (drop count rs)) ∥₁) (sym same) kept.cut;
 }
 
 -- nothing is written any more
-pub kept_stopped : (begun : Option (List ℕ)) (count : ℕ) (earlier : List RecordData) (met : Holds) (was is : TapeData) → is_broken was ≡ false → is_broken is ≡ true → is.contents ≡ was.contents → is.done ≡ was.done
-    → IsKept begun count earlier (journal met was) → IsKept begun count earlier (journal met is)
-kept_stopped begun count earlier met was is sound broken same done kept = record {
+pub kept_stopped : (begun : Option (List ℕ)) (count : ℕ) (earlier : List RecordData) (version : AuditVersion) (met : Holds) (was is : TapeData) → is_broken was ≡ false → is_broken is ≡ true → is.contents ≡ was.contents → is.done ≡ was.done → is.version ≡ was.version
+    → IsKept begun count earlier version (journal met was) → IsKept begun count earlier version (journal met is)
+kept_stopped begun count earlier version met was is sound broken same done goes kept = record {
+  version_is = goes ∙ kept.version_is;
   begins = kept.begins;
   first = omega (arith, done, kept.first);
   met = omega (arith, done, kept.met);
   whole = λ s. clash (is_broken is) broken s;
-  cut = λ b. ∣ subst (λ (o : Option (List ℕ)). IsFront begun o (journal_bytes (drop count met.front))) (sym same) (cut_there begun was.contents count was.done met.front kept.first kept.met (kept.whole sound)) ∣₁;
+  cut = λ b. ∣ subst (λ (o : Option (List ℕ)). IsFront begun o (journal_bytes version (drop count met.front))) (sym same) (cut_there version begun was.contents count was.done met.front kept.first kept.met (kept.whole sound)) ∣₁;
 }
 
 -- of a put of records, by its answer
 pub record WasPut (answer : Bool) (records : List RecordData) (was is : TapeData) : Type 0 where
   pub sound : answer ≡ true → is.fault ≡ None
-  pub whole : answer ≡ true → Appends was.contents is.contents (journal_bytes records)
+  pub whole : answer ≡ true → Appends was.contents is.contents (journal_bytes was.version records)
   pub done : answer ≡ true → is.done ≡ was.done + length records
   pub broken : answer ≡ false → is_broken is ≡ true
-  pub front : answer ≡ false → IsFront was.contents is.contents (journal_bytes records)
+  pub front : answer ≡ false → IsFront was.contents is.contents (journal_bytes was.version records)
   pub stays : answer ≡ false → is.done ≡ was.done
+  pub version : is.version ≡ was.version
 
 next_fit : (records all : List RecordData) (done : ℕ) → records ≡ take (length records) (drop done all) → done ≤ length all → done + length records ≤ length all
 next_fit records all done next met =
@@ -92,28 +98,32 @@ next_fit records all done next met =
     omega (arith, size, met)
 
 -- the next records were put on the device, or a front of them
-pub kept_put : (begun : Option (List ℕ)) (count : ℕ) (earlier : List RecordData) (met : Holds) (answer : Bool) (records : List RecordData) (was is : TapeData) → is_broken was ≡ false
-    → records ≡ take (length records) (drop was.done met.front) → WasPut answer records was is → IsKept begun count earlier (journal met was) → IsKept begun count earlier (journal met is)
-kept_put begun count earlier met true records was is sound next put kept =
+pub kept_put : (begun : Option (List ℕ)) (count : ℕ) (earlier : List RecordData) (version : AuditVersion) (met : Holds) (answer : Bool) (records : List RecordData) (was is : TapeData) → is_broken was ≡ false
+    → records ≡ take (length records) (drop was.done met.front) → WasPut answer records was is → IsKept begun count earlier version (journal met was) → IsKept begun count earlier version (journal met is)
+kept_put begun count earlier version met true records was is sound next put kept =
     let done = put.done refl in
     let fits = next_fit records met.front was.done next kept.met in
     record {
+      version_is = put.version ∙ kept.version_is;
       begins = kept.begins;
       first = omega (arith, done, kept.first);
       met = omega (arith, done, fits);
       whole = λ s.
-          subst (λ (n : ℕ). IsGrown begun is.contents (journal_bytes (added count n met.front))) (sym done)
-          (more_written begun was.contents is.contents count was.done met.front records kept.first kept.met next (kept.whole sound) (put.whole refl));
+          subst (λ (n : ℕ). IsGrown begun is.contents (journal_bytes version (added count n met.front))) (sym done)
+          (more_written version begun was.contents is.contents count was.done met.front records kept.first kept.met next (kept.whole sound)
+          (subst (λ (v : AuditVersion). Appends was.contents is.contents (journal_bytes v records)) kept.version_is (put.whole refl)));
       cut = λ b. clash (is_broken is) b (sound_of is (put.sound refl));
     }
-kept_put begun count earlier met false records was is sound next put kept =
+kept_put begun count earlier version met false records was is sound next put kept =
     let done = put.stays refl in
     record {
+      version_is = put.version ∙ kept.version_is;
       begins = kept.begins;
       first = omega (arith, done, kept.first);
       met = omega (arith, done, kept.met);
       whole = λ s. clash (is_broken is) (put.broken refl) s;
-      cut = λ b. ∣ cut_written begun was.contents is.contents count was.done met.front records kept.first kept.met next (kept.whole sound) (put.front refl) ∣₁;
+      cut = λ b. ∣ cut_written version begun was.contents is.contents count was.done met.front records kept.first kept.met next (kept.whole sound)
+          (subst (λ (v : AuditVersion). IsFront was.contents is.contents (journal_bytes v records)) kept.version_is (put.front refl)) ∣₁;
     }
 
 -- A piece of the records behind those that are done.

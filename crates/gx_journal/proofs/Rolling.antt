@@ -8,20 +8,20 @@ use mathlib.Core.List.{IsPrefix}
 use Rattle.gx_devices.specs.Devices.{IsFront}
 use Rattle.gx_history.specs.declared.record.RecordData.{RecordData}
 use Rattle.gx_policy.specs.Lists.{slice}
-use Rattle.gx_audit_bytes.specs.declared.version.AuditVersion.TheVariants as versions
+use Rattle.gx_audit_bytes.specs.declared.version.AuditVersion.{AuditVersion}
 use Rattle.gx_audit_bytes.specs.Audits.{all_bytes}
 use Rattle.gx_audit_bytes.specs.Records.{record_bytes}
 use Rattle.gx_journal.specs.Journals.{added, journal_bytes, IsGrown}
 
-no_bytes : journal_bytes [] ≡ []
+no_bytes : (version : AuditVersion) → journal_bytes version [] ≡ []
 unfolding all_bytes
-no_bytes = refl
+no_bytes version = refl
 
-pub all_joined : (xs ys : List RecordData) → journal_bytes (xs ++ ys) ≡ journal_bytes xs ++ journal_bytes ys
+pub all_joined : (version : AuditVersion) (xs ys : List RecordData) → journal_bytes version (xs ++ ys) ≡ journal_bytes version xs ++ journal_bytes version ys
 unfolding all_bytes
-all_joined [] ys = refl
-all_joined (x ∷ xs) ys =
-    ap (λ (bytes : List ℕ). record_bytes versions.Two x ++ bytes) (all_joined xs ys) ∙ sym (append_assoc (record_bytes versions.Two x) (journal_bytes xs) (journal_bytes ys))
+all_joined version [] ys = refl
+all_joined version (x ∷ xs) ys =
+    ap (λ (bytes : List ℕ). record_bytes version x ++ bytes) (all_joined version xs ys) ∙ sym (append_assoc (record_bytes version x) (journal_bytes version xs) (journal_bytes version ys))
 
 -- what is known of growing, in either form
 pub grown_appends : (before after : Option (List ℕ)) (text : List ℕ) → IsGrown before after text → Appends before after text
@@ -53,68 +53,68 @@ added_later count done earlier later met (rest, begins) =
     ap (λ (xs : List RecordData). drop count (take done xs)) (sym begins) ∙ ap (drop count) (take-append-le done earlier rest met)
 
 -- the next of the records were put behind those that are done
-pub more_appended : (begun before after : Option (List ℕ)) (count done : ℕ) (records next : List RecordData) → count ≤ done → done ≤ length records → next ≡ take (length next) (drop done records)
-    → Appends begun before (journal_bytes (added count done records)) → Appends before after (journal_bytes next) → Appends begun after (journal_bytes (added count (done + length next) records))
-more_appended begun before after count done records next first met is so_far put =
-    let bytes : journal_bytes (added count done records) ++ journal_bytes next ≡ journal_bytes (added count (done + length next) records) =
-    sym (all_joined (added count done records) next) ∙ ap journal_bytes (sym (added_more count done records next first met is)) in
-    subst (Appends begun after) bytes (Appends-trans begun before after (journal_bytes (added count done records)) (journal_bytes next) so_far put)
+pub more_appended : (version : AuditVersion) (begun before after : Option (List ℕ)) (count done : ℕ) (records next : List RecordData) → count ≤ done → done ≤ length records → next ≡ take (length next) (drop done records)
+    → Appends begun before (journal_bytes version (added count done records)) → Appends before after (journal_bytes version next) → Appends begun after (journal_bytes version (added count (done + length next) records))
+more_appended version begun before after count done records next first met is so_far put =
+    let bytes : journal_bytes version (added count done records) ++ journal_bytes version next ≡ journal_bytes version (added count (done + length next) records) =
+    sym (all_joined version (added count done records) next) ∙ ap (journal_bytes version) (sym (added_more count done records next first met is)) in
+    subst (Appends begun after) bytes (Appends-trans begun before after (journal_bytes version (added count done records)) (journal_bytes version next) so_far put)
 
 -- the same, where it is known what was held
-pub more_written : (begun before after : Option (List ℕ)) (count done : ℕ) (records next : List RecordData) → count ≤ done → done ≤ length records → next ≡ take (length next) (drop done records)
-    → IsGrown begun before (journal_bytes (added count done records)) → Appends before after (journal_bytes next) → IsGrown begun after (journal_bytes (added count (done + length next) records))
-more_written begun before after count done records next first met is grown put =
-    appends_grown begun after (journal_bytes (added count (done + length next) records))
-    (more_appended begun before after count done records next first met is (grown_appends begun before (journal_bytes (added count done records)) grown) put)
+pub more_written : (version : AuditVersion) (begun before after : Option (List ℕ)) (count done : ℕ) (records next : List RecordData) → count ≤ done → done ≤ length records → next ≡ take (length next) (drop done records)
+    → IsGrown begun before (journal_bytes version (added count done records)) → Appends before after (journal_bytes version next) → IsGrown begun after (journal_bytes version (added count (done + length next) records))
+more_written version begun before after count done records next first met is grown put =
+    appends_grown begun after (journal_bytes version (added count (done + length next) records))
+    (more_appended version begun before after count done records next first met is (grown_appends begun before (journal_bytes version (added count done records)) grown) put)
 
 -- bytes in four pieces
 regrouped : (a f r z : List ℕ) → a ++ ((f ++ r) ++ z) ≡ (a ++ f) ++ (r ++ z)
 regrouped a f r z = simp append_assoc
 
 -- what is left begins with the next records
-left_is : (records next : List RecordData) (done : ℕ) → next ≡ take (length next) (drop done records)
-    → journal_bytes (drop done records) ≡ journal_bytes next ++ journal_bytes (drop (length next) (drop done records))
-left_is records next done is =
-    ap journal_bytes (sym (take-append-drop (length next) (drop done records)))
-    ∙ all_joined (take (length next) (drop done records)) (drop (length next) (drop done records))
-    ∙ ap (λ (xs : List RecordData). journal_bytes xs ++ journal_bytes (drop (length next) (drop done records))) (sym is)
+left_is : (version : AuditVersion) (records next : List RecordData) (done : ℕ) → next ≡ take (length next) (drop done records)
+    → journal_bytes version (drop done records) ≡ journal_bytes version next ++ journal_bytes version (drop (length next) (drop done records))
+left_is version records next done is =
+    ap (journal_bytes version) (sym (take-append-drop (length next) (drop done records)))
+    ∙ all_joined version (take (length next) (drop done records)) (drop (length next) (drop done records))
+    ∙ ap (λ (xs : List RecordData). journal_bytes version xs ++ journal_bytes version (drop (length next) (drop done records))) (sym is)
 
 -- a front of the next records was put on the device
-pub cut_written : (begun before after : Option (List ℕ)) (count done : ℕ) (records next : List RecordData) → count ≤ done → done ≤ length records → next ≡ take (length next) (drop done records)
-    → IsGrown begun before (journal_bytes (added count done records)) → IsFront before after (journal_bytes next) → IsFront begun after (journal_bytes (drop count records))
-cut_written begun before after count done records next first met is grown cut =
-    let text = journal_bytes (added count done records) in
-    let others = journal_bytes (drop (length next) (drop done records)) in
+pub cut_written : (version : AuditVersion) (begun before after : Option (List ℕ)) (count done : ℕ) (records next : List RecordData) → count ≤ done → done ≤ length records → next ≡ take (length next) (drop done records)
+    → IsGrown begun before (journal_bytes version (added count done records)) → IsFront before after (journal_bytes version next) → IsFront begun after (journal_bytes version (drop count records))
+cut_written version begun before after count done records next first met is grown cut =
+    let text = journal_bytes version (added count done records) in
+    let others = journal_bytes version (drop (length next) (drop done records)) in
     record {
       front = text ++ cut.front;
       rest = cut.rest ++ others;
       written = Appends-trans begun before after text cut.front (grown_appends begun before text grown) cut.written;
       whole =
-          ap journal_bytes (added_rest count done records first met)
-          ∙ all_joined (added count done records) (drop done records)
-          ∙ ap (λ (bytes : List ℕ). text ++ bytes) (left_is records next done is ∙ ap (λ (bytes : List ℕ). bytes ++ others) cut.whole)
+          ap (journal_bytes version) (added_rest count done records first met)
+          ∙ all_joined version (added count done records) (drop done records)
+          ∙ ap (λ (bytes : List ℕ). text ++ bytes) (left_is version records next done is ∙ ap (λ (bytes : List ℕ). bytes ++ others) cut.whole)
           ∙ regrouped text cut.front cut.rest others;
     }
 
 -- nothing more was put on the device
-pub cut_there : (begun after : Option (List ℕ)) (count done : ℕ) (records : List RecordData) → count ≤ done → done ≤ length records
-    → IsGrown begun after (journal_bytes (added count done records)) → IsFront begun after (journal_bytes (drop count records))
-cut_there begun after count done records first met grown = record {
-  front = journal_bytes (added count done records);
-  rest = journal_bytes (drop done records);
-  written = grown_appends begun after (journal_bytes (added count done records)) grown;
-  whole = ap journal_bytes (added_rest count done records first met) ∙ all_joined (added count done records) (drop done records);
+pub cut_there : (version : AuditVersion) (begun after : Option (List ℕ)) (count done : ℕ) (records : List RecordData) → count ≤ done → done ≤ length records
+    → IsGrown begun after (journal_bytes version (added count done records)) → IsFront begun after (journal_bytes version (drop count records))
+cut_there version begun after count done records first met grown = record {
+  front = journal_bytes version (added count done records);
+  rest = journal_bytes version (drop done records);
+  written = grown_appends begun after (journal_bytes version (added count done records)) grown;
+  whole = ap (journal_bytes version) (added_rest count done records first met) ∙ all_joined version (added count done records) (drop done records);
 }
 
 no_records : (count : ℕ) (records : List RecordData) → added count count records ≡ []
 no_records count records = drop_all count (take count records) (omega (arith, length-take count records))
 
 -- none is written yet
-pub none_appended : (begun : Option (List ℕ)) (count : ℕ) (records : List RecordData) → Appends begun begun (journal_bytes (added count count records))
-none_appended begun count records = subst (Appends begun begun) (sym (ap journal_bytes (no_records count records) ∙ no_bytes)) (Appends-nil begun)
+pub none_appended : (version : AuditVersion) (begun : Option (List ℕ)) (count : ℕ) (records : List RecordData) → Appends begun begun (journal_bytes version (added count count records))
+none_appended version begun count records = subst (Appends begun begun) (sym (ap (journal_bytes version) (no_records count records) ∙ no_bytes version)) (Appends-nil begun)
 
-pub none_added : (begun : Option (List ℕ)) (count : ℕ) (records : List RecordData) → IsGrown begun begun (journal_bytes (added count count records))
-none_added begun count records = appends_grown begun begun (journal_bytes (added count count records)) (none_appended begun count records)
+pub none_added : (version : AuditVersion) (begun : Option (List ℕ)) (count : ℕ) (records : List RecordData) → IsGrown begun begun (journal_bytes version (added count count records))
+none_added version begun count records = appends_grown begun begun (journal_bytes version (added count count records)) (none_appended version begun count records)
 
 before : (done : ℕ) → pred (max 1 (done + 1)) ≡ done
 before done = grind arith
@@ -137,11 +137,11 @@ piece_size records piece done most is =
     ∙ ap (min most) (length-drop done records)
 
 -- all others were put on the device
-pub whole_written : (begun before after : Option (List ℕ)) (count done : ℕ) (records : List RecordData) → count ≤ done → done ≤ length records
-    → IsGrown begun before (journal_bytes (added count done records)) → Appends before after (journal_bytes (drop done records)) → IsGrown begun after (journal_bytes (drop count records))
-whole_written begun before after count done records first met grown put =
-    let text = journal_bytes (added count done records) in
-    let bytes : text ++ journal_bytes (drop done records) ≡ journal_bytes (drop count records) =
-    sym (all_joined (added count done records) (drop done records)) ∙ ap journal_bytes (sym (added_rest count done records first met)) in
-    appends_grown begun after (journal_bytes (drop count records))
-    (subst (Appends begun after) bytes (Appends-trans begun before after text (journal_bytes (drop done records)) (grown_appends begun before text grown) put))
+pub whole_written : (version : AuditVersion) (begun before after : Option (List ℕ)) (count done : ℕ) (records : List RecordData) → count ≤ done → done ≤ length records
+    → IsGrown begun before (journal_bytes version (added count done records)) → Appends before after (journal_bytes version (drop done records)) → IsGrown begun after (journal_bytes version (drop count records))
+whole_written version begun before after count done records first met grown put =
+    let text = journal_bytes version (added count done records) in
+    let bytes : text ++ journal_bytes version (drop done records) ≡ journal_bytes version (drop count records) =
+    sym (all_joined version (added count done records) (drop done records)) ∙ ap (journal_bytes version) (sym (added_rest count done records first met)) in
+    appends_grown begun after (journal_bytes version (drop count records))
+    (subst (Appends begun after) bytes (Appends-trans begun before after text (journal_bytes version (drop done records)) (grown_appends begun before text grown) put))

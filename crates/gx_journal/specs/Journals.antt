@@ -3,16 +3,17 @@ use Rattle.std.specs.Prelude.{◌≡◌, ℕ, ◌<◌, ◌≤◌, max, List, len
 use Rattle.std.specs.Io.KnownBytes.{append_known}
 use Rattle.gx_devices.specs.Devices.{IsFront}
 use Rattle.gx_history.specs.declared.record.RecordData.{RecordData}
-use Rattle.gx_audit_bytes.specs.declared.version.AuditVersion.TheVariants as versions
+use Rattle.gx_audit_bytes.specs.declared.version.AuditVersion.{AuditVersion}
 use Rattle.gx_audit_bytes.specs.Audits.{all_bytes}
 use Rattle.gx_pass.specs.declared.view.Holds.{Holds}
 use Rattle.gx_pass.specs.Views.{holds}
 use Rattle.gx_journal.specs.declared.fault.JournalFault.{JournalFault}
 use Rattle.gx_journal.specs.declared.fault.JournalFault.TheVariants as faults
 
--- what a device holds, as far as that is known, how many of the day's records are on it, and why no more are put there
+-- what a device holds, as far as that is known, in which version records are put there, how many of the day's records are on it, and why no more are put there
 pub record TapeData : Type 0 where
   pub contents : Option (List ℕ)
+  pub version : AuditVersion
   pub done : ℕ
   pub fault : Option JournalFault
 
@@ -24,9 +25,9 @@ pub record JournalData : Type 0 where
 abbrev pub is_broken : TapeData → Bool
 is_broken tape = is_some tape.fault
 
--- the bytes of records, as a journal has them
-abbrev pub journal_bytes : List RecordData → List ℕ
-journal_bytes records = all_bytes versions.Two records
+-- the bytes of records, as a journal of this version has them
+abbrev pub journal_bytes : AuditVersion → List RecordData → List ℕ
+journal_bytes version records = all_bytes version records
 
 -- the records behind the first `count`, up to those that are done
 abbrev pub added : ℕ → ℕ → List RecordData → List RecordData
@@ -52,12 +53,13 @@ known h = max h.told (length h.front)
 
 -- The day begins with its earlier records. The device holds what it held at first, and behind it the bytes of the records that are done; once it is broken, a
 -- front of the bytes of all records that the pass has met.
-pub record IsKept (begun : Option (List ℕ)) (count : ℕ) (earlier : List RecordData) (j : JournalData) : Type 0 where
+pub record IsKept (begun : Option (List ℕ)) (count : ℕ) (earlier : List RecordData) (version : AuditVersion) (j : JournalData) : Type 0 where
+  pub version_is : j.tape.version ≡ version
   pub begins : take (length earlier) j.met.front ≡ earlier
   pub first : count ≤ j.tape.done
   pub met : j.tape.done ≤ length j.met.front
-  pub whole : IsFalse (is_broken j.tape) → IsGrown begun j.tape.contents (journal_bytes (added count j.tape.done j.met.front))
-  pub cut : IsTrue (is_broken j.tape) → ∥ IsFront begun j.tape.contents (journal_bytes (drop count j.met.front)) ∥₁
+  pub whole : IsFalse (is_broken j.tape) → IsGrown begun j.tape.contents (journal_bytes version (added count j.tape.done j.met.front))
+  pub cut : IsTrue (is_broken j.tape) → ∥ IsFront begun j.tape.contents (journal_bytes version (drop count j.met.front)) ∥₁
 
 -- of the counts of failed calls of a writer, before and after: it is blamed exactly where a call of it failed
 abbrev pub IsBlamed : (writes writes' : ℕ) → JournalFault → Type 0

@@ -11,6 +11,7 @@ ghost use Rattle.gx_journal.specs.Journals.{added, is_broken, journal_bytes, kno
 use crate::fault::JournalFault;
 use crate::name::JournalName;
 use crate::tape::Tape;
+use gx_audit_bytes::AuditVersion;
 use gx_door::Door;
 use gx_history::record::Record;
 use gx_units::OutOfMemory;
@@ -40,13 +41,20 @@ impl<D: Door, W: Write, J: JournalName> Model for Journal<D, W, J> {
     ghost view = { λ j. record { met = met_by D.held j.pass; tape = j.tape } };
 
     ghost invariant = { λ j. IsTrue (is_some j.pass) × (added_by D.added j.pass ≡ 0)
-        × IsKept J.begun J.count J.earlier
+        × IsKept J.begun J.count J.earlier J.version
         (record { met = met_by D.held j.pass; tape = j.tape }) };
 }
 
 impl<D: Door, W: Write, J: JournalName> Journal<D, W, J> {
-    /// A journal on a device with so many of the records that the pass has met, which are the day's first.
-    pub fn new(alloc: Global, pass: D::Ticket, count: u64, device: W) -> Journal<D, W, J>
+    /// A journal of this version on a device with so many of the records that the pass has met, which are the day's first.
+    pub fn new(
+        alloc: Global,
+        version: AuditVersion,
+        pass: D::Ticket,
+        count: u64,
+        device: W,
+    ) -> Journal<D, W, J>
+        requires version { version ≡ J.version }
         requires begun { W.contents device ≡ J.begun }
         requires count { count ≡ J.count }
         requires met { (D.held pass).front ≡ J.earlier }
@@ -54,12 +62,13 @@ impl<D: Door, W: Write, J: JournalName> Journal<D, W, J> {
         requires within { count ≤ length J.earlier }
         ensures met { result.met ≡ D.held pass }
         ensures contents { result.tape.contents ≡ J.begun }
+        ensures version { result.tape.version ≡ version }
         ensures done { result.tape.done ≡ count }
         ensures fault { result.tape.fault ≡ None }
     {
         Journal {
             pass: Some(pass),
-            tape: Tape::new(alloc, count, device),
+            tape: Tape::new(alloc, version, count, device),
             of: PhantomData,
         }
     }
@@ -181,7 +190,7 @@ impl<D: Door, W: Write, J: JournalName> Journal<D, W, J> {
         ensures met { D.held result.0 ≡ self.met }
         ensures none_added { D.added result.0 ≡ 0 }
         ensures tape { result.1 ≡ self.tape }
-        ensures kept { IsKept J.begun J.count J.earlier self }
+        ensures kept { IsKept J.begun J.count J.earlier J.version self }
     {
         let Journal { pass, tape, of: _ } = self;
         let Some(pass) = pass else { unreachable!() };

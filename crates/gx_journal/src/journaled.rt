@@ -5,6 +5,7 @@ ghost use Rattle.std.specs.Prelude.{◌≡◌, ◌≤◌, length};
 use crate::journal::Journal;
 use crate::name::JournalName;
 use gx_answers::{LoginAnswer, Outcome, Pulled, StepFault};
+use gx_audit_bytes::AuditVersion;
 use gx_door::{Caller, Dial, Door, Matched, PullFault, Turned};
 use gx_history::record::{Record, Request};
 use gx_units::{Moment, OutOfMemory, Password, SessionName, UserName};
@@ -21,15 +22,17 @@ pub struct Journaled<'x, D: Door, W: Write, J: JournalName> {
 }
 
 impl<'x, D: Door, W: Write, J: JournalName> Journaled<'x, D, W, J> {
-    /// A door with a journal on this device, on which there are so many of the records that the pass has met, the day's
+    /// A door with a journal of this version on this device, on which there are so many of the records that the pass has met, the day's
     /// first.
     pub fn new(
         alloc: Global,
+        version: AuditVersion,
         door: &'x D,
         pass: D::Ticket,
         count: u64,
         device: W,
     ) -> Journaled<'x, D, W, J>
+        requires version { version ≡ J.version }
         requires begun { W.contents device ≡ J.begun }
         requires count { count ≡ J.count }
         requires met { (D.held pass).front ≡ J.earlier }
@@ -38,7 +41,7 @@ impl<'x, D: Door, W: Write, J: JournalName> Journaled<'x, D, W, J> {
     {
         Journaled {
             door,
-            journal: Mutex::new(Journal::new(alloc, pass, count, device)),
+            journal: Mutex::new(Journal::new(alloc, version, pass, count, device)),
         }
     }
 

@@ -14,11 +14,13 @@ use std::alloc::Global;
 use std::io::Write;
 use std::marker::Model;
 
-/// A device that the day's records are put on, each as its 128 bytes in an audit of version 2. Behind its first fault
-/// nothing is put on it any more. Contracts see what the device holds, how many records are on it, and the fault.
+/// A device that the day's records are put on, each as its 128 bytes in an audit of its version. Behind its first fault
+/// nothing is put on it any more. Contracts see what the device holds, the version, how many records are on it, and the
+/// fault.
 pub struct Tape<W: Write> {
     alloc: Global,
     writer: Counted<W>,
+    version: AuditVersion,
     done: u64,
     fault: Option<JournalFault>,
 }
@@ -31,6 +33,7 @@ impl<W: Write> Model for Tape<W> {
 
     ghost view = { λ t. record {
       contents = W.contents t.writer.device;
+      version = t.version;
       done = t.done;
       fault = t.fault;
     } };
@@ -41,34 +44,37 @@ impl<W: Write> Model for Tape<W> {
 /// Writes the records' bytes, and flushes the writer; where one fails, a front of them.
 fn put_on<W: Write>(
     alloc: Global,
+    version: AuditVersion,
     writer: &mut Counted<W>,
     records: &[Record],
 ) -> Result<(), JournalFault>
     requires { writer.old.failed < 2 ^ 64 - 1 }
     ensures whole { OnOk result (Appends
         (W.contents writer.old.device) (W.contents writer.new.device)
-        (journal_bytes records.now)) }
+        (journal_bytes version records.now)) }
     ensures front { OnErr result (IsFront
         (W.contents writer.old.device) (W.contents writer.new.device)
-        (journal_bytes records.now)) }
+        (journal_bytes version records.now)) }
     ensures kept { OnOk result (writer.new.failed ≡ writer.old.failed) }
     ensures told { IfErr result (IsBlamed writer.old.failed writer.new.failed) }
 {
-    let bytes = audit_bytes(alloc, AuditVersion::Two, records)?;
+    let bytes = audit_bytes(alloc, version, records)?;
     write_whole(writer, bytes.as_slice())?;
     Ok(())
 }
 
 impl<W: Write> Tape<W> {
-    /// A device with so many of the day's records.
-    pub fn new(alloc: Global, done: u64, device: W) -> Tape<W>
+    /// A device with so many of the day's records, of this version.
+    pub fn new(alloc: Global, version: AuditVersion, done: u64, device: W) -> Tape<W>
         ensures contents { result.contents ≡ W.contents device }
+        ensures version { result.version ≡ version }
         ensures done { result.done ≡ done }
         ensures fault { result.fault ≡ None }
     {
         Tape {
             alloc,
             writer: Counted::new(device),
+            version,
             done,
             fault: None,
         }
@@ -93,19 +99,20 @@ impl<W: Write> Tape<W> {
         requires room { self.old.done + length records.now < 2 ^ 64 }
         ensures answer { IsTrue result → self.new.fault ≡ None }
         ensures whole { IsTrue result → Appends
-            self.old.contents self.new.contents (journal_bytes records.now) }
+            self.old.contents self.new.contents (journal_bytes self.old.version records.now) }
         ensures done { IsTrue result → self.new.done ≡ self.old.done + length records.now }
         ensures broken { IsFalse result → IsTrue (is_broken self.new) }
         ensures front { IsFalse result → IsFront
-            self.old.contents self.new.contents (journal_bytes records.now) }
+            self.old.contents self.new.contents (journal_bytes self.old.version records.now) }
         ensures stays { IsFalse result → self.new.done ≡ self.old.done }
+        ensures version { self.new.version ≡ self.old.version }
         ensures refused { IsTrue (is_broken self.old) → IsFalse result }
         ensures over { IsTrue (is_broken self.old) → self.new ≡ self.old }
     {
         if self.fault.is_some() {
             return false;
         }
-        match put_on(self.alloc, &mut self.writer, records) {
+        match put_on(self.alloc, self.version, &mut self.writer, records) {
             Ok(()) => {
                 self.done += records.len() as u64;
                 true
@@ -121,6 +128,7 @@ impl<W: Write> Tape<W> {
     pub fn give_up(&mut self, fault: JournalFault)
         ensures fault { IsTrue (is_broken self.new) }
         ensures contents { self.new.contents ≡ self.old.contents }
+        ensures version { self.new.version ≡ self.old.version }
         ensures done { self.new.done ≡ self.old.done }
     {
         if self.fault.is_none() {
@@ -136,6 +144,7 @@ impl<W: Write> Tape<W> {
         let Tape {
             alloc: _,
             writer,
+            version: _,
             done: _,
             fault,
         } = self;

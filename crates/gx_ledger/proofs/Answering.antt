@@ -83,7 +83,7 @@ alone_in_scope scope account inside other = by (same_account account other) refl
     by false h = none (covers scope other)
 
 -- the group of a known account in scope
-group_found : (policy : PolicyData) (held : Positions) (asked : Asks) (account : AccountName) (scope : Scope) (count : Count) → is_some (account_named policy account) ≡ true → covers scope account ≡ true
+pub group_found : (policy : PolicyData) (held : Positions) (asked : Asks) (account : AccountName) (scope : Scope) (count : Count) → is_some (account_named policy account) ≡ true → covers scope account ≡ true
     → option_and_then (slice_get (map (λ (among : AccountName → Bool). group_of policy.stocks asked (total_of held among)) (members_of (Some count) scope (account_names policy.accounts))))
     (place_in (Some count) (account_place (account_names policy.accounts) account))
     ≡ Some (group_of policy.stocks asked (total_of held (counts_account count scope account)))
@@ -166,14 +166,14 @@ module _ (policy : PolicyData) (held : Positions) (among : AccountName → Bool)
   done_fits side = let most = done_fit held.executions (on_side among side) in let fit = sound.fit.done_shares in omega (arith, most, fit)
 
   -- what was executed on a side, less what was on the other
-  net_answers : (side : Option StockSide) → option_map_or (net_in kept_sides) side (pos 0) ≡ option_map_or (net_done held.executions among) side (pos 0)
+  pub net_answers : (side : Option StockSide) → option_map_or (net_in kept_sides) side (pos 0) ≡ option_map_or (net_done held.executions among) side (pos 0)
   net_answers None = refl
   net_answers (Some side) =
       (λ i. net_of (side_answers side.stock side.buys i).done (side_answers side.stock (not side.buys) i).done)
       ∙ net_fits (side_done held.executions among side) (side_done held.executions among (other_side side)) (done_fits side) (done_fits (other_side side))
 
   -- what is open there
-  live_answers : (side : Option StockSide) → option_map_or (live_in kept_sides) side 0 ≡ option_map_or (side_live held.live among) side 0
+  pub live_answers : (side : Option StockSide) → option_map_or (live_in kept_sides) side 0 ≡ option_map_or (side_live held.live among) side 0
   live_answers None = refl
   live_answers (Some side) = ap (λ (s : SideSums). s.live) (side_answers side.stock side.buys)
 

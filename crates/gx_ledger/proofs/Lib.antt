@@ -8,6 +8,7 @@ pub mod Filled
 pub mod Opening
 pub mod Counted
 pub mod Answering
+pub mod StandingSums
 pub mod Following
 pub mod Listing
 pub mod Likeness

@@ -6,4 +6,5 @@ pub mod Keeping
 pub mod Tables
 pub mod Told
 pub mod StandsFor
+pub mod Standing
 pub mod Following

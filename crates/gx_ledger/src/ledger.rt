@@ -1,14 +1,16 @@
 //! The running figures of a day.
 
-ghost use Rattle.std.specs.Prelude.{◌≡◌, IfOk};
+ghost use Rattle.std.specs.Prelude.{◌≡◌, IfOk, option_and_then, slice_get};
 ghost use Rattle.gx_history.specs.Figures.{side_asked};
 ghost use Rattle.gx_positions.specs.Changing.{nothing};
 ghost use Rattle.gx_ledger.specs.Keeping.{account_place, kept_executed, kept_noted, price_of};
 ghost use Rattle.gx_ledger.specs.Keeping.{reference_for, with_price};
 ghost use Rattle.gx_ledger.specs.StandsFor.{Accepts, Closes, Cuts, Fills, GivesFigures, StandsFor};
+ghost use Rattle.gx_ledger.specs.Standing.{GivesNet, GivesSums, tally_net, tally_sums};
 ghost use Rattle.gx_ledger.specs.Told.{figures_at};
 
 use crate::change::{Change, ChangeKind};
+use crate::sums::{NetSums, Sums};
 use crate::tables::{first_prices, first_tallies, names_of, note_in, note_in_all, set_price};
 use crate::tally::{Tally, Wanted};
 use crate::tally_places::{TallyPlaces, counting_by_account};
@@ -157,6 +159,23 @@ impl Ledger {
         }
     }
 
+    /// What is open and executed of the accounts that the rule at this place in the file, the first at
+    /// 0, counts together with this one: it alone, or all of the rule's scope. None where the rule
+    /// counts nothing or is not for the account, or the policy has no such rule or account.
+    pub fn sums(&self, rule: usize, account: AccountName) -> Option<Sums>
+        ensures sums { GivesSums self.now rule account result }
+    {
+        sums_at(&self.tallies, rule, account, self.place(account))
+    }
+
+    /// What these accounts have on the side of the stock, where the rule limits net positions. None
+    /// for any other rule.
+    pub fn net(&self, rule: usize, account: AccountName, side: StockSide) -> Option<NetSums>
+        ensures net { GivesNet self.now rule account side result }
+    {
+        net_at(&self.tallies, rule, account, self.place(account), side)
+    }
+
     /// The place of the account in the policy.
     fn place(&self, account: AccountName) -> Option<usize>
         ensures { result ≡ account_place self.now.accounts account }
@@ -233,6 +252,39 @@ impl Ledger {
 
     /// Lets it go. Its drop is proved here once, and not in each crate that owns one.
     pub fn let_go(self) {}
+}
+
+/// The sums of the account, which has this place in the policy, in the tally at a place.
+fn sums_at(
+    tallies: &[Tally],
+    rule: usize,
+    account: AccountName,
+    place: Option<usize>,
+) -> Option<Sums>
+    ensures { result ≡ option_and_then
+        (λ tally. tally_sums tally account place) (slice_get tallies.now rule) }
+{
+    match tallies.get(rule) {
+        Some(tally) => tally.sums(account, place),
+        None => None,
+    }
+}
+
+/// The same on the side of a stock.
+fn net_at(
+    tallies: &[Tally],
+    rule: usize,
+    account: AccountName,
+    place: Option<usize>,
+    side: StockSide,
+) -> Option<NetSums>
+    ensures { result ≡ option_and_then
+        (λ tally. tally_net tally account place side) (slice_get tallies.now rule) }
+{
+    match tallies.get(rule) {
+        Some(tally) => tally.net(account, place, side),
+        None => None,
+    }
 }
 
 /// The side of the stock that an Enter is for, or that the order is on that would be replaced.

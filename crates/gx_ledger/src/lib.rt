@@ -12,7 +12,7 @@ pub mod laws;
 pub mod ledger;
 mod moments;
 mod sides;
-mod sums;
+pub mod sums;
 mod tables;
 mod tally;
 mod tally_places;

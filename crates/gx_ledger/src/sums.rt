@@ -19,6 +19,15 @@ pub struct Sums {
     pub done_value: u128,
 }
 
+/// What some accounts have on one side of a stock, in shares.
+#[derive(Clone, Copy)]
+pub struct NetSums {
+    /// Executed on the side, less those executed on the other.
+    pub done: i128,
+    /// Open on the side.
+    pub live: u128,
+}
+
 impl Sums {
     /// Of no order and no fill.
     pub const NONE: Sums = Sums {

@@ -13,10 +13,12 @@ ghost use Rattle.gx_ledger.specs.Tallies.{place_in, stocks_for};
 ghost use Rattle.gx_ledger.specs.Tallies.{room_for_enters, room_for_moments, tally_after};
 ghost use Rattle.gx_history.specs.Figures.{open_value};
 ghost use Rattle.gx_ledger.specs.Tallies.{tally_figures};
+ghost use Rattle.gx_ledger.specs.Standing.{group_net, group_with, tally_net, tally_sums};
 
 use crate::change::Change;
 use crate::group::Group;
 use crate::sides::{Sides, net_of};
+use crate::sums::{NetSums, Sums};
 use gx_history::facts::{NO_FIGURES, RuleFigures, StockSide};
 use gx_history::live_order::LiveOrder;
 use gx_history::record::Request;
@@ -277,6 +279,16 @@ fn live_in(sides: &Sides, side: Option<StockSide>) -> u128
     }
 }
 
+/// What a group has on the side of the stock.
+fn net_of_group(group: &Group, side: StockSide) -> NetSums
+    ensures { result ≡ group_net side group.now }
+{
+    NetSums {
+        done: net_in(&group.sides, Some(side)),
+        live: live_in(&group.sides, Some(side)),
+    }
+}
+
 /// The figures of a group that the rule asks for.
 #[inline(always)]
 fn figures_of_group(asks: Asks, group: &Group, wanted: &Wanted) -> RuleFigures
@@ -383,6 +395,44 @@ impl Tally {
         match place_in(self.count, place) {
             Some(place) => self.groups.at(place),
             None => None,
+        }
+    }
+
+    /// The group that the rule counts the account in, which has this place in the policy.
+    fn group_with(&self, account: AccountName, place: Option<usize>) -> Option<&Group>
+        ensures { option_copied result ≡ group_with self.now account place }
+    {
+        if place.is_some() && self.scope.covers(account) {
+            self.group(place)
+        } else {
+            None
+        }
+    }
+
+    /// The sums that the rule counts for the account, which has this place in the policy. None where
+    /// it counts nothing, or not for the account.
+    pub fn sums(&self, account: AccountName, place: Option<usize>) -> Option<Sums>
+        ensures { result ≡ tally_sums self.now account place }
+    {
+        match self.group_with(account, place) {
+            Some(group) => Some(group.sums),
+            None => None,
+        }
+    }
+
+    /// What the rule counts for the account on the side of the stock. None where it does not look at
+    /// sides, or not for the account.
+    pub fn net(
+        &self,
+        account: AccountName,
+        place: Option<usize>,
+        side: StockSide,
+    ) -> Option<NetSums>
+        ensures { result ≡ tally_net self.now account place side }
+    {
+        match (self.asks, self.group_with(account, place)) {
+            (Asks::Sides, Some(group)) => Some(net_of_group(group, side)),
+            _ => None,
         }
     }
 

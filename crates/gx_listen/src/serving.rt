@@ -119,7 +119,7 @@ fn go_without<R: Wait>(rt: &R, lobby: &Lobby, number: u64) {
 }
 
 /// Takes connections, each in a thread of its own, and waits until all have ended: how this ended. One for which there is
-/// no thread or no memory is closed.
+/// no thread or no memory is closed. All threads beside it are there by now, so it is said that the server has begun.
 fn take_guests<
     'x,
     T: Drop + Send,
@@ -128,6 +128,7 @@ fn take_guests<
     R: Threads + Wait + Clock + Sync,
 >(hall: &'x Hall<'x, D, A, R>, listener: TcpListener, connections: u64) -> Ending {
     let rt = hall.rt;
+    hall.lobby.begun.begin(rt);
     thread::scope(thread::scope_env(), rt, |scope| {
         for before in 0..connections {
             match next_guest(hall, &listener, before + 1) {

@@ -90,8 +90,18 @@ fn tell_new<D: Door, R: Wait + Clock>(
     unreachable!()
 }
 
-/// Tells the lines of the day's records as they are made, but for those of earlier runs, until all have been made. Where
-/// memory is refused it tries again.
+/// Tells what is left behind the lines of all records.
+fn tell_close<D: Door, R: Wait + Clock>(rt: &R, alloc: Global, lobby: &Lobby, log: &RecordLog<D>) {
+    match log.close(alloc) {
+        Ok(text) => {
+            put(rt, lobby, text.as_slice());
+        }
+        Err(_) => lobby.log.leave_out(rt),
+    }
+}
+
+/// Tells the lines of the day's records as they are made, but for those of earlier runs, until all have been made, and what
+/// is left then. Where memory is refused it tries again.
 pub(crate) fn tell_records<D: Door, R: Wait + Clock>(
     rt: &R,
     alloc: Global,
@@ -103,7 +113,11 @@ pub(crate) fn tell_records<D: Door, R: Wait + Clock>(
     skip(rt, door, lobby, &mut log, earlier);
     for _ in rt.forever() {
         let is_last = lobby.newcomers.is_closed();
-        if !tell_new(rt, alloc, door, lobby, &mut log) || is_last {
+        if !tell_new(rt, alloc, door, lobby, &mut log) {
+            return;
+        }
+        if is_last {
+            tell_close(rt, alloc, lobby, &log);
             return;
         }
         thread::sleep(rt, Duration::from_millis(LOOK));

@@ -1,9 +1,10 @@
 //! What the threads of a server share beside its gate: the clock, the matcher's bell, the writers' chimes, the places for
 //! connections, who has not logged in, how often wrong passwords were given, what went wrong at the door, and whether the
-//! server is to end. And what its threads look at: what a writer has seen of the records, who is connected.
+//! server has begun and is to end. And what its threads look at: what a writer has seen of the records, who is connected.
 #![tactic(auto)]
 
 mod attempts;
+mod begun;
 mod bell;
 mod chime;
 mod lobby;
@@ -15,6 +16,7 @@ mod tally;
 mod watch;
 
 pub use attempts::Attempts;
+pub use begun::Begun;
 pub use bell::{Bell, Heard, Rung};
 pub use chime::{Bells, Chime, Chimes};
 pub use lobby::Lobby;

@@ -1,6 +1,7 @@
 //! What the threads of a server share beside its gate.
 
 use crate::attempts::Attempts;
+use crate::begun::Begun;
 use crate::bell::Bell;
 use crate::chime::Chimes;
 use crate::newcomers::Newcomers;
@@ -32,6 +33,8 @@ pub struct Lobby {
     pub attempts: Attempts,
     /// What went wrong at the door.
     pub tally: Tally,
+    /// Whether the server has begun to take connections.
+    pub begun: Begun,
     /// Whether the server is to end.
     pub stop: Stop,
     /// What is told on standard error.
@@ -57,6 +60,7 @@ impl Lobby {
             newcomers: Newcomers::new(alloc, login_within),
             attempts: Attempts::new(alloc),
             tally: Tally::new(),
+            begun: Begun::new(),
             stop: Stop::new(),
             log,
         }

@@ -8,6 +8,7 @@ use Rattle.gx_history.specs.declared.record.RecordData.{RecordData}
 use Rattle.gx_pass.specs.declared.view.Holds.{Holds}
 use Rattle.gx_text.specs.declared.form.Form.{Form}
 use Rattle.gx_events.specs.Known.{known_of, Known}
+use Rattle.gx_events.specs.Lines.{closing_line}
 use Rattle.gx_logging.specs.Logging.{IsLogging}
 
 -- the next records are there
@@ -44,3 +45,8 @@ are_few records piece done most is = omega (arith, rolling.piece_size records pi
 -- they are those between
 pub between : (records piece : List RecordData) (done : ℕ) → piece ≡ take (length piece) (drop done records) → piece ≡ drop done (take (done + length piece) records)
 between records piece done next = next ∙ sym (drop-take done (length piece) records)
+
+-- what is left to be told is of the records whose lines were given
+pub closes : (policy : PolicyData) (form : Form) (known : Known) (records : List RecordData) (text : List ℕ) → known ≡ known_of policy records → text ≡ closing_line form known
+    → text ≡ closing_line form (known_of policy records)
+closes policy form known records text knows is = is ∙ ap (closing_line form) knows

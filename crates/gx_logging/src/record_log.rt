@@ -6,7 +6,7 @@ ghost use Rattle.gx_policy.specs.Lists.{slice};
 ghost use Rattle.gx_pass.specs.Views.{retold};
 ghost use Rattle.gx_door.specs.Acts.{IsLater};
 ghost use Rattle.gx_events.specs.Known.{known_of};
-ghost use Rattle.gx_events.specs.Lines.{lines_behind};
+ghost use Rattle.gx_events.specs.Lines.{closing_line, lines_behind};
 
 use gx_door::Door;
 use gx_events::EventLog;
@@ -154,6 +154,21 @@ impl<D: Door> RecordLog<D> {
         let records = self.fetch(rt, door, most)?;
         self.pass_over(records.as_slice());
         Ok(true)
+    }
+
+    /// What is left to be told where the log ends behind the records whose lines were given or that were passed over:
+    /// how many more logins were denied within the minute of the last one.
+    ///
+    /// # Errors
+    ///
+    /// `OutOfMemory` where memory was refused.
+    #[tactic(auto, using(crate::proofs::Giving::closes))]
+    pub fn close(&self, alloc: Global) -> Result<Vec<u8>, OutOfMemory>
+        ensures { IfOk result (λ text. text.items
+            ≡ closing_line self.now.form
+            (known_of D.policy (take self.now.done self.now.met.front))) }
+    {
+        self.events.close(alloc)
     }
 
     /// The lines of the records that were made since lines were given last, of so many at most; `None` where there are none.

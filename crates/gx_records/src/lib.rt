@@ -1,10 +1,14 @@
-//! The records of a day where they stand, for whoever is to read them all and may ask for no memory.
+//! What a gate shows of its day beside what it answers: its records where they stand, and what stands after them. No call
+//! takes memory, and none walks the records.
 #![tactic(auto)]
+
+mod state;
 
 ghost use Rattle.std.specs.Prelude.{◌≡◌};
 
 use gx_answers::AccessGate;
 use gx_history::record::Record;
+pub use state::ShowsState;
 
 /// A gate that shows its records where they stand.
 pub trait ShowsRecords: AccessGate {

@@ -6,6 +6,7 @@ use mathlib.Core.List.{IsPrefix}
 use Rattle.gx_policy.specs.declared.policy.PolicyData.{PolicyData}
 use Rattle.gx_history.specs.declared.record.RecordData.{RecordData}
 use Rattle.gx_answers.specs.Gates.{GateData}
+use Rattle.gx_audit_bytes.specs.declared.version.AuditVersion.{AuditVersion}
 use Rattle.gx_door.specs.Acts.{gate_at}
 use Rattle.gx_pass.proofs.Fronts.{prefix_length, prefix_trans}
 use Rattle.gx_leaving.specs.Logouts.{AddsLogouts, NobodyIsOn}
@@ -23,34 +24,34 @@ sound_at tape answer is denied = none_of tape.fault (sym is ∙ denied)
     none_of (Some fault) e = absurd (cc e)
 
 -- the next records were put there
-pub rest_put : (records : List RecordData) (first before after : TapeData) (most : ℕ) → first.done ≤ before.done → before.done + most ≤ length records
-    → Appends first.contents before.contents (journal_bytes (added first.done before.done records)) → Appends before.contents after.contents (journal_bytes (take most (drop before.done records)))
-    → after.done ≡ before.done + most → Appends first.contents after.contents (journal_bytes (added first.done after.done records))
-rest_put records first before after most begun left so_far put done =
+pub rest_put : (version : AuditVersion) (records : List RecordData) (first before after : TapeData) (most : ℕ) → first.done ≤ before.done → before.done + most ≤ length records
+    → Appends first.contents before.contents (journal_bytes version (added first.done before.done records)) → Appends before.contents after.contents (journal_bytes version (take most (drop before.done records)))
+    → after.done ≡ before.done + most → Appends first.contents after.contents (journal_bytes version (added first.done after.done records))
+rest_put version records first before after most begun left so_far put done =
     let next = take most (drop before.done records) in
     let size : length next ≡ most = length-take most (drop before.done records) ∙ omega (arith, length-drop before.done records, left) in
-    subst (λ (n : ℕ). Appends first.contents after.contents (journal_bytes (added first.done n records))) (ap (λ (n : ℕ). before.done + n) size ∙ sym done)
-    (more_appended first.contents before.contents after.contents first.done before.done records next begun (omega (arith, left)) (ap (λ (n : ℕ). take n (drop before.done records)) (sym size)) so_far put)
+    subst (λ (n : ℕ). Appends first.contents after.contents (journal_bytes version (added first.done n records))) (ap (λ (n : ℕ). before.done + n) size ∙ sym done)
+    (more_appended version first.contents before.contents after.contents first.done before.done records next begun (omega (arith, left)) (ap (λ (n : ℕ). take n (drop before.done records)) (sym size)) so_far put)
 
 -- all were put there
-pub rest_is_put : (records : List RecordData) (first last : TapeData) → length records ≤ last.done → Appends first.contents last.contents (journal_bytes (added first.done last.done records))
-    → Appends first.contents last.contents (journal_bytes (drop first.done records))
-rest_is_put records first last all put = subst (λ (rs : List RecordData). Appends first.contents last.contents (journal_bytes (drop first.done rs))) (take_all last.done records all) put
+pub rest_is_put : (version : AuditVersion) (records : List RecordData) (first last : TapeData) → length records ≤ last.done → Appends first.contents last.contents (journal_bytes version (added first.done last.done records))
+    → Appends first.contents last.contents (journal_bytes version (drop first.done records))
+rest_is_put version records first last all put = subst (λ (rs : List RecordData). Appends first.contents last.contents (journal_bytes version (drop first.done rs))) (take_all last.done records all) put
 
 -- all records of the day are there
-pub all_kept : (begun : Option (List ℕ)) (count : ℕ) (earlier : List RecordData) (j : JournalData) (records : List RecordData) (after : TapeData) → IsKept begun count earlier j → IsPrefix j.met.front records
-    → (after.fault ≡ None → Appends j.tape.contents after.contents (journal_bytes (drop j.tape.done records))) → (after.fault ≡ None → j.tape.fault ≡ None) → after.fault ≡ None
-    → IsGrown begun after.contents (journal_bytes (drop count records))
-all_kept begun count earlier j records after kept begins put sound none =
+pub all_kept : (version : AuditVersion) (begun : Option (List ℕ)) (count : ℕ) (earlier : List RecordData) (j : JournalData) (records : List RecordData) (after : TapeData) → IsKept begun count earlier version j → IsPrefix j.met.front records
+    → (after.fault ≡ None → Appends j.tape.contents after.contents (journal_bytes version (drop j.tape.done records))) → (after.fault ≡ None → j.tape.fault ≡ None) → after.fault ≡ None
+    → IsGrown begun after.contents (journal_bytes version (drop count records))
+all_kept version begun count earlier j records after kept begins put sound none =
     let before = j.tape in
     let longer = prefix_length j.met.front records begins in
-    let so_far : IsGrown begun before.contents (journal_bytes (added count before.done records)) =
-    subst (λ (rs : List RecordData). IsGrown begun before.contents (journal_bytes rs)) (sym (added_later count before.done j.met.front records kept.met begins)) (kept.whole (sound_of before (sound none))) in
-    whole_written begun before.contents after.contents count before.done records kept.first (omega (arith, kept.met, longer)) so_far (put none)
+    let so_far : IsGrown begun before.contents (journal_bytes version (added count before.done records)) =
+    subst (λ (rs : List RecordData). IsGrown begun before.contents (journal_bytes version rs)) (sym (added_later count before.done j.met.front records kept.met begins)) (kept.whole (sound_of before (sound none))) in
+    whole_written version begun before.contents after.contents count before.done records kept.first (omega (arith, kept.met, longer)) so_far (put none)
 
 -- they begin with the earlier ones
-pub earlier_kept : (begun : Option (List ℕ)) (count : ℕ) (earlier : List RecordData) (j : JournalData) (records : List RecordData) → IsKept begun count earlier j → IsPrefix j.met.front records → IsPrefix earlier records
-earlier_kept begun count earlier j records kept begins = prefix_trans earlier j.met.front records (earlier_begin earlier j.met.front kept.begins) begins
+pub earlier_kept : (version : AuditVersion) (begun : Option (List ℕ)) (count : ℕ) (earlier : List RecordData) (j : JournalData) (records : List RecordData) → IsKept begun count earlier version j → IsPrefix j.met.front records → IsPrefix earlier records
+earlier_kept version begun count earlier j records kept begins = prefix_trans earlier j.met.front records (earlier_begin earlier j.met.front kept.begins) begins
 
 -- a day goes on with logouts
 pub day_goes_on : (policy : PolicyData) (records : List RecordData) (gate : GateData) (later : List RecordData) → gate.policy ≡ policy → AddsLogouts 0 records gate.records → NobodyIsOn gate → IsPrefix gate.records later → GoesOn policy records later

@@ -15,6 +15,7 @@ use crate::rest::put_rest;
 use crate::shared::SharedGate;
 use crate::ticket::Ticket;
 use gx_answers::AccessGate;
+use gx_audit_bytes::AuditVersion;
 use gx_journal::{Journal, JournalFault, JournalName, Journaled};
 use gx_leaving::log_out_at_last;
 use gx_listen::{DayLog, Ending, serve_door};
@@ -51,7 +52,7 @@ pub fn close_kept<G: AccessGate, N: GateName, J: JournalName, W: Write + Drop>(
     ensures met { result.1.held.front ≡ (G.seen result.0.gate).records }
     ensures total { result.2.amount ≡ length (G.seen result.0.gate).records }
     ensures kept { result.0.fault ≡ None → IsGrown J.begun (W.contents result.0.device)
-        (journal_bytes (drop J.count (G.seen result.0.gate).records)) }
+        (journal_bytes J.version (drop J.count (G.seen result.0.gate).records)) }
 {
     let (pass, mut tape) = journal.into_parts();
     let (gate, met, total) = shared.close(pass);
@@ -79,6 +80,7 @@ fn serve_kept<
     shared: SharedGate<G, N>,
     permits: Permits<N>,
     pass: Ticket<N>,
+    version: AuditVersion,
     count: u64,
     device: W,
     lobby: &Lobby,
@@ -87,6 +89,7 @@ fn serve_kept<
     connections: u64,
 ) -> (Kept<G, W>, Ticket<N>, Total<N>, Ending)
     requires known { IfSome log (λ l. l.events.known ≡ known_of N.policy []) }
+    requires version { version ≡ J.version }
     requires begun { W.contents device ≡ J.begun }
     requires count { count ≡ J.count }
     requires met { pass.held.front ≡ J.earlier }
@@ -98,10 +101,10 @@ fn serve_kept<
     ensures met { result.1.held.front ≡ (G.seen result.0.gate).records }
     ensures total { result.2.amount ≡ length (G.seen result.0.gate).records }
     ensures kept { result.0.fault ≡ None → IsGrown J.begun (W.contents result.0.device)
-        (journal_bytes (drop J.count (G.seen result.0.gate).records)) }
+        (journal_bytes J.version (drop J.count (G.seen result.0.gate).records)) }
 {
     let door: Journaled<'_, SharedGate<G, N>, W, J> = Journaled::new(
-        alloc, &shared, pass, count, device,
+        alloc, version, &shared, pass, count, device,
     );
     let entrance = Entrance::new(&shared, permits);
     let served = serve_door(
@@ -135,6 +138,7 @@ fn serve_named<
     gate: G,
     blank: Blank,
     ledgers: BlankLedgers,
+    version: AuditVersion,
     count: u64,
     device: W,
     lobby: &Lobby,
@@ -146,6 +150,7 @@ fn serve_named<
     requires records { ledgers.records ≡ N.name }
     requires lines { ledgers.lines ≡ N.lines }
     requires parts { N.parts ≡ all_parts }
+    requires version { version ≡ J.version }
     requires begun { W.contents device ≡ J.begun }
     requires count { count ≡ J.count }
     requires earlier { (G.seen gate).records ≡ J.earlier }
@@ -155,7 +160,7 @@ fn serve_named<
     ensures front { IfOk result (λ left. IsPrefix J.earlier (G.seen left.0.gate).records) }
     ensures kept { IfOk result (λ left. left.0.fault ≡ None → IsGrown J.begun
         (W.contents left.0.device)
-        (journal_bytes (drop J.count (G.seen left.0.gate).records))) }
+        (journal_bytes J.version (drop J.count (G.seen left.0.gate).records))) }
 {
     let Ok(log) = day_log(alloc, gate.policy(), lobby, count) else {
         gate.close();
@@ -169,6 +174,7 @@ fn serve_named<
                 shared,
                 permits,
                 pass,
+                version,
                 count,
                 device,
                 lobby,
@@ -182,8 +188,8 @@ fn serve_named<
     }
 }
 
-/// Serves connections on a gate that has records, as [`serve`](crate::serve) does, and keeps its records on this device,
-/// on which there are the first `count` of them: each is written before anything that comes of it is sent. Whoever is
+/// Serves connections on a gate that has records, as [`serve`](crate::serve) does, and keeps its records on this device in
+/// this version, on which there are the first `count` of them: each is written before anything that comes of it is sent. Whoever is
 /// logged in by the records is logged out before. Gives what is left of the day, and how the server ended.
 ///
 /// After a fault of the device nothing more is sent, and the server ends.
@@ -199,6 +205,7 @@ pub fn serve_journaled<
     rt: &R,
     alloc: Global,
     gate: G,
+    version: AuditVersion,
     count: u64,
     device: W,
     lobby: &Lobby,
@@ -213,7 +220,8 @@ pub fn serve_journaled<
     ensures goes_on { IfOk result (λ left.
         GoesOn (G.seen gate).policy (G.seen gate).records (G.seen left.0.gate).records) }
     ensures kept { IfOk result (λ left. left.0.fault ≡ None → IsGrown (W.contents device)
-        (W.contents left.0.device) (journal_bytes (drop count (G.seen left.0.gate).records))) }
+        (W.contents left.0.device)
+        (journal_bytes version (drop count (G.seen left.0.gate).records))) }
 {
     let mut gate = gate;
     let Ok(blank) = Blank::new(alloc) else {
@@ -228,6 +236,7 @@ pub fn serve_journaled<
         gate,
         blank,
         BlankLedgers::new(),
+        version,
         count,
         device,
         lobby,

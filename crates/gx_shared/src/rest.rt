@@ -15,8 +15,10 @@ const PIECE: u64 = 256;
 fn put_piece<G: AccessGate, W: Write>(gate: &G, tape: &mut Tape<W>, most: u64) -> bool
     requires left { tape.old.done + most ≤ length (G.seen gate.now).records }
     ensures whole { IsTrue result → Appends tape.old.contents tape.new.contents
-        (journal_bytes (take most (drop tape.old.done (G.seen gate.now).records))) }
+        (journal_bytes tape.old.version
+        (take most (drop tape.old.done (G.seen gate.now).records))) }
     ensures done { IsTrue result → tape.new.done ≡ tape.old.done + most }
+    ensures version { tape.new.version ≡ tape.old.version }
     ensures sound { IsTrue result → tape.new.fault ≡ None }
     ensures broken { IsFalse result → IsTrue (is_broken tape.new) }
 {
@@ -34,7 +36,7 @@ fn put_piece<G: AccessGate, W: Write>(gate: &G, tape: &mut Tape<W>, most: u64) -
 pub(crate) fn put_rest<G: AccessGate, W: Write>(gate: &G, tape: &mut Tape<W>)
     requires within { tape.old.done ≤ length (G.seen gate.now).records }
     ensures whole { tape.new.fault ≡ None → Appends tape.old.contents tape.new.contents
-        (journal_bytes (drop tape.old.done (G.seen gate.now).records)) }
+        (journal_bytes tape.old.version (drop tape.old.done (G.seen gate.now).records)) }
     ensures sound { tape.new.fault ≡ None → tape.old.fault ≡ None }
 {
     if tape.is_broken() {

@@ -66,17 +66,12 @@ pub(crate) fn count_once_written(order: &LiveOrder, live: usize) -> usize
     }
 }
 
-/// The order, with nothing open where it is one of the account.
-fn shut_of(account: AccountName, order: &LiveOrder) -> LiveOrder
-    ensures { result ≡ shut_of account order.now }
+/// Leaves nothing open of the order, where it is one of the account; another is not written.
+fn shut(order: &mut LiveOrder, account: AccountName)
+    ensures { order.new ≡ shut_of account order.old }
 {
-    if account == order.account {
-        LiveOrder {
-            total: order.done,
-            ..*order
-        }
-    } else {
-        *order
+    if order.is_of_account(account) {
+        order.total = order.done;
     }
 }
 
@@ -85,6 +80,6 @@ pub(crate) fn shut_all(rows: &mut Vec<LiveOrder>, account: AccountName)
     ensures { rows.new.items ≡ map (shut_of account) rows.old.items }
 {
     for row in rows.iter_mut() {
-        *row = shut_of(account, row);
+        shut(row, account);
     }
 }

@@ -1,11 +1,10 @@
 use Rattle.std.proofs.Common.{◌≡◌, ◌*◌, take}
 use Rattle.arrayvec.specs.ArrayVec.{array_vec_len}
-use Rattle.gx_audit_bytes.specs.declared.version.AuditVersion.TheVariants as versions
 use Rattle.gx_audit_bytes.specs.Audits.{all_bytes}
 use Rattle.gx_audit.proofs.keeping.piece_bytes.Given as goal
 
 abbrev pub invariant-loop-given : goal.invariant-loop-given
 invariant-loop-given l = record {
-  bytes : l.bytes.items ≡ all_bytes versions.Two (take l.given-index l.piece);
+  bytes : l.bytes.items ≡ all_bytes l.version (take l.given-index l.piece);
   size : array_vec_len l.bytes ≡ l.given-index * 128;
 }

@@ -6,18 +6,18 @@ use Rattle.gx_audit.proofs.keeping.write_records.Goals as goal
 pub loop-done-init : goal.loop-done-init
 loop-done-init g c = record {
   within = omega arith;
-  text = none_written _;
+  text = none_written c.args.version _;
   kept = refl;
 }
 
 pub loop-done-preserved : goal.loop-done-preserved
 loop-done-preserved g c = record {
   within = omega arith;
-  text = piece_written _ _ _ c.args.records.now c.loop-done.done _ _ (omega arith) c.loop-done.invariant.text c.in_ok-write_piece.ensures.written;
+  text = piece_written c.args.version _ _ _ c.args.records.now c.loop-done.done _ _ (omega arith) c.loop-done.invariant.text c.in_ok-write_piece.ensures.written;
   kept = c.in_ok-write_piece.ensures.kept ∙ c.loop-done.invariant.kept;
 }
 
 pub returns-in_err-write_piece-clause-front : goal.returns-in_err-write_piece-clause-front
 returns-in_err-write_piece-clause-front g c =
     on_err c.from_residual.result _
-    (piece_cut _ _ _ c.args.records.now c.loop-done.done _ c.loop-done.invariant.text c.in_err-write_piece.ensures.front)
+    (piece_cut c.args.version _ _ _ c.args.records.now c.loop-done.done _ c.loop-done.invariant.text c.in_err-write_piece.ensures.front)

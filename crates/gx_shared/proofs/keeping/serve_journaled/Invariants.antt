@@ -9,6 +9,6 @@ ghosts-serve_named-N-GateName g a = record { table = a.blank; policy = (g.G.Acce
 abbrev pub ghosts-serve_named-N-Ledger : goal.ghosts-serve_named-N-Ledger
 ghosts-serve_named-N-Ledger g a = record { name = a.ledgers.records; parts = all_parts }
 
--- what the device holds, and how many of the gate's records are there
+-- what the device holds, how many of the gate's records are there, and in which version
 abbrev pub ghosts-serve_named-J-JournalName : goal.ghosts-serve_named-J-JournalName
-ghosts-serve_named-J-JournalName g a = record { begun = g.W.Write.contents a.device; count = a.count; earlier = (g.G.AccessGate.seen a.gate).records }
+ghosts-serve_named-J-JournalName g a = record { begun = g.W.Write.contents a.device; count = a.count; earlier = (g.G.AccessGate.seen a.gate).records; version = a.version }

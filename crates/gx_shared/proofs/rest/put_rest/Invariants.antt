@@ -9,7 +9,8 @@ invariant-loop-tape g l = record {
   within : l.tape.done ≤ length (g.G.AccessGate.seen l.gate).records;
   sound : l.tape.fault ≡ None;
   begun : l.fn.tape.fault ≡ None;
-  bytes : Appends l.fn.tape.contents l.tape.contents (journal_bytes (added l.fn.tape.done l.tape.done (g.G.AccessGate.seen l.gate).records));
+  version : l.tape.version ≡ l.fn.tape.version;
+  bytes : Appends l.fn.tape.contents l.tape.contents (journal_bytes l.fn.tape.version (added l.fn.tape.done l.tape.done (g.G.AccessGate.seen l.gate).records));
 }
 
 abbrev pub decreases-loop-tape : goal.decreases-loop-tape

@@ -1,0 +1,159 @@
+//! `gate show`: which records of an audit are shown, and what is told where none can be.
+
+ghost use Rattle.std.specs.Prelude.{◌^◌, ◌<◌};
+
+use crate::ending::{Ended, Place};
+use crate::files::{Content, bytes_of};
+use gx_clock::TimeOfDay;
+use gx_command_line::{Shape, TableForm, Wanted};
+use gx_devices::Counted;
+use gx_policy::Policy;
+use gx_server::Noted;
+use gx_shortened::Shortened;
+use gx_show::{
+    AskedNames, AuditRecords, Choice, FindingFault, ShownForm, Style, UnknownName, choice_of,
+    found_in_audit, is_known_in_capitals, write_records,
+};
+use gx_units::OutOfMemory;
+use std::io;
+use std::process::ExitCode;
+
+/// The nanoseconds of a second.
+const SECOND: u64 = 1_000_000_000;
+
+/// The moment of a time of day; the other where there is none.
+fn moment_of(time: Option<TimeOfDay>, other: u64) -> u64 {
+    match time {
+        Some(time) => u64::from(time.seconds) * SECOND,
+        None => other,
+    }
+}
+
+/// What is asked for but for names.
+fn unnamed(wanted: &Wanted) -> Choice {
+    Choice {
+        order: wanted.order,
+        only_denied: wanted.only_denied,
+        from: moment_of(wanted.from, 0),
+        to: moment_of(wanted.to, u64::MAX),
+        ..Choice::ALL
+    }
+}
+
+/// The names that are asked for.
+fn names_of<'a>(wanted: &Wanted<'a>) -> AskedNames<'a> {
+    AskedNames {
+        account: wanted.account,
+        user: wanted.user,
+        stock: wanted.stock,
+        rule: wanted.rule,
+    }
+}
+
+/// What a name is not known as, and the name.
+fn told_of<'a>(wanted: &Wanted<'a>, unknown: UnknownName) -> (&'static str, Option<&'a str>) {
+    match unknown {
+        UnknownName::Account => ("account", wanted.account),
+        UnknownName::User => ("user", wanted.user),
+        UnknownName::Stock => ("stock", wanted.stock),
+        UnknownName::Rule => ("rule", wanted.rule),
+    }
+}
+
+/// Tells that the policy has not what is asked for: the status of a fault of the arguments.
+fn tell_unknown(
+    rt: &HostRuntime,
+    policy: &Policy,
+    wanted: &Wanted,
+    unknown: UnknownName,
+) -> ExitCode {
+    let (what, name) = told_of(wanted, unknown);
+    let name = name.unwrap_or("");
+    let hint = if is_known_in_capitals(policy, unknown, name) {
+        ": names are in capitals"
+    } else {
+        ""
+    };
+    let shown = Shortened::of(name);
+    let _ = eprintln!(rt; "the policy has no {what} {shown}{hint}");
+    ExitCode::from(2)
+}
+
+/// How the records are shown.
+fn style_of(shape: Shape) -> Style {
+    let form = match shape.form {
+        TableForm::Text => ShownForm::Text,
+        TableForm::Csv => ShownForm::Csv,
+        TableForm::Json => ShownForm::Json,
+    };
+    Style {
+        form,
+        has_clock: shape.has_clock,
+        has_words: shape.has_words,
+    }
+}
+
+/// Writes the records, and tells the number of the first that is none: the status that says whether there is one.
+fn write_found<'a>(
+    rt: &HostRuntime,
+    policy: &Policy,
+    style: &Style,
+    found: &AuditRecords,
+) -> Result<ExitCode, Ended<'a>> {
+    let mut writer = Counted::new(Noted::new(io::writer(rt)));
+    let records = found.records.as_slice();
+    if let Err(fault) = write_records(rt.alloc(), policy, style, records, &mut writer) {
+        let cause = writer.into_inner().cause;
+        return Err(Ended::of_writing(fault, Place::Output, cause));
+    }
+    match found.bad {
+        Some(number) => {
+            let _ = eprintln!(rt; "bad record {number}");
+            Ok(ExitCode::from(4))
+        }
+        None => Ok(ExitCode::SUCCESS),
+    }
+}
+
+/// Tells why no records were found: the status that says so.
+fn tell_unfound<'a>(rt: &HostRuntime, fault: FindingFault) -> Result<ExitCode, Ended<'a>> {
+    match fault {
+        FindingFault::OtherPolicy => {
+            let _ = eprintln!(rt; "other policy");
+            Ok(ExitCode::from(4))
+        }
+        FindingFault::OutOfMemory => Err(OutOfMemory.into()),
+    }
+}
+
+/// Shows the records of an audit that are asked for: the status that says what the audit is.
+fn show_chosen<'a>(
+    rt: &HostRuntime,
+    policy: &Policy,
+    audit: &[u8],
+    choice: &Choice,
+    style: &Style,
+) -> Result<ExitCode, Ended<'a>> {
+    let found = match found_in_audit(rt.alloc(), policy, choice, audit) {
+        Ok(found) => found,
+        Err(fault) => return tell_unfound(rt, fault),
+    };
+    write_found(rt, policy, style, &found)
+}
+
+/// Shows the records of the audit in this file that are wanted: the status that says what the audit is, or that a name is
+/// not the policy's.
+pub(crate) fn show_under<'a>(
+    rt: &HostRuntime,
+    policy: &Policy,
+    path: &'a str,
+    wanted: Wanted<'a>,
+    shape: Shape,
+) -> Result<ExitCode, Ended<'a>> {
+    let choice = match choice_of(policy, &names_of(&wanted), &unnamed(&wanted)) {
+        Ok(choice) => choice,
+        Err(unknown) => return Ok(tell_unknown(rt, policy, &wanted, unknown)),
+    };
+    let audit = bytes_of(rt, path, Content::Records)?;
+    show_chosen(rt, policy, audit.as_slice(), &choice, &style_of(shape))
+}

@@ -1,0 +1,24 @@
+use Rattle.std.proofs.Common.{arith, ◌∙◌, ap, refl, length}
+use Rattle.gx_audit.proofs.Walking.{begins, none_shown, bytes_further, shown_further}
+use Rattle.gx_audit.proofs.beginning.follow_first.Goals as goal
+
+pub loop-at-init : goal.loop-at-init
+loop-at-init g c = record {
+  within = c.requires.within;
+  policy = refl;
+  few = omega (arith, ap length c.requires.new);
+  shown = none_shown c.args.version (g.G.AccessGate.seen c.args.gate.now).records c.requires.new;
+  bytes = begins c.args.version (g.G.AccessGate.seen c.args.gate.now).policy (g.G.AccessGate.seen c.args.gate.now).records c.args.audit.now c.args.start c.requires.new c.requires.front;
+}
+
+pub loop-at-preserved : goal.loop-at-preserved
+loop-at-preserved g c = record {
+  within = omega arith;
+  policy = c.in-Ok.ensures.policy ∙ c.loop-at.invariant.policy;
+  few = omega (arith, c.in-Ok.ensures.len, c.if-length-most.false, c.length.ensures.count);
+  shown =
+      shown_further c.args.version (g.G.AccessGate.seen c.loop-at.gate).records (g.G.AccessGate.seen c.check_record.new.gate).records c.record_at.result c.loop-at.invariant.shown c.in-Ok.ensures.ok;
+  bytes =
+      bytes_further c.args.version (g.G.AccessGate.seen c.args.gate.now).policy (g.G.AccessGate.seen c.loop-at.gate).records (g.G.AccessGate.seen c.check_record.new.gate).records c.record_at.result c.args.audit.now c.loop-at.at
+      c.loop-at.invariant.bytes c.in-Ok.ensures.ok c.record_at.ensures;
+}

@@ -1,0 +1,99 @@
+//! The gate as it stood behind one of an audit's records.
+
+ghost use Rattle.std.specs.Prelude.{◌≡◌, ◌++◌, ◌≤◌, [], drop, length, IfErr, IfOk, OnOk};
+ghost use Rattle.gx_history.specs.Verdicts.{IsLegal};
+ghost use Rattle.gx_audit.specs.Beginning.{AreFirst};
+ghost use Rattle.gx_audit.specs.Replaying.{IsRecordsFault};
+ghost use Rattle.gx_audit_bytes.specs.Headers.{front_of};
+ghost use Rattle.gx_audit_bytes.specs.Versions.{version_of};
+
+use crate::checking::{check_record, record_at, records_start};
+use crate::fault::AuditFault;
+use crate::places::bytes_at;
+use gx_answers::AccessGate;
+use gx_audit_bytes::{AuditVersion, RECORD_SIZE, read_record_in};
+use gx_policy::Policy;
+use gx_units::Moment;
+use std::alloc::Global;
+
+/// Makes the steps of the first records from this place on, so many at most, on a new gate.
+fn follow_first<G: AccessGate>(
+    gate: &mut G,
+    version: AuditVersion,
+    audit: &[u8],
+    start: usize,
+    most: u64,
+) -> Result<(), AuditFault>
+    requires new { (G.seen gate.old).records ≡ [] }
+    requires version { version_of audit.now ≡ version }
+    requires within { start ≤ length audit.now }
+    requires front { front_of version (G.seen gate.old).policy ++ drop start audit.now
+        ≡ audit.now }
+    ensures policy { (G.seen gate.new).policy ≡ (G.seen gate.old).policy }
+    ensures legal { OnOk result (IsLegal (G.seen gate.old).policy (G.seen gate.new).records) }
+    ensures first { OnOk result
+        (AreFirst (G.seen gate.old).policy most audit.now (G.seen gate.new).records) }
+{
+    let mut at = start;
+    while audit.len() - at >= RECORD_SIZE {
+        // that its records are those of a legal day
+        gate.is_legal();
+        if gate.length() >= most {
+            return Ok(());
+        }
+        match check_record(gate, version, &record_at(audit, at)) {
+            Ok(()) => at += RECORD_SIZE,
+            Err(fault) => return Err(fault),
+        }
+    }
+    gate.is_legal();
+    Ok(())
+}
+
+/// The gate as it stood behind an audit's first records: so many, or all that are whole where it has fewer. The audit is in
+/// any version, and may be cut in its last record, as the journal of a server that runs may be. Each step is made again, as
+/// [`check_audit`](crate::check_audit) does; what stands behind these records is not looked at.
+///
+/// # Errors
+///
+/// As of [`check_audit`](crate::check_audit); `Truncated` only where the bytes are too few for a header.
+pub fn replay_first<G: AccessGate>(
+    alloc: Global,
+    policy: &Policy,
+    audit: &[u8],
+    most: u64,
+) -> Result<G, AuditFault>
+    ensures policy { IfOk result (λ gate. (G.seen gate).policy ≡ policy.now) }
+    ensures legal { IfOk result (λ gate. IsLegal policy.now (G.seen gate).records) }
+    ensures first { IfOk result
+        (λ gate. AreFirst policy.now most audit.now (G.seen gate).records) }
+{
+    let version = AuditVersion::of(audit);
+    let start = records_start(policy, version, audit)?;
+    let Ok(mut gate) = G::open(alloc, policy) else {
+        return Err(AuditFault::OutOfMemory);
+    };
+    match follow_first(&mut gate, version, audit, start, most) {
+        Ok(()) => Ok(gate),
+        Err(fault) => {
+            gate.close();
+            Err(fault)
+        }
+    }
+}
+
+/// How many of an audit's first records show no later moment than this, in nanoseconds past midnight: in a legal day these
+/// are all that do.
+pub fn count_until(audit: &[u8], moment: Moment) -> u64 {
+    let version = AuditVersion::of(audit);
+    for number in 1..u64::MAX {
+        let Some(bytes) = bytes_at(audit, number) else {
+            return number - 1;
+        };
+        match read_record_in(version, &bytes) {
+            Some(record) if record.content().moment > moment => return number - 1,
+            _ => {}
+        }
+    }
+    u64::MAX
+}

@@ -1,0 +1,258 @@
+-- What the keepers answer of what stands is what the definitions say.
+use Rattle.std.proofs.Common.{◌≡◌, ℕ, ◌+◌, ◌*◌, ◌<◌, ◌≤◌, ◌^◌, pos, ◌-ℤ◌, ◌+ℤ◌, arith, Bool, true, false, cond, not, ◌&&◌, List, [], ◌∷◌, length, refl, ap, sym, subst, ◌∙◌}
+use Rattle.std.specs.Prelude.{Option, Some, None, is_some, option_map, option_and_then, slice_get, unwrap_or, IfSome}
+use Rattle.std.specs.Prelude.{FitsSigned}
+use Rattle.std.specs.Int.{w128}
+use Rattle.std.specs.List.{find, position, position_from, position_or_len}
+use Rattle.std.proofs.lemmas.Int.{ints}
+use Rattle.std.proofs.lemmas.Iterator.Adapters.{position_from-zero}
+use Rattle.std.proofs.lemmas.List.Folds.{find_at}
+use Rattle.gx_units.specs.Money.{value}
+use Rattle.gx_units.specs.Names.{same_rule}
+use Rattle.gx_units.specs.declared.names.AccountName.{AccountName}
+use Rattle.gx_units.specs.declared.names.RuleId.{RuleId}
+use Rattle.gx_units.specs.declared.names.UserName.{UserName}
+use Rattle.gx_ouch.specs.declared.outbound.OrderTerms.{OrderTerms}
+use Rattle.gx_policy.specs.declared.policy.Count.{Count}
+use Rattle.gx_policy.specs.declared.policy.FileRule.{FileRule}
+use Rattle.gx_policy.specs.declared.policy.PolicyData.{PolicyData}
+use Rattle.gx_policy.specs.declared.policy.RuleKind.{RuleKind}
+use Rattle.gx_policy.specs.declared.policy.RuleKind.TheVariants as kinds
+use Rattle.gx_policy.specs.declared.policy.User.{User}
+use Rattle.gx_policy.specs.People.{account_named, covers}
+use Rattle.gx_policy.specs.Soundness.{is_sound}
+use Rattle.gx_history.specs.declared.facts.StockSide.{StockSide}
+use Rattle.gx_history.specs.declared.live_order.LiveOrder.{LiveOrder}
+use Rattle.gx_history.specs.declared.record.RecordData.{RecordData}
+use Rattle.gx_history.specs.Executions.{Execution, executions}
+use Rattle.gx_history.specs.Figures.{counts_account, done_of_chosen, done_value, live_value, of_accounts, on_side, open_of_chosen, open_value, other_side, positions}
+use Rattle.gx_history.specs.InForce.{is_entitled}
+use Rattle.gx_history.specs.Live.{live}
+use Rattle.gx_history.specs.LiveOrders.{shares_open}
+use Rattle.gx_history.specs.Verdicts.{IsLegal, day_limit}
+use Rattle.gx_orders.specs.LiveOrders.{OrdersData}
+use Rattle.gx_people.specs.Entitled.{sees}
+use Rattle.gx_people.proofs.Entitling.{kept}
+use Rattle.gx_positions.proofs.Sized.{IsSized, legal_is_sized}
+use Rattle.gx_positions.proofs.Small.{IsSmall, IsSmallSide, below, product, sum_within}
+use Rattle.gx_positions.proofs.Sound.{live_are_few, positions_are_sound}
+use Rattle.gx_rules.specs.Settings.{limit_in}
+use Rattle.gx_ledger.specs.declared.sums.NetSums.{NetSums}
+use Rattle.gx_ledger.specs.declared.tally.Asks.{Asks}
+use Rattle.gx_ledger.specs.declared.tally.Asks.TheVariants as asks
+use Rattle.gx_ledger.specs.declared.sums.Sums.{Sums}
+use Rattle.gx_ledger.specs.Standing.{GivesNet, GivesSums, counted_with, net_sums_of, of_sides}
+use Rattle.gx_ledger.specs.StandsFor.{sums_of}
+use Rattle.gx_ledger.specs.Tallies.{asks_of, count_of}
+use Rattle.gx_keepers.specs.declared.keepers.Keepers.{Keepers}
+use Rattle.gx_records.specs.State.{gross_of, gross_of_rule, gross_used, limit_in_force, net_of, net_of_rule, net_used}
+use Rattle.gx_core.specs.Kept.{IsKept}
+use Rattle.gx_core.specs.Used.{AreNetSmall, AreSmall, gross_at, gross_in, net_in}
+
+pub live_is_known : (policy : PolicyData) (history : List RecordData) (k : Keepers) → IsKept policy history k → k.orders.live ≡ live policy history
+live_is_known policy history k kept = ap (λ (orders : OrdersData). orders.live) kept.in_force.orders
+
+pub limit_is_known : (policy : PolicyData) (history : List RecordData) (k : Keepers) (name : RuleId) → IsKept policy history k
+    → limit_in k.rules name ≡ limit_in_force policy history name
+limit_is_known policy history k name kept = ap (λ (rules : List FileRule). limit_in rules name) kept.in_force.rules
+
+pub sight_is_known : (policy : PolicyData) (history : List RecordData) (k : Keepers) (reader : UserName) (account : AccountName) → IsKept policy history k → is_sound policy ≡ true
+    → sees k.people reader account ≡ is_entitled policy history reader account
+sight_is_known policy history k reader account is sound = ap (λ (users : List User). sees users reader account) is.in_force.people ∙ kept policy history reader account sound
+
+-- ---- what sums a rule counts
+
+gross_is : (policy : PolicyData) (history : List RecordData) (account : AccountName) (rule : FileRule)
+    → option_and_then (gross_in rule.kind) (option_map (sums_of (positions policy history)) (counted_with policy account rule)) ≡ gross_of_rule policy history account rule
+gross_is policy history account rule = by (is_some (account_named policy account) && covers rule.scope account) rule.kind
+  where
+    by : (b : Bool) (kind : RuleKind)
+        → option_and_then (gross_in kind) (option_map (sums_of (positions policy history)) (cond b (option_map (λ (count : Count). counts_account count rule.scope account) (count_of kind)) None))
+        ≡ cond b (gross_of policy history (λ count. counts_account count rule.scope account) kind) None
+    by false kind = refl
+    by true (kinds.GrossShares limit count) = refl
+    by true (kinds.GrossValue limit count) = refl
+    by true (kinds.NetShares limit count) = refl
+    by true (kinds.Rate rate count) = refl
+    by true (kinds.Repeat repeat count) = refl
+    by true (kinds.Halt stocks) = refl
+    by true (kinds.Restricted stocks) = refl
+    by true kinds.NoShort = refl
+    by true kinds.NoIso = refl
+    by true kinds.OddLot = refl
+    by true (kinds.OrderShares limit) = refl
+    by true (kinds.OrderValue limit) = refl
+    by true (kinds.Collar limit) = refl
+
+net_is : (policy : PolicyData) (history : List RecordData) (account : AccountName) (side : StockSide) (rule : FileRule)
+    → option_map net_in (of_sides (asks_of rule.kind) (option_map (net_sums_of (positions policy history) side) (counted_with policy account rule))) ≡ net_of_rule policy history account side rule
+net_is policy history account side rule = by (is_some (account_named policy account) && covers rule.scope account) rule.kind
+  where
+    by : (b : Bool) (kind : RuleKind)
+        → option_map net_in (of_sides (asks_of kind) (option_map (net_sums_of (positions policy history) side) (cond b (option_map (λ (count : Count). counts_account count rule.scope account) (count_of kind)) None)))
+        ≡ cond b (net_of policy history (λ count. counts_account count rule.scope account) side kind) None
+    by true (kinds.NetShares limit count) = refl
+    by false (kinds.NetShares limit count) = refl
+    by true (kinds.GrossShares limit count) = refl
+    by false (kinds.GrossShares limit count) = refl
+    by true (kinds.GrossValue limit count) = refl
+    by false (kinds.GrossValue limit count) = refl
+    by true (kinds.Rate rate count) = refl
+    by false (kinds.Rate rate count) = refl
+    by true (kinds.Repeat repeat count) = refl
+    by false (kinds.Repeat repeat count) = refl
+    by true (kinds.Halt stocks) = refl
+    by false (kinds.Halt stocks) = refl
+    by true (kinds.Restricted stocks) = refl
+    by false (kinds.Restricted stocks) = refl
+    by true kinds.NoShort = refl
+    by false kinds.NoShort = refl
+    by true kinds.NoIso = refl
+    by false kinds.NoIso = refl
+    by true kinds.OddLot = refl
+    by false kinds.OddLot = refl
+    by true (kinds.OrderShares limit) = refl
+    by false (kinds.OrderShares limit) = refl
+    by true (kinds.OrderValue limit) = refl
+    by false (kinds.OrderValue limit) = refl
+    by true (kinds.Collar limit) = refl
+    by false (kinds.Collar limit) = refl
+
+-- the first that passes, or behind them all
+place_from : {X : Type 0} (p : X → Bool) (n : ℕ) (xs : List X) → unwrap_or (position_from p n xs) (n + length xs) ≡ n + position_or_len p xs
+place_from p n [] = refl
+place_from {X} p n (x ∷ xs) = by (p x) (place_from p (n + 1) xs)
+  where
+    by : (b : Bool) → unwrap_or (position_from p (n + 1) xs) (n + 1 + length xs) ≡ n + 1 + position_or_len p xs
+        → unwrap_or (cond b (Some n) (position_from p (n + 1) xs)) (n + length (x ∷ xs)) ≡ n + cond (not b) (1 + position_or_len p xs) 0
+    by true later = omega arith
+    by false later = ap (unwrap_or (position_from p (n + 1) xs)) (omega arith) ∙ later ∙ omega arith
+
+-- the place of the rule of this name
+abbrev pub place_of_rule : List FileRule → RuleId → ℕ
+place_of_rule rules name = unwrap_or (position (λ (r : FileRule). same_rule r.name name) rules) (length rules)
+
+-- the rule that stands there
+stands_there : (rules : List FileRule) (name : RuleId) → find (λ (r : FileRule). same_rule r.name name) rules ≡ slice_get rules (place_of_rule rules name)
+stands_there rules name =
+    let named : FileRule → Bool = λ (r : FileRule). same_rule r.name name in
+    let none : length rules ≡ 0 + length rules = omega arith in
+    let first : 0 + position_or_len named rules ≡ position_or_len named rules = omega arith in
+    find_at named rules
+    ∙ ap (slice_get rules)
+    (sym (ap (λ o. unwrap_or o (length rules)) (position_from-zero named rules) ∙ ap (unwrap_or (position_from named 0 rules)) none ∙ place_from named 0 rules ∙ first))
+
+pub gross_is_known : (policy : PolicyData) (history : List RecordData) (k : Keepers) (name : RuleId) (account : AccountName) (given : Option Sums) → IsKept policy history k
+    → GivesSums k.ledger (place_of_rule policy.rules name) account given
+    → gross_at policy.rules (place_of_rule policy.rules name) given ≡ gross_used policy history name account
+gross_is_known policy history k name account given is gives =
+    ap (gross_at policy.rules (place_of_rule policy.rules name)) (gives policy (positions policy history) is.in_force.ledger)
+    ∙ by (slice_get policy.rules (place_of_rule policy.rules name))
+    ∙ ap (option_and_then (gross_of_rule policy history account)) (sym (stands_there policy.rules name))
+  where
+    by : (found : Option FileRule)
+        → option_and_then (λ (rule : FileRule). option_and_then (gross_in rule.kind) (option_and_then (λ (rule : FileRule). option_map (sums_of (positions policy history)) (counted_with policy account rule)) found)) found
+        ≡ option_and_then (gross_of_rule policy history account) found
+    by None = refl
+    by (Some rule) = gross_is policy history account rule
+
+pub net_is_known : (policy : PolicyData) (history : List RecordData) (k : Keepers) (name : RuleId) (account : AccountName) (side : StockSide) (given : Option NetSums) → IsKept policy history k
+    → GivesNet k.ledger (place_of_rule policy.rules name) account side given
+    → option_map net_in given ≡ net_used policy history name account side
+net_is_known policy history k name account side given is gives =
+    ap (option_map net_in) (gives policy (positions policy history) is.in_force.ledger (positions_are_sound policy history is.legal))
+    ∙ by (slice_get policy.rules (place_of_rule policy.rules name))
+    ∙ ap (option_and_then (net_of_rule policy history account side)) (sym (stands_there policy.rules name))
+  where
+    by : (found : Option FileRule)
+        → option_map net_in (option_and_then (λ (rule : FileRule). of_sides (asks_of rule.kind) (option_map (net_sums_of (positions policy history) side) (counted_with policy account rule))) found)
+        ≡ option_and_then (net_of_rule policy history account side) found
+    by None = refl
+    by (Some rule) = net_is policy history account side rule
+
+-- ---- and that they are small
+
+fits : (sum n : ℕ) → sum ≤ n * 2 ^ 64 → n ≤ day_limit + day_limit → sum < 2 ^ 120
+fits sum n within few = omega (arith, within, few)
+
+net_fits : (done other live : ℕ) → done < 2 ^ 120 → other < 2 ^ 120 → live < 2 ^ 120 → FitsSigned w128 (pos done -ℤ pos other +ℤ pos live)
+net_fits done other live low also small = omega (arith, ints, low, also, small)
+
+module _ (policy : PolicyData) (history : List RecordData) (legal : IsLegal policy history) where
+  abbrev sized : IsSized policy history
+  sized = legal_is_sized policy history legal
+
+  few_live : length (live policy history) ≤ day_limit + day_limit
+  few_live = omega (arith, live_are_few policy history legal)
+
+  open_small : (chosen : AccountName → OrderTerms → Bool) → open_of_chosen (live policy history) chosen < 2 ^ 120
+  unfolding open_of_chosen
+  open_small chosen =
+      fits _ (length (live policy history)) (sum_within shares_open IsSmall (λ o h. below (shares_open o) h.0) (λ (o : LiveOrder). chosen o.account o.terms) (live policy history) (sized).small_live) few_live
+
+  open_value_small : (among : AccountName → Bool) → live_value (live policy history) among < 2 ^ 120
+  unfolding live_value
+  open_value_small among =
+      fits _ (length (live policy history)) (sum_within open_value IsSmall (λ o h. product (shares_open o) o.terms.price h.0 h.1) (λ (o : LiveOrder). among o.account) (live policy history) (sized).small_live) few_live
+
+  done_small : (chosen : AccountName → OrderTerms → Bool) → done_of_chosen (executions policy history) chosen < 2 ^ 120
+  unfolding done_of_chosen
+  done_small chosen =
+      fits _ (length (executions policy history))
+      (sum_within (λ (e : Execution). e.fill.shares) IsSmallSide (λ e h. below e.fill.shares h.0) (λ (e : Execution). chosen e.order.account e.order.terms) (executions policy history) (sized).small_sides)
+      (sized).few_sides.1
+
+  done_value_small : (among : AccountName → Bool) → done_value (executions policy history) among < 2 ^ 120
+  unfolding done_value
+  done_value_small among =
+      fits _ (length (executions policy history))
+      (sum_within (λ (e : Execution). value e.fill.shares e.fill.price) IsSmallSide (λ e h. product e.fill.shares e.fill.price h.0 h.1) (λ (e : Execution). among e.order.account) (executions policy history) (sized).small_sides)
+      (sized).few_sides.1
+
+  sums_small : (among : AccountName → Bool) → AreSmall (sums_of (positions policy history) among)
+  sums_small among = record {
+    shares = omega (arith, open_small (of_accounts among), done_small (of_accounts among));
+    values = omega (arith, open_value_small among, done_value_small among);
+  }
+
+  net_small : (side : StockSide) (among : AccountName → Bool) → AreNetSmall (net_sums_of (positions policy history) side among)
+  net_small side among = record {
+    live = omega (arith, open_small (on_side among side));
+    net = net_fits _ _ _ (done_small (on_side among side)) (done_small (on_side among (other_side side))) (open_small (on_side among side));
+  }
+
+pub gross_is_small : (policy : PolicyData) (history : List RecordData) (k : Keepers) (place : ℕ) (account : AccountName) (given : Option Sums) → IsKept policy history k
+    → GivesSums k.ledger place account given → IfSome given AreSmall
+gross_is_small policy history k place account given is gives =
+    subst (λ (o : Option Sums). IfSome o AreSmall) (sym (gives policy (positions policy history) is.in_force.ledger)) (at (slice_get policy.rules place))
+  where
+    by : (found : Option (AccountName → Bool)) → IfSome (option_map (sums_of (positions policy history)) found) AreSmall
+    by None = tt
+    by (Some among) = sums_small policy history is.legal among
+
+    at : (found : Option FileRule) → IfSome (option_and_then (λ (rule : FileRule). option_map (sums_of (positions policy history)) (counted_with policy account rule)) found) AreSmall
+    at None = tt
+    at (Some rule) = by (counted_with policy account rule)
+
+pub net_is_small : (policy : PolicyData) (history : List RecordData) (k : Keepers) (place : ℕ) (account : AccountName) (side : StockSide) (given : Option NetSums) → IsKept policy history k
+    → GivesNet k.ledger place account side given → IfSome given AreNetSmall
+net_is_small policy history k place account side given is gives =
+    subst (λ (o : Option NetSums). IfSome o AreNetSmall) (sym (gives policy (positions policy history) is.in_force.ledger (positions_are_sound policy history is.legal))) (at (slice_get policy.rules place))
+  where
+    mapped : (found : Option (AccountName → Bool)) → IfSome (option_map (net_sums_of (positions policy history) side) found) AreNetSmall
+    mapped None = tt
+    mapped (Some among) = net_small policy history is.legal side among
+
+    by : (asked : Asks) (found : Option (AccountName → Bool)) → IfSome (of_sides asked (option_map (net_sums_of (positions policy history) side) found)) AreNetSmall
+    by asks.Sides found = mapped found
+    by asks.Nothing found = tt
+    by asks.Reference found = tt
+    by asks.Shares found = tt
+    by asks.Values found = tt
+    by (asks.Recent rate) found = tt
+    by (asks.Alike repeat) found = tt
+
+    at : (found : Option FileRule)
+        → IfSome (option_and_then (λ (rule : FileRule). of_sides (asks_of rule.kind) (option_map (net_sums_of (positions policy history) side) (counted_with policy account rule))) found) AreNetSmall
+    at None = tt
+    at (Some rule) = by (asks_of rule.kind) (counted_with policy account rule)

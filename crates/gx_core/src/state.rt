@@ -1,0 +1,114 @@
+//! What stands after the gate's records, as its keepers have it.
+
+ghost use Rattle.std.specs.Prelude.{◌≡◌, length, option_map, position, unwrap_or, IfSome};
+ghost use Rattle.gx_units.specs.Names.{same_rule};
+ghost use Rattle.gx_core.specs.Used.{gross_at, gross_in, net_in, AreNetSmall, AreSmall};
+
+use crate::gate::Gate;
+use gx_history::facts::StockSide;
+use gx_ledger::sums::{NetSums, Sums};
+use gx_policy::{FileRule, RuleKind};
+use gx_records::ShowsState;
+use gx_slab::live::LiveOrders;
+use gx_units::{AccountName, Moment, RuleId, Symbol, UserName};
+
+fn find_rule(rules: &[FileRule], name: RuleId) -> Option<usize>
+    ensures { result ≡ position (λ r. same_rule r.name name) rules.now }
+{
+    rules.iter().position(|rule| rule.name == name)
+}
+
+/// The rule's place in the file, from 0; the number of rules where it is not there.
+fn rule_place(rules: &[FileRule], name: RuleId) -> usize
+    ensures { result ≡ unwrap_or
+        (position (λ r. same_rule r.name name) rules.now) (length rules.now) }
+{
+    match find_rule(rules, name) {
+        Some(place) => place,
+        None => rules.len(),
+    }
+}
+
+/// What a gross rule compares with its limit.
+fn gross_in(kind: &RuleKind, sums: Sums) -> Option<u128>
+    requires { AreSmall sums }
+    ensures { result ≡ gross_in kind.now sums }
+{
+    match kind {
+        RuleKind::GrossShares(_, _) => Some(sums.live_shares + sums.done_shares),
+        RuleKind::GrossValue(_, _) => Some(sums.live_value + sums.done_value),
+        _ => None,
+    }
+}
+
+/// What the rule at this place in the file compares with its limit, where it is a gross rule.
+fn gross_at(rules: &[FileRule], place: usize, sums: Option<Sums>) -> Option<u128>
+    requires { IfSome sums AreSmall }
+    ensures { result ≡ gross_at rules.now place sums }
+{
+    match (rules.get(place), sums) {
+        (Some(rule), Some(sums)) => gross_in(&rule.kind, sums),
+        _ => None,
+    }
+}
+
+/// What a net rule compares with its limit on a side of a stock.
+fn net_in(sums: NetSums) -> i128
+    requires { AreNetSmall sums }
+    ensures { result ≡ net_in sums }
+{
+    sums.done + sums.live as i128
+}
+
+fn net_of(sums: Option<NetSums>) -> Option<i128>
+    requires { IfSome sums AreNetSmall }
+    ensures { result ≡ option_map net_in sums }
+{
+    match sums {
+        Some(sums) => Some(net_in(sums)),
+        None => None,
+    }
+}
+
+impl ShowsState for Gate {
+    #[tactic(auto, using(crate::proofs::Standing::live_is_known))]
+    fn live_orders(&self) -> LiveOrders<'_> {
+        self.keepers.orders.live()
+    }
+
+    fn is_day_closed(&self) -> bool {
+        self.is_closed()
+    }
+
+    fn moment_of_last(&self) -> Moment {
+        self.last_moment()
+    }
+
+    #[tactic(auto, using(crate::proofs::Standing::limit_is_known))]
+    fn limit(&self, rule: RuleId) -> Option<u64> {
+        self.keepers.rules.limit(rule)
+    }
+
+    #[tactic(auto, using(crate::proofs::Commanding::stock_is_listed))]
+    fn lists(&self, rule: RuleId, stock: Symbol) -> bool {
+        self.keepers.rules.lists(rule, stock)
+    }
+
+    #[tactic(auto, using(crate::proofs::Standing::sight_is_known))]
+    fn is_entitled(&self, reader: UserName, account: AccountName) -> bool {
+        // that the policy is sound, which what readers see rests on
+        let _ = self.policy.rules();
+        self.keepers.people.sees(reader, account)
+    }
+
+    fn gross_used(&self, rule: RuleId, account: AccountName) -> Option<u128> {
+        let rules = self.policy.rules();
+        let place = rule_place(rules, rule);
+        gross_at(rules, place, self.keepers.ledger.sums(place, account))
+    }
+
+    fn net_used(&self, rule: RuleId, account: AccountName, side: StockSide) -> Option<i128> {
+        let place = rule_place(self.policy.rules(), rule);
+        net_of(self.keepers.ledger.net(place, account, side))
+    }
+}

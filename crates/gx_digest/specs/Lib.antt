@@ -1,0 +1,3 @@
+pub mod Hashing
+pub mod PolicyText
+pub mod Told

@@ -1,0 +1,4 @@
+pub mod Cells
+pub mod Laws
+pub mod Reasons
+pub mod Rows

@@ -1,0 +1,147 @@
+//! The cells of a row, as they stand beside one another in a table.
+
+ghost use Rattle.std.specs.Prelude.{◌≡◌};
+ghost use Rattle.gx_fields.specs.Cells.{cells_of};
+
+use crate::reasons::Reason;
+use crate::row::{Row, RowKind, RowVerdict};
+use gx_desk::{Tag, WrittenName};
+use gx_ouch::RejectReason;
+use gx_policy::RuleName;
+use gx_units::{AccountName, Firm, Moment, RuleId, Symbol, Token, UserName};
+
+/// How many cells a row has.
+pub const CELLS: usize = 41;
+
+/// The names of the cells, in their order.
+pub const NAMES: [&str; CELLS] = [
+    "number",
+    "moment",
+    "clock",
+    "line",
+    "user",
+    "account",
+    "kind",
+    "handed",
+    "token",
+    "new_token",
+    "side",
+    "shares",
+    "stock",
+    "price",
+    "time_in_force",
+    "firm",
+    "display",
+    "capacity",
+    "intermarket_sweep",
+    "minimum_quantity",
+    "cross_type",
+    "customer_type",
+    "tag",
+    "named_account",
+    "named_rule",
+    "limit",
+    "reader",
+    "password",
+    "session",
+    "wanted",
+    "length",
+    "first",
+    "verdict",
+    "rule",
+    "reason",
+    "reject",
+    "order",
+    "taker",
+    "maker",
+    "fill_shares",
+    "fill_price",
+];
+
+/// What is told beside the fields of a record.
+#[derive(Clone, Copy)]
+pub struct Beside {
+    /// That of the trader who asked.
+    pub account: Option<AccountName>,
+    /// Why the request was denied.
+    pub reason: Option<Reason>,
+    /// The reason of the Rejected that answers the denial.
+    pub reject: Option<RejectReason>,
+}
+
+/// A cell: nothing stands in it where its value is None.
+#[derive(Clone, Copy)]
+pub enum Cell {
+    Number(Option<u64>),
+    Number32(Option<u32>),
+    Number16(Option<u16>),
+    Number8(Option<u8>),
+    /// A moment as a clock shows it.
+    Clock(Moment),
+    /// A field of one byte.
+    Letter(Option<u8>),
+    User(Option<UserName>),
+    Account(Option<AccountName>),
+    Stock(Option<Symbol>),
+    RuleId(Option<RuleId>),
+    Token(Option<Token>),
+    Firm(Option<Firm>),
+    Tag(Option<Tag>),
+    Reader(Option<WrittenName>),
+    Kind(RowKind),
+    Verdict(RowVerdict),
+    /// The answer on a password or a session name.
+    Right(Option<bool>),
+    Rule(Option<RuleName>),
+    Reason(Option<Reason>),
+    Reject(Option<RejectReason>),
+}
+
+/// The cells of a row, in the order of their names.
+pub fn cells_of(row: &Row, beside: &Beside) -> [Cell; CELLS]
+    ensures { result ≡ cells_of row.now beside.now }
+{
+    [
+        Cell::Number(Some(row.number)),
+        Cell::Number(Some(row.moment)),
+        Cell::Clock(row.moment),
+        Cell::Number16(row.line),
+        Cell::User(row.user),
+        Cell::Account(beside.account),
+        Cell::Kind(row.kind),
+        Cell::Number(Some(row.handed)),
+        Cell::Token(row.token),
+        Cell::Token(row.new_token),
+        Cell::Letter(row.side),
+        Cell::Number32(row.shares),
+        Cell::Stock(row.stock),
+        Cell::Number32(row.price),
+        Cell::Number32(row.time_in_force),
+        Cell::Firm(row.firm),
+        Cell::Letter(row.display),
+        Cell::Letter(row.capacity),
+        Cell::Letter(row.intermarket_sweep),
+        Cell::Number32(row.minimum_quantity),
+        Cell::Letter(row.cross_type),
+        Cell::Letter(row.customer_type),
+        Cell::Tag(row.tag),
+        Cell::Account(row.named_account),
+        Cell::RuleId(row.named_rule),
+        Cell::Number(row.limit),
+        Cell::Reader(row.reader),
+        Cell::Right(row.password_is_right),
+        Cell::Right(row.session_is_right),
+        Cell::Number(row.wanted),
+        Cell::Number16(row.length),
+        Cell::Number8(row.first),
+        Cell::Verdict(row.verdict),
+        Cell::Rule(row.rule),
+        Cell::Reason(beside.reason),
+        Cell::Reject(beside.reject),
+        Cell::Number(row.order),
+        Cell::Number(row.taker),
+        Cell::Number(row.maker),
+        Cell::Number32(row.fill_shares),
+        Cell::Number32(row.fill_price),
+    ]
+}

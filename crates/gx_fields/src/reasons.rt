@@ -1,0 +1,183 @@
+//! Why a request was denied, in words.
+
+ghost use Rattle.std.specs.Prelude.{◌≡◌, option_copied};
+ghost use Rattle.gx_history.specs.Reasons.{kind_reason, reject_reason};
+ghost use Rattle.gx_policy.specs.People.{rule_in};
+ghost use Rattle.gx_policy.specs.declared.rule_name.RuleName.TheVariants as names;
+ghost use Rattle.gx_fields.specs.Reasons.{built_in_words, reason_of, reason_of_kind, reason_words};
+
+use gx_ouch::RejectReason;
+use gx_policy::{FileRule, Policy, RuleKind, RuleName};
+use gx_units::RuleId;
+
+/// Why a request was denied.
+#[derive(Clone, Copy, PartialEq, Eq)]
+pub enum Reason {
+    /// By a built-in rule.
+    BuiltIn(RuleName),
+    /// Stock is halted.
+    Halt,
+    /// Stock is restricted.
+    Restricted,
+    /// Short sales are not taken.
+    NoShort,
+    /// Intermarket sweeps are not taken.
+    NoIso,
+    /// Shares are no multiple of 100.
+    OddLot,
+    /// More shares than one order may have.
+    OrderShares,
+    /// More value than one order may have.
+    OrderValue,
+    /// Price is off the collar.
+    Collar,
+    /// More open and executed shares than the limit.
+    GrossShares,
+    /// More open and executed value than the limit.
+    GrossValue,
+    /// More shares on a side than the limit.
+    NetShares,
+    /// More orders than the limit in the window.
+    Rate,
+    /// More like orders than the limit.
+    Repeat,
+}
+
+/// The rule of this name.
+pub fn rule_in<'a>(rules: &'a [FileRule], name: RuleId) -> Option<&'a FileRule>
+    ensures { option_copied result ≡ rule_in rules.now name }
+{
+    rules.iter().find(|rule| rule.name == name)
+}
+
+/// Why a rule of the file forbids.
+fn reason_of_kind(kind: &RuleKind) -> Reason
+    ensures { result ≡ reason_of_kind kind.now }
+{
+    match kind {
+        RuleKind::Halt(_) => Reason::Halt,
+        RuleKind::Restricted(_) => Reason::Restricted,
+        RuleKind::NoShort => Reason::NoShort,
+        RuleKind::NoIso => Reason::NoIso,
+        RuleKind::OddLot => Reason::OddLot,
+        RuleKind::OrderShares(_) => Reason::OrderShares,
+        RuleKind::OrderValue(_) => Reason::OrderValue,
+        RuleKind::Collar(_) => Reason::Collar,
+        RuleKind::GrossShares(_, _) => Reason::GrossShares,
+        RuleKind::GrossValue(_, _) => Reason::GrossValue,
+        RuleKind::NetShares(_, _) => Reason::NetShares,
+        RuleKind::Rate(_, _) => Reason::Rate,
+        RuleKind::Repeat(_, _) => Reason::Repeat,
+    }
+}
+
+/// Why the rule forbids; `None` where it is none of the policy's.
+pub fn reason_of(policy: &Policy, rule: RuleName) -> Option<Reason>
+    ensures { result ≡ reason_of policy.now rule }
+{
+    match rule {
+        RuleName::File(name) => Some(reason_of_kind(&rule_in(policy.rules(), name)?.kind)),
+        _ => Some(Reason::BuiltIn(rule)),
+    }
+}
+
+/// What a built-in rule forbids.
+fn built_in_words(rule: RuleName) -> &'static [u8]
+    ensures { result.now ≡ built_in_words rule }
+{
+    match rule {
+        RuleName::L1 => b"user unknown or password wrong",
+        RuleName::L2 => b"user is logged in",
+        RuleName::L3 => b"session or number not available",
+        RuleName::G1 => b"user is not logged in on this line",
+        RuleName::G2 => b"not of the user's role",
+        RuleName::G3 => b"payload is no message",
+        RuleName::I1 => b"token is used",
+        RuleName::I2 => b"no live order under the token",
+        RuleName::I3 => b"no fewer shares than the present total",
+        RuleName::P1 => b"day is closed",
+        RuleName::P2 => b"account is killed",
+        RuleName::P3 => b"firm is not the account's",
+        RuleName::P4 => b"stock is not listed",
+        RuleName::P5 => b"no shares, or too many",
+        RuleName::P6 => b"no order may have this price",
+        RuleName::P7 => b"no such display",
+        RuleName::P8 => b"no such time in force",
+        RuleName::P9 => b"minimum quantity is not taken",
+        RuleName::P10 => b"crosses are not taken",
+        RuleName::P11 => b"no such side",
+        RuleName::P12 => b"no more shares than are executed",
+        RuleName::Q1 => b"a name is unknown, or the rule has no such setting",
+        RuleName::Q2 => b"officer lacks the power",
+        RuleName::Q3 => b"account is not the officer's",
+        RuleName::Q4 => b"nothing would change",
+        RuleName::File(_) => b"rule of the policy",
+    }
+}
+
+impl Reason {
+    /// In words.
+    pub fn words(self) -> &'static [u8]
+        ensures { result.now ≡ reason_words self }
+    {
+        match self {
+            Reason::BuiltIn(rule) => built_in_words(rule),
+            Reason::Halt => b"stock is halted",
+            Reason::Restricted => b"stock is restricted",
+            Reason::NoShort => b"short sales are not taken",
+            Reason::NoIso => b"intermarket sweeps are not taken",
+            Reason::OddLot => b"shares are no multiple of 100",
+            Reason::OrderShares => b"more shares than one order may have",
+            Reason::OrderValue => b"more value than one order may have",
+            Reason::Collar => b"price is off the collar",
+            Reason::GrossShares => b"more open and executed shares than the limit",
+            Reason::GrossValue => b"more open and executed value than the limit",
+            Reason::NetShares => b"more shares on a side than the limit",
+            Reason::Rate => b"more orders than the limit in the window",
+            Reason::Repeat => b"more like orders than the limit",
+        }
+    }
+}
+
+/// The reason of the Rejected that answers a denial by a rule of the file of this kind.
+fn reject_of_kind(kind: &RuleKind) -> RejectReason
+    ensures { result ≡ kind_reason kind.now }
+{
+    match kind {
+        RuleKind::Halt(_) => RejectReason::Halted,
+        RuleKind::Restricted(_) => RejectReason::RestrictedStock,
+        RuleKind::NoShort => RejectReason::ShortSale,
+        RuleKind::NoIso => RejectReason::IntermarketSweep,
+        RuleKind::OddLot => RejectReason::OddLot,
+        RuleKind::OrderShares(_) => RejectReason::SharesExceedSafety,
+        RuleKind::OrderValue(_) => RejectReason::DollarLimit,
+        RuleKind::Collar(_) => RejectReason::InvalidPrice,
+        RuleKind::GrossShares(_, _) => RejectReason::SharesLimit,
+        RuleKind::GrossValue(_, _) => RejectReason::DollarLimit,
+        RuleKind::NetShares(_, _) => RejectReason::SharesLimit,
+        RuleKind::Rate(_, _) => RejectReason::Other,
+        RuleKind::Repeat(_, _) => RejectReason::Other,
+    }
+}
+
+/// The reason of the Rejected that answers a denial by the rule; `None` where it is not answered so.
+pub fn reject_of(policy: &Policy, rule: RuleName) -> Option<RejectReason>
+    ensures { result ≡ reject_reason policy.now rule }
+{
+    match rule {
+        RuleName::P1 => Some(RejectReason::Closed),
+        RuleName::P2 => Some(RejectReason::RejectAll),
+        RuleName::P3 => Some(RejectReason::FirmNotAuthorized),
+        RuleName::P4 => Some(RejectReason::InvalidStock),
+        RuleName::P5 => Some(RejectReason::SharesExceedSafety),
+        RuleName::P6 => Some(RejectReason::InvalidPrice),
+        RuleName::P7 => Some(RejectReason::InvalidDisplay),
+        RuleName::P8 => Some(RejectReason::Other),
+        RuleName::P9 => Some(RejectReason::InvalidMinimumQuantity),
+        RuleName::P10 => Some(RejectReason::NotAllowedInCross),
+        RuleName::P11 => Some(RejectReason::Other),
+        RuleName::P12 => Some(RejectReason::Other),
+        RuleName::File(name) => Some(reject_of_kind(&rule_in(policy.rules(), name)?.kind)),
+        _ => None,
+    }
+}

@@ -1,0 +1,130 @@
+-- The sums that a ledger gives are those of what it stands for.
+use Rattle.std.proofs.Common.{◌≡◌, ℕ, suc, Bool, true, false, cond, ◌&&◌, List, [], ◌∷◌, map, refl, ap, ◌∙◌}
+use Rattle.std.specs.Prelude.{Option, Some, None, is_some, find, option_and_then, option_map, slice_get}
+use Rattle.std.specs.List.{AllByRecursion}
+use Rattle.std.proofs.lemmas.Option.{slice_get-map}
+use Rattle.gx_units.specs.Names.{same_account}
+use Rattle.gx_units.specs.declared.names.AccountName.{AccountName}
+use Rattle.gx_policy.specs.declared.policy.Account.{Account}
+use Rattle.gx_policy.specs.declared.policy.Count.{Count}
+use Rattle.gx_policy.specs.declared.policy.FileRule.{FileRule}
+use Rattle.gx_policy.specs.declared.policy.PolicyData.{PolicyData}
+use Rattle.gx_policy.specs.People.{account_named, covers}
+use Rattle.gx_history.specs.declared.facts.StockSide.{StockSide}
+use Rattle.gx_history.specs.Figures.{Positions, counts_account}
+use Rattle.gx_history_laws.proofs.Names.{same_account_flip}
+use Rattle.gx_positions.specs.Sound.{AreSound}
+use Rattle.gx_ledger.specs.declared.group.Group.{Group}
+use Rattle.gx_ledger.specs.declared.sums.Sums.{Sums}
+use Rattle.gx_ledger.specs.declared.tally.Asks.{Asks}
+use Rattle.gx_ledger.specs.declared.tally.Asks.TheVariants as asks
+use Rattle.gx_ledger.specs.declared.sums.NetSums.{NetSums}
+use Rattle.gx_ledger.specs.declared.tally.Tally.{Tally}
+use Rattle.gx_ledger.specs.Keeping.{Kept, account_names, account_place}
+use Rattle.gx_ledger.specs.Standing.{GivesNet, GivesSums, counted_with, group_net, group_with, net_sums_of, of_sides, tally_net, tally_sums}
+use Rattle.gx_ledger.specs.StandsFor.{IsMadeIn, StandsFor, group_of, members_of, sums_of, tally_of, total_of}
+use Rattle.gx_ledger.specs.Tallies.{asks_of, count_of, group_in, place_in}
+use Rattle.gx_ledger.proofs.Answering.{group_found, live_answers, net_answers}
+use Rattle.gx_ledger.proofs.Counting.{place-cons}
+
+still_there : (o : Option ℕ) → is_some (option_map suc o) ≡ is_some o
+still_there None = refl
+still_there (Some n) = refl
+
+-- an account has a place where the policy has it
+known_place : (account : AccountName) (accounts : List Account)
+    → is_some (account_place (account_names accounts) account) ≡ is_some (find (λ (a : Account). same_account a.name account) accounts)
+known_place account [] = refl
+known_place account (a ∷ accounts) =
+    ap (λ (o : Option ℕ). is_some o) (place-cons account a.name (account_names accounts))
+    ∙ by (same_account account a.name) (known_place account accounts)
+    ∙ ap (λ b. is_some (cond b (Some a) (find (λ (a : Account). same_account a.name account) accounts))) (same_account_flip account a.name)
+  where
+    by : (b : Bool) → is_some (account_place (account_names accounts) account) ≡ is_some (find (λ (a : Account). same_account a.name account) accounts)
+        → is_some (cond b (Some 0) (option_map suc (account_place (account_names accounts) account))) ≡ is_some (cond b (Some a) (find (λ (a : Account). same_account a.name account) accounts))
+    by true others = refl
+    by false others = still_there (account_place (account_names accounts) account) ∙ others
+
+module _ (policy : PolicyData) (held : Positions) (account : AccountName) (rule : FileRule) where
+  abbrev names : List AccountName
+  names = account_names policy.accounts
+
+  abbrev group : (AccountName → Bool) → Group
+  group among = group_of policy.stocks (asks_of rule.kind) (total_of held among)
+
+  abbrev tally : Tally
+  tally = tally_of policy.stocks names (total_of held) rule
+
+  -- the group that the account is counted in
+  group_is : group_with tally account (account_place names account) ≡ option_map group (counted_with policy account rule)
+  group_is =
+      ap (λ b. cond (b && covers rule.scope account) (group_in tally (account_place names account)) None) (known_place account policy.accounts)
+      ∙ by (is_some (account_named policy account)) refl (covers rule.scope account) refl
+    where
+      counted : is_some (account_named policy account) ≡ true → covers rule.scope account ≡ true → (count : Option Count)
+          → option_and_then (slice_get (map group (members_of count rule.scope names))) (place_in count (account_place names account))
+          ≡ option_map group (option_map (λ (c : Count). counts_account c rule.scope account) count)
+      counted known inside None = refl
+      counted known inside (Some count) = group_found policy held (asks_of rule.kind) account rule.scope count known inside
+
+      by : (known : Bool) → is_some (account_named policy account) ≡ known → (inside : Bool) → covers rule.scope account ≡ inside
+          → cond (known && inside) (group_in tally (account_place names account)) None
+          ≡ option_map group (cond (known && inside) (option_map (λ (c : Count). counts_account c rule.scope account) (count_of rule.kind)) None)
+      by true known true inside = counted known inside (count_of rule.kind)
+      by true known false inside = refl
+      by false known true inside = refl
+      by false known false inside = refl
+
+  sums_are : tally_sums tally account (account_place names account) ≡ option_map (sums_of held) (counted_with policy account rule)
+  sums_are = ap (option_map (λ (g : Group). g.sums)) group_is ∙ by (counted_with policy account rule)
+    where
+      by : (found : Option (AccountName → Bool)) → option_map (λ (g : Group). g.sums) (option_map group found) ≡ option_map (sums_of held) found
+      by None = refl
+      by (Some among) = refl
+
+  net_is : (side : StockSide) → AreSound policy held → AllByRecursion (IsMadeIn policy) held.executions → tally_net tally account (account_place names account) side
+      ≡ of_sides (asks_of rule.kind) (option_map (net_sums_of held side) (counted_with policy account rule))
+  net_is side sound all_made = ap (λ found. of_sides (asks_of rule.kind) (option_map (group_net side) found)) group_is ∙ by (asks_of rule.kind) (counted_with policy account rule)
+    where
+      by : (asked : Asks) (found : Option (AccountName → Bool))
+          → of_sides asked (option_map (group_net side) (option_map (λ among. group_of policy.stocks asked (total_of held among)) found))
+          ≡ of_sides asked (option_map (net_sums_of held side) found)
+      by asks.Sides None = refl
+      by asks.Sides (Some among) = λ i. Some (record {
+        done = net_answers policy held among sound all_made (Some side) i;
+        live = live_answers policy held among sound all_made (Some side) i;
+      })
+      by asks.Nothing found = refl
+      by asks.Reference found = refl
+      by asks.Shares found = refl
+      by asks.Values found = refl
+      by (asks.Recent rate) found = refl
+      by (asks.Alike repeat) found = refl
+
+-- of the rule at a place
+at_place : {X : Type 0} (f : Tally → Option X) (t : FileRule → Tally) (g : FileRule → Option X) → ((rule : FileRule) → f (t rule) ≡ g rule) → (rules : List FileRule) (place : ℕ)
+    → option_and_then f (slice_get (map t rules) place) ≡ option_and_then g (slice_get rules place)
+at_place f t g same rules place = ap (option_and_then f) (slice_get-map t rules place) ∙ by (slice_get rules place)
+  where
+    by : (found : Option FileRule) → option_and_then f (option_map t found) ≡ option_and_then g found
+    by None = refl
+    by (Some rule) = same rule
+
+-- the tallies are those of the policy's rules
+tallies_are : (k : Kept) (policy : PolicyData) (held : Positions) → StandsFor policy k held
+    → k.tallies ≡ map (tally_of policy.stocks (account_names policy.accounts) (total_of held)) policy.rules
+tallies_are k policy held stands = stands.tallies ∙ ap (λ accounts. map (tally_of policy.stocks accounts (total_of held)) policy.rules) stands.accounts
+
+pub sums_answer : (k : Kept) (place : ℕ) (account : AccountName)
+    → GivesSums k place account (option_and_then (λ (t : Tally). tally_sums t account (account_place k.accounts account)) (slice_get k.tallies place))
+sums_answer k place account policy held stands =
+    (λ i. option_and_then (λ (t : Tally). tally_sums t account (account_place (stands.accounts i) account)) (slice_get (tallies_are k policy held stands i) place))
+    ∙ at_place (λ (t : Tally). tally_sums t account (account_place (account_names policy.accounts) account)) (tally_of policy.stocks (account_names policy.accounts) (total_of held))
+    (λ (rule : FileRule). option_map (sums_of held) (counted_with policy account rule)) (sums_are policy held account) policy.rules place
+
+pub net_answer : (k : Kept) (place : ℕ) (account : AccountName) (side : StockSide)
+    → GivesNet k place account side (option_and_then (λ (t : Tally). tally_net t account (account_place k.accounts account) side) (slice_get k.tallies place))
+net_answer k place account side policy held stands sound =
+    (λ i. option_and_then (λ (t : Tally). tally_net t account (account_place (stands.accounts i) account) side) (slice_get (tallies_are k policy held stands i) place))
+    ∙ at_place (λ (t : Tally). tally_net t account (account_place (account_names policy.accounts) account) side) (tally_of policy.stocks (account_names policy.accounts) (total_of held))
+    (λ (rule : FileRule). of_sides (asks_of rule.kind) (option_map (net_sums_of held side) (counted_with policy account rule))) (λ rule. net_is policy held account rule side sound stands.all_made) policy.rules place

@@ -1,0 +1,4 @@
+pub mod Passing
+pub mod Counting
+pub mod Knowing
+pub mod Executing

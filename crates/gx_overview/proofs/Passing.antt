@@ -1,0 +1,73 @@
+-- What one more item makes of what a pass over a list keeps.
+use Rattle.std.proofs.Common.{◌≡◌, ℕ, ◌+◌, ◌<◌, Bool, true, false, cond, List, [], ◌∷◌, ◌++◌, map, length, take, drop, set, get_or, ◌-◌, min, arith, refl, ap, sym, ◌∙◌}
+use Rattle.std.specs.Prelude.{Option, Some, None, fold}
+use Rattle.std.specs.List.{filter, filter_map, last_or}
+use Rattle.std.proofs.lemmas.List.{append-nil, drop_all, take_all, get_or_default, length-append, length-drop, length-map, length-take, map-id, take_more}
+use Rattle.std.proofs.lemmas.List.Edits.{map_over_more}
+use Rattle.std.proofs.lemmas.List.Elements.{filter_map-append, filter-append}
+use Rattle.gx_policy.specs.Lists.{last_such}
+use Rattle.gx_history_laws.proofs.Pushing.{last_or-append}
+
+-- the last such, of one more
+pub last_such_next : {X : Type 0} (test : X → Bool) (xs : List X) (x : X) → last_such test (xs ++ x ∷ []) ≡ cond (test x) (Some x) (last_such test xs)
+last_such_next {X} test xs x =
+    ap (last_or None) (filter-append test xs (x ∷ []))
+    ∙ last_or-append None (filter test xs) (filter test (x ∷ []))
+    ∙ by (test x)
+  where
+    by : (b : Bool) → last_or (last_or None (filter test xs)) (cond b (x ∷ []) []) ≡ cond b (Some x) (last_or None (filter test xs))
+    by true = refl
+    by false = refl
+
+-- what is found in one more
+pub found_more : {X Y : Type 0} (f : X → Option Y) (xs : List X) (i : ℕ) (x d : X) (old new : List Y) → i < length xs → old ≡ filter_map f (take i xs)
+    → new ≡ old ++ filter_map f (x ∷ []) → x ≡ get_or xs i d → new ≡ filter_map f (take (i + 1) xs)
+found_more f xs i x d old new within so_far next is =
+    next
+    ∙ (λ j. so_far j ++ filter_map f (is j ∷ []))
+    ∙ sym (filter_map-append f (take i xs) (get_or xs i d ∷ []))
+    ∙ ap (filter_map f) (sym (take_more xs i d within))
+
+-- the last such, of one more
+pub last_such_more : {X : Type 0} (test : X → Bool) (xs : List X) (i : ℕ) (x d : X) (old new : Option X) → i < length xs → old ≡ last_such test (take i xs)
+    → new ≡ cond (test x) (Some x) old → x ≡ get_or xs i d → new ≡ last_such test (take (i + 1) xs)
+last_such_more test xs i x d old new within so_far next is =
+    next
+    ∙ (λ j. cond (test (is j)) (Some (is j)) (so_far j))
+    ∙ sym (last_such_next test (take i xs) (get_or xs i d))
+    ∙ ap (last_such test) (sym (take_more xs i d within))
+
+-- a loop that writes f of it over each item
+pub map_more : {X : Type 0} (f : X → X) (xs ys : List X) (i : ℕ) (x d : X) → i < length xs → ys ≡ map f (take i xs) ++ drop i xs → x ≡ get_or ys i d
+    → set ys i (f x) ≡ map f (take (i + 1) xs) ++ drop (i + 1) xs
+map_more f xs ys i x d within so_far is =
+    let parts : length (map f (take i xs) ++ drop i xs) ≡ length (map f (take i xs)) + length (drop i xs) = length-append (map f (take i xs)) (drop i xs) in
+    let front : length (map f (take i xs)) ≡ length (take i xs) = length-map (take i xs) f in
+    let first : length (take i xs) ≡ min i (length xs) = length-take i xs in
+    let behind : length (drop i xs) ≡ length xs - i = length-drop i xs in
+    let whole : length ys ≡ length (map f (take i xs) ++ drop i xs) = ap length so_far in
+    let inside : i < length ys = omega (arith, within, parts, front, first, behind, whole) in
+    map_over_more f xs ys i x within so_far (is ∙ get_or_default ys i d x inside)
+
+-- twice over a list
+pub map_twice : {X Y Z : Type 0} (f : X → Y) (g : Y → Z) (xs : List X) → map g (map f xs) ≡ map (λ (x : X). g (f x)) xs
+map_twice f g [] = refl
+map_twice f g (x ∷ xs) = ap (λ rest. g (f x) ∷ rest) (map_twice f g xs)
+
+pub map_same : {X Y : Type 0} (f g : X → Y) → ((x : X) → f x ≡ g x) → (xs : List X) → map f xs ≡ map g xs
+map_same f g same [] = refl
+map_same f g same (x ∷ xs) = λ i. same x i ∷ map_same f g same xs i
+
+-- each item is changed by one thing after another
+pub each_folded : {X A : Type 0} (change : A → X → X) (things : List A) (xs : List X)
+    → fold (λ (ys : List X) (a : A). map (change a) ys) xs things ≡ map (λ (x : X). fold (λ (y : X) (a : A). change a y) x things) xs
+each_folded {X} change [] xs = sym (map-id xs)
+each_folded change (a ∷ things) xs =
+    each_folded change things (map (change a) xs) ∙ map_twice (change a) (λ (x : _). fold (λ (y : _) (b : _). change b y) x things) xs
+
+-- a list of as many items written over another
+pub written_back : {X : Type 0} (new items : List X) (n : ℕ) → length new ≡ length items → n ≡ length items → take n (new ++ drop (length new) items) ≡ new
+written_back new items n same whole =
+    ap (λ rest. take n (new ++ rest)) (drop_all (length new) items (omega (arith, same)))
+    ∙ ap (take n) (append-nil new)
+    ∙ take_all n new (omega (arith, same, whole))

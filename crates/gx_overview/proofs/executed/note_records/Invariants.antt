@@ -1,0 +1,13 @@
+use Rattle.std.proofs.Common.{◌≡◌, take}
+use Rattle.std.specs.Prelude.{fold}
+use Rattle.gx_history.specs.Executions.{executions}
+use Rattle.gx_history.specs.Orders.{orders}
+use Rattle.gx_overview.specs.Executed.{KnowOrders, rows_after}
+use Rattle.gx_overview.proofs.executed.note_records.Given as goal
+
+-- the orders and the fills of the records so far are noted
+abbrev pub invariant-loop-record : goal.invariant-loop-record
+invariant-loop-record l = record {
+  knows : KnowOrders l.owners (orders l.policy (take l.record-index l.records));
+  rows : l.rows ≡ fold rows_after l.initial.rows (executions l.policy (take l.record-index l.records));
+}

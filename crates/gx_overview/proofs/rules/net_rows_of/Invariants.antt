@@ -1,0 +1,6 @@
+use Rattle.std.proofs.Common.{◌≡◌, map, take}
+use Rattle.gx_overview.specs.Rules.{net_row}
+use Rattle.gx_overview.proofs.rules.net_rows_of.Given as goal
+
+abbrev pub invariant-loop-stock : goal.invariant-loop-stock
+invariant-loop-stock g l = l.rows.items ≡ map (net_row (g.G.AccessGate.seen l.gate).policy (g.G.AccessGate.seen l.gate).records l.rule l.account) (take l.stock-index l.stocks)

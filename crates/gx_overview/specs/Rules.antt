@@ -1,0 +1,72 @@
+-- What stands of the policy's rules, and of the day.
+use Rattle.std.specs.Prelude.{ℕ, ◌-◌, true, false, List, Option, None, option_map, option_and_then, length, if◌then◌else◌}
+use Rattle.gx_units.specs.declared.names.AccountName.{AccountName}
+use Rattle.gx_units.specs.declared.names.RuleId.{RuleId}
+use Rattle.gx_policy.specs.declared.policy.Account.{Account}
+use Rattle.gx_policy.specs.declared.policy.FileRule.{FileRule}
+use Rattle.gx_policy.specs.declared.policy.PolicyData.{PolicyData}
+use Rattle.gx_policy.specs.declared.policy.Stock.{Stock}
+use Rattle.gx_policy.specs.declared.policy.User.{User}
+use Rattle.gx_history.specs.declared.record.RecordData.{RecordData}
+use Rattle.gx_history.specs.Asking.{has_stock, rule_in_force}
+use Rattle.gx_history.specs.InForce.{is_closed, limit_of, line_of}
+use Rattle.gx_history.specs.Verdicts.{day_limit, last_moment}
+use Rattle.gx_records.specs.State.{gross_used, limit_in_force, net_used}
+use Rattle.gx_overview.specs.declared.day.DayRow.{DayRow}
+use Rattle.gx_overview.specs.declared.day.UserRow.{UserRow}
+use Rattle.gx_overview.specs.declared.rules.GrossRow.{GrossRow}
+use Rattle.gx_overview.specs.declared.rules.LimitRow.{LimitRow}
+use Rattle.gx_overview.specs.declared.rules.ListingRow.{ListingRow}
+use Rattle.gx_overview.specs.declared.rules.NetRow.{NetRow}
+use Rattle.gx_overview.specs.declared.commands.Subject.TheVariants as subjects
+use Rattle.gx_overview.specs.Commands.{last_about}
+
+-- the rule's limit: that in force, that of the file, and the Set Limit that changed it last
+abbrev pub limit_row : PolicyData → List RecordData → FileRule → LimitRow
+limit_row policy records rule = record {
+  rule = rule.name;
+  limit = limit_in_force policy records rule.name;
+  file = limit_of rule.kind;
+  set = last_about records (subjects.LimitOf rule.name);
+}
+
+-- what is left of a limit, none where more is used
+abbrev pub left_of : Option ℕ → Option ℕ → Option ℕ
+left_of limit used = option_and_then (λ (most : ℕ). option_map (λ (n : ℕ). most - n) used) limit
+
+-- what the account has used of the limit of a gross rule, and what is left of it
+abbrev pub gross_row : PolicyData → List RecordData → RuleId → Account → GrossRow
+gross_row policy records rule a = record {
+  account = a.name;
+  used = gross_used policy records rule a.name;
+  left = left_of (limit_in_force policy records rule) (gross_used policy records rule a.name);
+}
+
+-- what the account has used of the limit of a net rule on each side of a stock
+abbrev pub net_row : PolicyData → List RecordData → RuleId → AccountName → Stock → NetRow
+net_row policy records rule account s = record {
+  stock = s.name;
+  buys = net_used policy records rule account (record { stock = s.name; buys = true });
+  sells = net_used policy records rule account (record { stock = s.name; buys = false });
+}
+
+-- whether the rule lists the stock now, and the Restrict that put it there
+abbrev pub listing_row : PolicyData → List RecordData → RuleId → Stock → ListingRow
+listing_row policy records rule s = record {
+  stock = s.name;
+  is_listed = has_stock (rule_in_force policy records rule) s.name;
+  put = if has_stock (rule_in_force policy records rule) s.name then last_about records (subjects.StockOn rule s.name) else None;
+}
+
+-- the line that the user is logged in on
+abbrev pub user_row : List RecordData → User → UserRow
+user_row records u = record { user = u.name; line = line_of records u.name }
+
+-- how far the day is
+abbrev pub day_row : List RecordData → DayRow
+day_row records = record {
+  records = length records;
+  left = day_limit - length records;
+  moment = last_moment records;
+  is_closed = is_closed records;
+}

@@ -1,0 +1,157 @@
+//! What stands of each account: whether it is killed, and by which command; its live orders.
+
+ghost use Rattle.std.specs.Prelude.{◌≡◌, fold, map, IfOk};
+ghost use Rattle.gx_overview.specs.Accounts.{account_row, first_row, kill_of, row_with, rows_with, with_order};
+ghost use Rattle.gx_overview.specs.Commands.{granted_commands};
+
+use crate::commands::{GrantedCommand, Subject, last_about};
+use gx_history::live_order::LiveOrder;
+use gx_policy::Account;
+use gx_records::ShowsState;
+use gx_slab::live::LiveOrders;
+use gx_units::{AccountName, OutOfMemory};
+use std::alloc::Global;
+
+/// The live orders of an account.
+///
+/// A count stops at 64 bits and a sum at 128: a day's orders stay far below.
+#[derive(Clone, Copy, PartialEq, Eq)]
+pub struct LiveSums {
+    pub orders: u64,
+    /// The open shares of its buys.
+    pub buys: u128,
+    /// Those of all that is no buy.
+    pub sells: u128,
+}
+
+/// What stands of an account.
+#[derive(Clone, Copy, PartialEq, Eq)]
+pub struct AccountRow {
+    pub account: AccountName,
+    pub is_killed: bool,
+    /// Where it is killed, the last Kill of it that was granted.
+    pub kill: Option<GrantedCommand>,
+    pub live: LiveSums,
+}
+
+const NO_ORDERS: LiveSums = LiveSums {
+    orders: 0,
+    buys: 0,
+    sells: 0,
+};
+
+impl LiveSums {
+    fn with_order(self, order: &LiveOrder) -> LiveSums
+        ensures { result ≡ with_order order.now self }
+    {
+        let open = u128::from(order.open());
+        let orders = self.orders.saturating_add(1);
+        if order.terms.side == b'B' {
+            LiveSums {
+                orders,
+                buys: self.buys.saturating_add(open),
+                sells: self.sells,
+            }
+        } else {
+            LiveSums {
+                orders,
+                buys: self.buys,
+                sells: self.sells.saturating_add(open),
+            }
+        }
+    }
+}
+
+impl AccountRow {
+    fn note(&mut self, order: &LiveOrder)
+        ensures { self.new ≡ row_with order.now self.old }
+    {
+        if order.is_of_account(self.account) {
+            self.live = self.live.with_order(order);
+        }
+    }
+}
+
+fn note_order(rows: &mut [AccountRow], order: &LiveOrder)
+    ensures { rows.new ≡ rows_with rows.old order.now }
+{
+    for row in rows.iter_mut() {
+        row.note(order);
+    }
+}
+
+/// Counts these live orders, each in the row of its account.
+fn note_live(rows: &mut [AccountRow], live: LiveOrders<'_>)
+    ensures { rows.new ≡ fold rows_with rows.old live.entry }
+{
+    for order in live {
+        note_order(rows, order);
+    }
+}
+
+fn kill_of(
+    is_killed: bool,
+    commands: &[GrantedCommand],
+    account: AccountName,
+) -> Option<GrantedCommand>
+    ensures { result ≡ kill_of is_killed commands.now account }
+{
+    if is_killed {
+        last_about(commands, Subject::KillOf(account))
+    } else {
+        None
+    }
+}
+
+/// The row of the account before any live order is counted.
+fn first_row<G: ShowsState>(gate: &G, commands: &[GrantedCommand], account: &Account) -> AccountRow
+    ensures { result ≡ first_row (G.seen gate.now).policy (G.seen gate.now).records
+        commands.now account.now }
+{
+    let name = account.name;
+    let is_killed = gate.is_killed(name);
+    AccountRow {
+        account: name,
+        is_killed,
+        kill: kill_of(is_killed, commands, name),
+        live: NO_ORDERS,
+    }
+}
+
+fn first_rows<G: ShowsState>(
+    alloc: Global,
+    gate: &G,
+    commands: &[GrantedCommand],
+    accounts: &[Account],
+) -> Result<Vec<AccountRow>, OutOfMemory>
+    ensures { IfOk result (λ rows. rows.items ≡ map
+        (first_row (G.seen gate.now).policy (G.seen gate.now).records commands.now)
+        accounts.now) }
+{
+    let mut rows = Vec::new(alloc);
+    for account in accounts {
+        rows.push(first_row(gate, commands, account))?;
+    }
+    Ok(rows)
+}
+
+/// What stands of each account of the policy, in the file's order. The commands are all that were granted in the day
+/// ([`crate::commands::granted_commands`] of its records).
+///
+/// # Errors
+///
+/// `OutOfMemory` where the rows were refused their memory.
+pub fn account_rows<G: ShowsState>(
+    alloc: Global,
+    gate: &G,
+    commands: &[GrantedCommand],
+) -> Result<Vec<AccountRow>, OutOfMemory>
+    requires commands { commands.now ≡ granted_commands (G.seen gate.now).records }
+    ensures rows { IfOk result (λ rows. rows.items ≡ map
+        (account_row (G.seen gate.now).policy (G.seen gate.now).records)
+        (G.seen gate.now).policy.accounts) }
+{
+    let mut rows = first_rows(alloc, gate, commands, gate.policy().accounts())?;
+    note_live(&mut rows, gate.live_orders());
+    Ok(rows)
+}

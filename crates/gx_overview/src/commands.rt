@@ -1,0 +1,127 @@
+//! The commands that were granted, and the last of them about an account, a limit or a stock.
+
+ghost use Rattle.std.specs.Prelude.{◌≡◌, [], ◌∷◌, ◌++◌, IfOk, OnOk};
+ghost use Rattle.gx_overview.specs.Commands.{command_by, granted_command, granted_commands, is_about};
+ghost use Rattle.gx_overview.specs.Commands.{last_of, last_with};
+
+use gx_desk::Action;
+use gx_history::record::{Asked, Record, RecordData, Request, Step, Verdict};
+use gx_units::{AccountName, Moment, OutOfMemory, RuleId, Symbol, UserName};
+use std::alloc::Global;
+
+/// A command that was granted: by which record, when, to whom, and what it asked for.
+#[derive(Clone, Copy, PartialEq, Eq)]
+pub struct GrantedCommand {
+    /// The number of its record; the first of the day is 1.
+    pub number: u64,
+    /// In nanoseconds past midnight.
+    pub moment: Moment,
+    /// Who gave it.
+    pub officer: UserName,
+    pub action: Action,
+}
+
+/// What a command may be about.
+#[derive(Clone, Copy, PartialEq, Eq)]
+pub enum Subject {
+    /// It kills the account.
+    KillOf(AccountName),
+    /// It sets the limit of the rule.
+    LimitOf(RuleId),
+    /// It puts the stock on the list of the rule.
+    StockOn(RuleId, Symbol),
+}
+
+/// The command of a granted request.
+fn command_of(shown: &RecordData, asked: &Asked) -> Option<GrantedCommand>
+    ensures { result ≡ command_by shown.now asked.now }
+{
+    match &asked.request {
+        Request::Command(command) => Some(GrantedCommand {
+            number: shown.number,
+            moment: shown.moment,
+            officer: asked.user,
+            action: command.action,
+        }),
+        _ => None,
+    }
+}
+
+/// The command that the record grants, if it grants one.
+fn granted_command(shown: &RecordData) -> Option<GrantedCommand>
+    ensures { result ≡ granted_command shown.now }
+{
+    match (&shown.verdict, &shown.step) {
+        (Verdict::Granted, Step::Asked(asked)) => command_of(shown, asked),
+        _ => None,
+    }
+}
+
+/// Puts the record's command behind the others, if it grants one.
+fn note(commands: &mut Vec<GrantedCommand>, left: &Record) -> Result<(), OutOfMemory>
+    ensures noted { OnOk result
+        (commands.new.items ≡ commands.old.items ++ granted_commands (left.now ∷ [])) }
+{
+    match granted_command(&left.content()) {
+        Some(command) => Ok(commands.push(command)?),
+        None => Ok(()),
+    }
+}
+
+/// The commands that these records grant, in their order. It is one pass over them.
+///
+/// # Errors
+///
+/// `OutOfMemory` where the list was refused its memory.
+pub fn granted_commands(
+    alloc: Global,
+    records: &[Record],
+) -> Result<Vec<GrantedCommand>, OutOfMemory>
+    ensures commands { IfOk result (λ commands. commands.items ≡ granted_commands records.now) }
+{
+    let mut commands = Vec::new(alloc);
+    for record in records {
+        note(&mut commands, record)?;
+    }
+    Ok(commands)
+}
+
+/// Whether the command is about the subject.
+fn is_about(subject: &Subject, action: &Action) -> bool
+    ensures { result ≡ is_about subject.now action.now }
+{
+    match (*subject, *action) {
+        (Subject::KillOf(account), Action::Kill(named)) => named == account,
+        (Subject::LimitOf(rule), Action::SetLimit(named, _)) => named == rule,
+        (Subject::StockOn(rule, stock), Action::Restrict(named, listed)) => {
+            named == rule && listed == stock
+        }
+        _ => false,
+    }
+}
+
+/// The last about the subject, once this one has come.
+fn last_with(
+    last: Option<GrantedCommand>,
+    subject: &Subject,
+    command: &GrantedCommand,
+) -> Option<GrantedCommand>
+    ensures { result ≡ last_with last subject.now command.now }
+{
+    if is_about(subject, &command.action) {
+        Some(*command)
+    } else {
+        last
+    }
+}
+
+/// The last of these commands that is about the subject.
+pub fn last_about(commands: &[GrantedCommand], subject: Subject) -> Option<GrantedCommand>
+    ensures last { result ≡ last_of commands.now subject }
+{
+    let mut last = None;
+    for command in commands {
+        last = last_with(last, &subject, command);
+    }
+    last
+}

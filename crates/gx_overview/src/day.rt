@@ -1,0 +1,80 @@
+//! How far the day is, and who is logged in.
+
+ghost use Rattle.std.specs.Prelude.{◌≡◌, map, IfOk};
+ghost use Rattle.gx_overview.specs.Rules.{day_row, user_row};
+
+use gx_policy::User;
+use gx_records::ShowsState;
+use gx_units::{Moment, OutOfMemory, UserName};
+use std::alloc::Global;
+
+/// The records that a day may have.
+const MOST_RECORDS: u64 = 16_777_216;
+
+/// How far a day is.
+#[derive(Clone, Copy, PartialEq, Eq)]
+pub struct DayRow {
+    pub records: u64,
+    /// How many more it may have; a Kill and a Logout may come behind them.
+    pub left: u64,
+    /// That of the last record, in nanoseconds past midnight; 0 where there is none.
+    pub moment: Moment,
+    pub is_closed: bool,
+}
+
+/// Whether a user is logged in.
+#[derive(Clone, Copy, PartialEq, Eq)]
+pub struct UserRow {
+    pub user: UserName,
+    /// The line that he is logged in on; None where he is not.
+    pub line: Option<u16>,
+}
+
+/// How far the day is.
+pub fn day_row<G: ShowsState>(gate: &G) -> DayRow
+    ensures row { result ≡ day_row (G.seen gate.now).records }
+{
+    let records = gate.length();
+    DayRow {
+        records,
+        left: MOST_RECORDS.saturating_sub(records),
+        moment: gate.moment_of_last(),
+        is_closed: gate.is_day_closed(),
+    }
+}
+
+fn user_row<G: ShowsState>(gate: &G, user: &User) -> UserRow
+    ensures { result ≡ user_row (G.seen gate.now).records user.now }
+{
+    UserRow {
+        user: user.name,
+        line: gate.on(user.name),
+    }
+}
+
+fn user_rows_of<G: ShowsState>(
+    alloc: Global,
+    gate: &G,
+    users: &[User],
+) -> Result<Vec<UserRow>, OutOfMemory>
+    ensures { IfOk result (λ rows. rows.items ≡ map
+        (user_row (G.seen gate.now).records) users.now) }
+{
+    let mut rows = Vec::new(alloc);
+    for user in users {
+        rows.push(user_row(gate, user))?;
+    }
+    Ok(rows)
+}
+
+/// Whether each user of the policy is logged in, in the file's order.
+///
+/// # Errors
+///
+/// `OutOfMemory` where the rows were refused their memory.
+pub fn user_rows<G: ShowsState>(alloc: Global, gate: &G) -> Result<Vec<UserRow>, OutOfMemory>
+    ensures rows { IfOk result (λ rows. rows.items ≡ map
+        (user_row (G.seen gate.now).records) (G.seen gate.now).policy.users) }
+{
+    user_rows_of(alloc, gate, gate.policy().users())
+}

@@ -1,0 +1,166 @@
+//! Whose orders there were: by number, and by token.
+
+ghost use Rattle.std.specs.Prelude.{◌≡◌, [], nat_eq, option_copied, OnOk};
+ghost use Rattle.std.specs.Map.{lookup};
+ghost use Rattle.gx_history.specs.Orders.{orders_made};
+ghost use Rattle.gx_policy.specs.People.{account_of, account_of_role, user_in};
+ghost use Rattle.gx_history.specs.declared.record.Request.TheVariants as requests;
+ghost use Rattle.gx_policy.specs.declared.policy.PolicyData.{PolicyData};
+ghost use Rattle.gx_overview.specs.Executed.{is_key, KnowOrders};
+ghost use Rattle.gx_overview.specs.Owning.{IsNumbered, IsOneMore, Learn};
+
+use gx_history::live_order::UserToken;
+use gx_history::record::{Asked, RecordData, Request};
+use gx_ouch::{EnterOrder, ReplaceOrder};
+use gx_policy::{Policy, Role, User};
+use gx_units::{AccountName, OutOfMemory, Token, UserName};
+use indexmap::IndexMap;
+use std::alloc::Global;
+
+/// Whose order it is, and on which side.
+#[derive(Clone, Copy, PartialEq, Eq)]
+pub struct Owner {
+    pub account: AccountName,
+    /// It is a buy.
+    pub buys: bool,
+}
+
+/// The owner of each order, by the number of the order and by the token that it was asked for under.
+#[derive(Drop)]
+pub struct Owners {
+    pub by_number: IndexMap<u64, Owner>,
+    pub by_token: IndexMap<UserToken, Owner>,
+}
+
+/// The account that a user of this role trades for.
+fn account_of_role(role: &Role) -> Option<AccountName>
+    ensures { result ≡ account_of_role role.now }
+{
+    match role {
+        Role::Trader(account) => Some(*account),
+        Role::Officer(_, _) | Role::Reader(_) => None,
+    }
+}
+
+fn find_user(users: &[User], name: UserName) -> Option<&User>
+    ensures { option_copied result ≡ user_in users.now name }
+{
+    users.iter().find(|user| user.name == name)
+}
+
+/// The account that the user trades for, if he is known and trades.
+fn account_of(policy: &Policy, user: UserName) -> Option<AccountName>
+    ensures { result ≡ account_of policy.now user }
+{
+    match find_user(policy.users(), user) {
+        Some(found) => account_of_role(&found.role),
+        None => None,
+    }
+}
+
+/// Notes the owner under the number, unless one is there.
+fn note_number(
+    by_number: &mut IndexMap<u64, Owner>,
+    number: u64,
+    owner: Owner,
+) -> Result<(), OutOfMemory>
+    ensures noted { OnOk result
+        (IsNumbered number owner by_number.old.entries by_number.new.entries) }
+{
+    if by_number.contains_key(&number) {
+        return Ok(());
+    }
+    by_number.insert(number, owner)?;
+    Ok(())
+}
+
+impl Owners {
+    /// Of no order.
+    pub fn new(alloc: Global) -> Owners
+        ensures none { KnowOrders result [] }
+    {
+        Owners {
+            by_number: IndexMap::new(alloc),
+            by_token: IndexMap::new(alloc),
+        }
+    }
+
+    /// The owner of the order of this number.
+    pub fn numbered(&self, number: u64) -> Option<Owner>
+        ensures { result ≡ lookup (nat_eq number) self.now.by_number.entries }
+    {
+        self.by_number.get(&number).copied()
+    }
+
+    fn under(&self, user: UserName, token: Token) -> Option<Owner>
+        ensures { result ≡ lookup (is_key user token) self.now.by_token.entries }
+    {
+        self.by_token.get(&UserToken { user, token }).copied()
+    }
+
+    /// Takes in an order: its number, who asked for it under which token, and its owner.
+    fn take_in(&mut self, number: u64, key: UserToken, owner: Owner) -> Result<(), OutOfMemory>
+        ensures taken { OnOk result (IsOneMore number key owner self.old self.new) }
+    {
+        note_number(&mut self.by_number, number, owner)?;
+        self.by_token.insert(key, owner)?;
+        Ok(())
+    }
+
+    /// Notes the order that a granted Enter makes.
+    fn note_entered(
+        &mut self,
+        policy: &Policy,
+        shown: &RecordData,
+        user: UserName,
+        m: &EnterOrder,
+    ) -> Result<(), OutOfMemory>
+        ensures noted { OnOk result (Learn self.old self.new (λ known.
+            orders_made policy.now known shown.now user (requests.Enter m.now))) }
+    {
+        let Some(account) = account_of(policy, user) else {
+            return Ok(());
+        };
+        let token = m.token;
+        let buys = m.side == b'B';
+        self.take_in(
+            shown.number,
+            UserToken { user, token },
+            Owner { account, buys },
+        )
+    }
+
+    /// Notes the order that a granted Replace makes.
+    fn note_replacing(
+        &mut self,
+        shown: &RecordData,
+        user: UserName,
+        m: &ReplaceOrder,
+    ) -> Result<(), OutOfMemory>
+        ensures noted { (policy : PolicyData) → OnOk result (Learn self.old self.new (λ known.
+            orders_made policy known shown.now user (requests.Replace m.now))) }
+    {
+        let Some(owner) = self.under(user, m.existing_token) else {
+            return Ok(());
+        };
+        let token = m.replacement_token;
+        self.take_in(shown.number, UserToken { user, token }, owner)
+    }
+
+    /// Notes the order that a granted request makes, if it makes one.
+    pub fn note(
+        &mut self,
+        policy: &Policy,
+        shown: &RecordData,
+        asked: &Asked,
+    ) -> Result<(), OutOfMemory>
+        ensures noted { OnOk result (Learn self.old self.new (λ known.
+            orders_made policy.now known shown.now asked.now.user asked.now.request)) }
+    {
+        match &asked.request {
+            Request::Enter(m) => self.note_entered(policy, shown, asked.user, m),
+            Request::Replace(m) => self.note_replacing(shown, asked.user, m),
+            _ => Ok(()),
+        }
+    }
+}

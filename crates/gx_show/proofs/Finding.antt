@@ -1,0 +1,45 @@
+-- What is found among orders once one more is there.
+use Rattle.std.proofs.Common.{◌≡◌, ℕ, Bool, true, false, List, [], ◌∷◌, ◌++◌, refl, ◌∙◌, ap, sym, cond}
+use Rattle.std.specs.Prelude.{Option, Some, None}
+use Rattle.std.specs.Option.{option_or}
+use Rattle.std.specs.List.{filter, last_or}
+use Rattle.std.proofs.lemmas.List.Elements.{filter-append}
+use Rattle.std.proofs.lemmas.List.Folds.{find-append}
+use Rattle.gx_history.specs.declared.live_order.UserToken.{UserToken}
+use Rattle.gx_history_laws.proofs.Pushing.{last_or-append}
+use Rattle.gx_policy.specs.Lists.{last_such, where_true}
+use Rattle.gx_show.specs.declared.known_order.KnownOrder.{KnownOrder}
+use Rattle.gx_show.specs.Known.{has_number, is_under, numbered}
+use Rattle.gx_show.specs.Tables.{AreFound, FindsNumber, FindsToken}
+
+pub last_such_next : {X : Type 0} (test : X → Bool) (xs : List X) (x : X) → last_such test (xs ++ x ∷ []) ≡ cond (test x) (Some x) (last_such test xs)
+last_such_next {X} test xs x =
+    ap (last_or None) (filter-append test xs (x ∷ []))
+    ∙ last_or-append None (filter test xs) (filter test (x ∷ []))
+    ∙ by (test x)
+  where
+    by : (b : Bool) → last_or (last_or None (filter test xs)) (cond b (x ∷ []) []) ≡ cond b (Some x) (last_or None (filter test xs))
+    by true = refl
+    by false = refl
+
+found_alone : (number : ℕ) (o : KnownOrder) → numbered (o ∷ []) number ≡ where_true (has_number number o) o
+found_alone number o = by (has_number number o)
+  where
+    by : (b : Bool) → cond b (Some o) None ≡ where_true b o
+    by true = refl
+    by false = refl
+
+-- the tables find what is to be found among the orders and one more
+pub found_next : (known : List KnownOrder) (o : KnownOrder) (by_number after_number : List (ℕ × KnownOrder)) (by_token after_token : List (UserToken × KnownOrder))
+    → AreFound known by_number by_token → FindsNumber o by_number after_number → FindsToken o by_token after_token → AreFound (known ++ o ∷ []) after_number after_token
+found_next known o by_number after_number by_token after_token found numbers tokens = record {
+  numbers = λ number.
+      numbers number
+      ∙ ap (λ (before : Option KnownOrder). option_or before (where_true (has_number number o) o)) (found.numbers number)
+      ∙ ap (option_or (numbered known number)) (sym (found_alone number o))
+      ∙ sym (find-append (has_number number) known (o ∷ []));
+  tokens = λ user token.
+      tokens user token
+      ∙ ap (cond (is_under user token o) (Some o)) (found.tokens user token)
+      ∙ sym (last_such_next (is_under user token) known o);
+}

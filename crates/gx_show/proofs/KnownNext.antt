@@ -1,0 +1,85 @@
+-- What one more record adds to the orders that are known.
+use Rattle.std.proofs.Common.{◌≡◌, Bool, true, false, List, [], ◌∷◌, ◌++◌, map, refl, ◌∙◌, ap, sym, cond}
+use Rattle.std.specs.Prelude.{Option, Some, None, ◌&&◌, option_and_then, option_map, option_to_list}
+use Rattle.std.specs.List.{filter, last_or}
+use Rattle.std.specs.Option.{option_map_or}
+use Rattle.std.proofs.lemmas.List.{map-append}
+use Rattle.gx_units.specs.declared.names.AccountName.{AccountName}
+use Rattle.gx_units.specs.declared.names.Token.{Token}
+use Rattle.gx_units.specs.declared.names.UserName.{UserName}
+use Rattle.gx_units.specs.Names.{same_user, same_token}
+use Rattle.gx_policy.specs.declared.policy.PolicyData.{PolicyData}
+use Rattle.gx_policy.specs.People.{account_of}
+use Rattle.gx_history.specs.declared.record.Asked.{Asked}
+use Rattle.gx_history.specs.declared.record.RecordData.{RecordData}
+use Rattle.gx_history.specs.declared.record.Request.{Request}
+use Rattle.gx_history.specs.declared.record.Request.TheVariants as requests
+use Rattle.gx_history.specs.Orders.{Order, entered, order_under, orders, orders_added, orders_made, replacing}
+use Rattle.gx_history.specs.Requests.{granted}
+use Rattle.gx_history_laws.proofs.NextOrders.{orders_next, orders_none}
+use Rattle.gx_show.specs.declared.known_order.KnownOrder.{KnownOrder}
+use Rattle.gx_show.specs.Known.{is_under, known_of, known_orders, made, made_by, under}
+
+pub known_none : (policy : PolicyData) → known_orders policy [] ≡ []
+unfolding known_orders
+known_none policy = ap (map known_of) (orders_none policy)
+
+kept_mapped : {X Y : Type 0} (f : X → Y) (test : Y → Bool) (xs : List X) → filter test (map f xs) ≡ map f (filter (λ x. test (f x)) xs)
+kept_mapped f test [] = refl
+kept_mapped {X} {Y} f test (x ∷ xs) = by (test (f x)) (kept_mapped f test xs)
+  where
+    by : (b : Bool) → filter test (map f xs) ≡ map f (filter (λ x. test (f x)) xs)
+        → cond b (f x ∷ filter test (map f xs)) (filter test (map f xs)) ≡ map f (cond b (x ∷ filter (λ x. test (f x)) xs) (filter (λ x. test (f x)) xs))
+    by true deeper = ap (λ (ys : List Y). f x ∷ ys) deeper
+    by false deeper = deeper
+
+last_mapped : {X Y : Type 0} (f : X → Y) (o : Option X) (xs : List X) → last_or (option_map f o) (map f xs) ≡ option_map f (last_or o xs)
+last_mapped f o [] = refl
+last_mapped f o (x ∷ xs) = last_mapped f (Some x) xs
+
+under_mapped : (known : List Order) (user : UserName) (token : Token) → under (map known_of known) user token ≡ option_map known_of (order_under known user token)
+under_mapped known user token =
+    ap (last_or None) (kept_mapped known_of (is_under user token) known)
+    ∙ last_mapped known_of None (filter (λ (o : Order). same_user o.user user && same_token o.token token) known)
+
+made_mapped : (policy : PolicyData) (known : List Order) (r : RecordData) (user : UserName) (request : Request)
+    → map known_of (orders_made policy known r user request) ≡ option_to_list (made_by policy (map known_of known) r.number user request)
+made_mapped policy known r user (requests.Enter m) = by (account_of policy user)
+  where
+    by : (account : Option AccountName)
+        → map known_of (option_map_or (λ account. entered policy r user account m ∷ []) account [])
+        ≡ option_to_list (option_map (λ (account : AccountName). record { number = r.number; user = user; account = account; token = m.token; stock = m.stock }) account)
+    by (Some account) = refl
+    by None = refl
+made_mapped policy known r user (requests.Replace m) =
+    by (order_under known user m.existing_token)
+    ∙ ap (λ (o : Option KnownOrder). option_to_list (option_map again o)) (sym (under_mapped known user m.existing_token))
+  where
+    again : KnownOrder → KnownOrder
+    again o = record { number = r.number; user = o.user; account = o.account; token = m.replacement_token; stock = o.stock }
+
+    by : (o : Option Order) → map known_of (option_map_or (λ o. replacing r m o ∷ []) o []) ≡ option_to_list (option_map again (option_map known_of o))
+    by (Some o) = refl
+    by None = refl
+made_mapped policy known r user (requests.Login m) = refl
+made_mapped policy known r user requests.Logout = refl
+made_mapped policy known r user (requests.Unreadable m) = refl
+made_mapped policy known r user (requests.Cancel m) = refl
+made_mapped policy known r user (requests.Command m) = refl
+
+added_mapped : (policy : PolicyData) (known : List Order) (r : RecordData) → map known_of (orders_added policy known r) ≡ option_to_list (made policy (map known_of known) r)
+added_mapped policy known r = by (granted r)
+  where
+    by : (a : Option Asked)
+        → map known_of (option_map_or (λ (a : Asked). orders_made policy known r a.user a.request) a [])
+        ≡ option_to_list (option_and_then (λ (a : Asked). made_by policy (map known_of known) r.number a.user a.request) a)
+    by (Some a) = made_mapped policy known r a.user a.request
+    by None = refl
+
+pub known_next : (policy : PolicyData) (history : List RecordData) (r : RecordData)
+    → known_orders policy (history ++ r ∷ []) ≡ known_orders policy history ++ option_to_list (made policy (known_orders policy history) r)
+unfolding known_orders
+known_next policy history r =
+    ap (map known_of) (orders_next policy history r)
+    ∙ map-append known_of (orders policy history) (orders_added policy (orders policy history) r)
+    ∙ ap (λ (more : List KnownOrder). map known_of (orders policy history) ++ more) (added_mapped policy (orders policy history) r)

@@ -1,0 +1,4 @@
+pub mod KnownNext
+pub mod ChosenNext
+pub mod Finding
+pub mod Pieces

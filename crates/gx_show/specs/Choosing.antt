@@ -1,0 +1,181 @@
+-- Which records of a day are shown.
+use Rattle.std.specs.Prelude.{ℕ, Bool, true, false, ◌&&◌, ◌||◌, ◌==◌, nat_le, not, List, Option, option_and_then, unwrap_or}
+use Rattle.std.specs.List.{filter_map, list_any}
+use Rattle.std.specs.Option.{option_map_or}
+use Rattle.gx_units.specs.declared.names.AccountName.{AccountName}
+use Rattle.gx_units.specs.declared.names.RuleId.{RuleId}
+use Rattle.gx_units.specs.declared.names.Symbol.{Symbol}
+use Rattle.gx_units.specs.declared.names.UserName.{UserName}
+use Rattle.gx_units.specs.Names.{same_account, same_rule, same_stock, same_token, same_user}
+use Rattle.gx_desk.specs.declared.Action.{Action}
+use Rattle.gx_desk.specs.declared.Action.TheVariants as actions
+use Rattle.gx_policy.specs.declared.policy.FileRule.{FileRule}
+use Rattle.gx_policy.specs.declared.policy.PolicyData.{PolicyData}
+use Rattle.gx_policy.specs.Lists.{behind_last, each_with_earlier, where_true}
+use Rattle.gx_policy.specs.People.{account_of, covers, rule_in}
+use Rattle.gx_policy.specs.RuleNames.{rule_id}
+use Rattle.gx_history.specs.declared.record.Asked.{Asked}
+use Rattle.gx_history.specs.declared.record.RecordData.{RecordData}
+use Rattle.gx_history.specs.declared.record.Request.{Request}
+use Rattle.gx_history.specs.declared.record.Request.TheVariants as requests
+use Rattle.gx_history.specs.declared.record.Verdict.{Verdict}
+use Rattle.gx_history.specs.declared.record.Verdict.TheVariants as verdicts
+use Rattle.gx_history.specs.Orders.{ends_account, expires}
+use Rattle.gx_history.specs.Requests.{action_of, asked, granted, granted_action, is_order, named_token}
+use Rattle.gx_show.specs.declared.choice.Choice.{Choice}
+use Rattle.gx_show.specs.declared.known_order.KnownOrder.{KnownOrder}
+use Rattle.gx_show.specs.Known.{has_number, known_orders, made, numbered, under}
+
+-- there is an order, and it passes the test
+abbrev pub is_such : (KnownOrder → Bool) → Option KnownOrder → Bool
+is_such test order = option_map_or test order false
+
+-- the order that a Replace or a Cancel names
+abbrev pub named : List KnownOrder → RecordData → Option KnownOrder
+named known r = option_and_then (λ (a : Asked). option_and_then (under known a.user) (named_token a.request)) (asked r.step)
+
+-- an order that was matched passes the test: of a fill either side
+abbrev pub is_matched : List KnownOrder → (KnownOrder → Bool) → Verdict → Bool
+is_matched known test (verdicts.Filled f) = is_such test (numbered known f.taker) || is_such test (numbered known f.maker)
+is_matched known test (verdicts.Rested number) = is_such test (numbered known number)
+is_matched known test (verdicts.Expired number) = is_such test (numbered known number)
+is_matched known test other = false
+
+-- the record speaks of such an order: it makes one, or names one, or one was matched
+abbrev pub speaks_of : PolicyData → List KnownOrder → RecordData → (KnownOrder → Bool) → Bool
+speaks_of policy known r test = is_such test (made policy known r) || (is_such test (named known r) || is_matched known test r.verdict)
+
+-- the request passes the test, where the record is of a request
+abbrev pub is_asked : (Asked → Bool) → RecordData → Bool
+is_asked test r = option_map_or test (asked r.step) false
+
+-- the request is a command that passes the test
+abbrev pub is_commanded : (Action → Bool) → Request → Bool
+is_commanded test request = option_map_or test (action_of request) false
+
+-- the user trades for the account
+abbrev pub trades_for : PolicyData → AccountName → UserName → Bool
+trades_for policy account user = option_map_or (λ own. same_account own account) (account_of policy user) false
+
+-- the policy's rule of this name is for orders of the account
+abbrev pub rule_covers : PolicyData → AccountName → RuleId → Bool
+rule_covers policy account name = option_map_or (λ (rule : FileRule). covers rule.scope account) (rule_in policy.rules name) false
+
+-- the command names the account, is on a rule that covers it, or closes the day
+abbrev pub acts_on : PolicyData → AccountName → Action → Bool
+acts_on policy account (actions.Kill named) = same_account named account
+acts_on policy account (actions.Lift named) = same_account named account
+acts_on policy account (actions.Grant reader named) = same_account named account
+acts_on policy account (actions.Revoke reader named) = same_account named account
+acts_on policy account (actions.SetLimit rule limit) = rule_covers policy account rule
+acts_on policy account (actions.Restrict rule stock) = rule_covers policy account rule
+acts_on policy account (actions.Unrestrict rule stock) = rule_covers policy account rule
+acts_on policy account actions.CloseDay = true
+
+-- a request of one of the account's traders, or a command that acts on it
+abbrev pub is_of_account : PolicyData → AccountName → Asked → Bool
+is_of_account policy account a = trades_for policy account a.user || is_commanded (acts_on policy account) a.request
+
+-- the record concerns the account
+abbrev pub concerns_account : PolicyData → List KnownOrder → RecordData → AccountName → Bool
+concerns_account policy known r account = is_asked (is_of_account policy account) r || speaks_of policy known r (λ (o : KnownOrder). same_account o.account account)
+
+-- it was asked for by the user, or speaks of one of his orders
+abbrev pub concerns_user : PolicyData → List KnownOrder → RecordData → UserName → Bool
+concerns_user policy known r user = is_asked (λ (a : Asked). same_user a.user user) r || speaks_of policy known r (λ (o : KnownOrder). same_user o.user user)
+
+-- the command puts the stock on a list, or takes it off
+abbrev pub lists : Symbol → Action → Bool
+lists stock (actions.Restrict rule named) = same_stock named stock
+lists stock (actions.Unrestrict rule named) = same_stock named stock
+lists stock other = false
+
+-- an Enter in the stock, or a command that names it
+abbrev pub is_in_stock : Symbol → Request → Bool
+is_in_stock stock (requests.Enter m) = same_stock m.stock stock
+is_in_stock stock other = is_commanded (lists stock) other
+
+-- the record concerns the stock, or an order in it
+abbrev pub concerns_stock : PolicyData → List KnownOrder → RecordData → Symbol → Bool
+concerns_stock policy known r stock = is_asked (λ (a : Asked). is_in_stock stock a.request) r || speaks_of policy known r (λ (o : KnownOrder). same_stock o.stock stock)
+
+-- the command is on the rule
+abbrev pub is_on_rule : RuleId → Action → Bool
+is_on_rule rule (actions.SetLimit named limit) = same_rule named rule
+is_on_rule rule (actions.Restrict named stock) = same_rule named rule
+is_on_rule rule (actions.Unrestrict named stock) = same_rule named rule
+is_on_rule rule other = false
+
+-- the verdict is a denial by the rule
+abbrev pub denies_by : RuleId → Verdict → Bool
+denies_by rule (verdicts.Denied name) = same_rule (rule_id name) rule
+denies_by rule other = false
+
+-- a denial by the rule, or a command on it
+abbrev pub concerns_rule : RecordData → RuleId → Bool
+concerns_rule r rule = denies_by rule r.verdict || is_asked (λ (a : Asked). is_commanded (is_on_rule rule) a.request) r
+
+-- the request was denied
+abbrev pub is_denied : Verdict → Bool
+is_denied (verdicts.Denied rule) = true
+is_denied other = false
+
+-- a granted Replace of the order, Kill of its account or Close Day
+abbrev pub ends_by_request : KnownOrder → UserName → Request → Bool
+ends_by_request o user (requests.Replace m) = same_user user o.user && same_token m.existing_token o.token
+ends_by_request o user (requests.Command c) = ends_account o.account c.action
+ends_by_request o user other = false
+
+-- the record ends the order: such a request is granted, or the order expires
+abbrev pub ends_order : KnownOrder → RecordData → Bool
+ends_order o r = expires o.number r.verdict || option_map_or (λ (a : Asked). ends_by_request o a.user a.request) (granted r) false
+
+-- the record grants an order under this number
+abbrev pub grants_order : ℕ → RecordData → Bool
+grants_order number r = r.number == number && option_map_or (λ (a : Asked). is_order a.request) (granted r) false
+
+-- the records behind the one that granted the order
+abbrev pub since_order : ℕ → List RecordData → List RecordData
+since_order number earlier = unwrap_or (behind_last (grants_order number) earlier) earlier
+
+-- the order of this number has ended before: a record since the one that granted it has ended it
+unfoldable pub is_over : PolicyData → List RecordData → ℕ → Bool
+is_over policy earlier number = is_such (λ (o : KnownOrder). list_any (ends_order o) (since_order number earlier)) (numbered (known_orders policy earlier) number)
+
+-- a granted Kill of the order's account, or Close Day
+abbrev pub ends_account_of : RecordData → KnownOrder → Bool
+ends_account_of r o = option_map_or (ends_account o.account) (granted_action r) false
+
+-- the record speaks of the order of this number, or is the Kill or Close Day that it ended by
+abbrev pub concerns_order : PolicyData → List KnownOrder → Bool → RecordData → ℕ → Bool
+concerns_order policy known over r number = speaks_of policy known r (has_number number) || (not over && is_such (ends_account_of r) (numbered known number))
+
+-- what is asked for passes the test; whatever nobody asks for passes
+abbrev pub is_wanted : {X : Type 0} → (X → Bool) → Option X → Bool
+is_wanted test asked_for = option_map_or test asked_for true
+
+-- the record's moment and verdict are as they are asked for
+abbrev pub is_in_span : Choice → RecordData → Bool
+is_in_span choice r = nat_le choice.from r.moment && (nat_le r.moment choice.to && (not choice.only_denied || is_denied r.verdict))
+
+-- the record is asked for, by the orders before it and whether the order asked for has ended before
+abbrev pub is_asked_for : PolicyData → Choice → List KnownOrder → Bool → RecordData → Bool
+is_asked_for policy choice known over r =
+    is_in_span choice r
+    && (is_wanted (concerns_account policy known r) choice.account
+    && (is_wanted (concerns_user policy known r) choice.user
+    && (is_wanted (concerns_order policy known over r) choice.order
+    && (is_wanted (concerns_stock policy known r) choice.stock
+    && is_wanted (concerns_rule r) choice.rule))))
+
+-- the order that is asked for has ended before
+abbrev pub is_order_over : PolicyData → Choice → List RecordData → Bool
+is_order_over policy choice earlier = option_map_or (is_over policy earlier) choice.order false
+
+-- the record, behind these, concerns all that is asked for
+abbrev pub is_chosen : PolicyData → Choice → List RecordData → RecordData → Bool
+is_chosen policy choice earlier r = is_asked_for policy choice (known_orders policy earlier) (is_order_over policy choice earlier) r
+
+-- the chosen records of a day, in their order
+unfoldable pub chosen : PolicyData → Choice → List RecordData → List RecordData
+chosen policy choice records = filter_map (λ (entry : List RecordData × RecordData). where_true (is_chosen policy choice entry.0 entry.1) entry.1) (each_with_earlier records)

@@ -1,0 +1,30 @@
+-- How orders are found in tables.
+use Rattle.std.specs.Prelude.{◌≡◌, ℕ, ◌&&◌, List, nat_eq, Bool, Some, if◌then◌else◌}
+use Rattle.std.specs.Option.{option_or}
+use Rattle.std.specs.Map.{lookup}
+use Rattle.gx_units.specs.declared.names.Token.{Token}
+use Rattle.gx_units.specs.declared.names.UserName.{UserName}
+use Rattle.gx_units.specs.Names.{same_user, same_token}
+use Rattle.gx_history.specs.declared.live_order.UserToken.{UserToken}
+use Rattle.gx_history.specs.LiveOrders.{key}
+use Rattle.gx_show.specs.declared.known_order.KnownOrder.{KnownOrder}
+use Rattle.gx_policy.specs.Lists.{where_true}
+use Rattle.gx_show.specs.Known.{has_number, is_under, numbered, under}
+
+-- two tokens of users are the same
+abbrev pub same_user_token : UserToken → UserToken → Bool
+same_user_token a b = same_user a.user b.user && same_token a.token b.token
+
+-- each order that is looked for is found, by its number and by its token
+pub record AreFound (known : List KnownOrder) (by_number : List (ℕ × KnownOrder)) (by_token : List (UserToken × KnownOrder)) : Type 0 where
+  pub numbers : (number : ℕ) → lookup (nat_eq number) by_number ≡ numbered known number
+  pub tokens : (user : UserName) (token : Token) → lookup (same_user_token (key user token)) by_token ≡ under known user token
+
+-- the order is found by its number, unless another was; what is found by other numbers stays
+abbrev pub FindsNumber : KnownOrder → (before after : List (ℕ × KnownOrder)) → Type 0
+FindsNumber o before after = (number : ℕ) → lookup (nat_eq number) after ≡ option_or (lookup (nat_eq number) before) (where_true (has_number number o) o)
+
+-- the order is found by its token; what is found by other tokens stays
+abbrev pub FindsToken : KnownOrder → (before after : List (UserToken × KnownOrder)) → Type 0
+FindsToken o before after =
+    (user : UserName) (token : Token) → lookup (same_user_token (key user token)) after ≡ (if is_under user token o then Some o else lookup (same_user_token (key user token)) before)

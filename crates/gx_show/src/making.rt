@@ -1,0 +1,142 @@
+//! Which order a record makes, and which it speaks of.
+
+ghost use Rattle.std.specs.Prelude.{◌≡◌, option_copied};
+ghost use Rattle.gx_policy.specs.People.{account_of, user_in};
+ghost use Rattle.gx_show.specs.Choosing.{is_matched, is_such, named, speaks_of};
+ghost use Rattle.gx_show.specs.Known.{made, made_by};
+ghost use Rattle.gx_show.specs.Testing.{passes};
+ghost use Rattle.gx_history.specs.Requests.{asked, granted, named_token};
+
+use crate::known_order::{KnownOrder, OrderTest};
+use crate::known_orders::KnownOrders;
+use gx_history::record::{Asked, RecordData, Request, Step, Verdict};
+use gx_policy::{Policy, Role, User};
+use gx_units::{AccountName, Token, UserName};
+
+/// The user of this name.
+pub(crate) fn user_in<'a>(users: &'a [User], name: UserName) -> Option<&'a User>
+    ensures { option_copied result ≡ user_in users.now name }
+{
+    users.iter().find(|user| user.name == name)
+}
+
+/// The account that the user trades for, if he is a trader.
+pub(crate) fn account_of(policy: &Policy, user: UserName) -> Option<AccountName>
+    ensures { result ≡ account_of policy.now user }
+{
+    match &user_in(policy.users(), user)?.role {
+        Role::Trader(account) => Some(*account),
+        _ => None,
+    }
+}
+
+/// What was asked, where the record is of a request.
+pub(crate) fn asked_in(shown: &RecordData) -> Option<Asked>
+    ensures { result ≡ asked shown.now.step }
+{
+    match shown.step {
+        Step::Asked(asked) => Some(asked),
+        Step::Matching(_) => None,
+    }
+}
+
+/// What was granted, if anything was.
+pub(crate) fn granted_in(shown: &RecordData) -> Option<Asked>
+    ensures { result ≡ granted shown.now }
+{
+    match shown.verdict {
+        Verdict::Granted => asked_in(shown),
+        _ => None,
+    }
+}
+
+/// The order that the record makes.
+pub(crate) fn made(policy: &Policy, known: &KnownOrders, shown: &RecordData) -> Option<KnownOrder>
+    ensures { result ≡ made policy.now known.now shown.now }
+{
+    let asked = granted_in(shown)?;
+    made_by(policy, known, shown.number, &asked)
+}
+
+/// The order that a granted request makes.
+fn made_by(policy: &Policy, known: &KnownOrders, number: u64, asked: &Asked) -> Option<KnownOrder>
+    ensures { result ≡ made_by policy.now known.now number asked.now.user asked.now.request }
+{
+    match asked.request {
+        Request::Enter(m) => {
+            let account = account_of(policy, asked.user)?;
+            Some(KnownOrder {
+                number,
+                user: asked.user,
+                account,
+                token: m.token,
+                stock: m.stock,
+            })
+        }
+        Request::Replace(m) => {
+            let replaced = known.under(asked.user, m.existing_token)?;
+            Some(KnownOrder {
+                number,
+                token: m.replacement_token,
+                ..replaced
+            })
+        }
+        _ => None,
+    }
+}
+
+/// The token of the order that is to be replaced or cancelled.
+fn named_token(request: &Request) -> Option<Token>
+    ensures { result ≡ named_token request.now }
+{
+    match request {
+        Request::Replace(m) => Some(m.existing_token),
+        Request::Cancel(m) => Some(m.token),
+        _ => None,
+    }
+}
+
+/// The order that a Replace or a Cancel names.
+fn named(known: &KnownOrders, shown: &RecordData) -> Option<KnownOrder>
+    ensures { result ≡ named known.now shown.now }
+{
+    let asked = asked_in(shown)?;
+    let token = named_token(&asked.request)?;
+    known.under(asked.user, token)
+}
+
+/// Whether there is an order, and it passes the test.
+fn is_such(order: Option<KnownOrder>, test: OrderTest) -> bool
+    ensures { result ≡ is_such (passes test) order }
+{
+    match order {
+        Some(order) => order.passes(test),
+        None => false,
+    }
+}
+
+/// Whether an order that was matched passes the test.
+fn is_matched(known: &KnownOrders, verdict: &Verdict, test: OrderTest) -> bool
+    ensures { result ≡ is_matched known.now (passes test) verdict.now }
+{
+    match verdict {
+        Verdict::Filled(fill) => {
+            is_such(known.numbered(fill.taker), test) || is_such(known.numbered(fill.maker), test)
+        }
+        Verdict::Rested(order) | Verdict::Expired(order) => is_such(known.numbered(*order), test),
+        _ => false,
+    }
+}
+
+/// Whether the record speaks of an order that passes the test: it makes one, or names one, or one was matched.
+pub(crate) fn speaks_of(
+    policy: &Policy,
+    known: &KnownOrders,
+    shown: &RecordData,
+    test: OrderTest,
+) -> bool
+    ensures { result ≡ speaks_of policy.now known.now shown.now (passes test) }
+{
+    is_such(made(policy, known, shown), test)
+        || (is_such(named(known, shown), test) || is_matched(known, &shown.verdict, test))
+}

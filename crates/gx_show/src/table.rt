@@ -1,0 +1,77 @@
+//! The lines of a table of records.
+
+ghost use Rattle.std.specs.Prelude.{◌≡◌, map, IfOk};
+ghost use Rattle.csv.specs.Writing.{default_writer, row_text};
+ghost use Rattle.gx_fields.specs.Cells.{cell_text};
+ghost use Rattle.gx_show.specs.Rows.{account_asked, beside_of, denied_by, shown_cells};
+
+use crate::making::{account_of, asked_in};
+use gx_fields::{Beside, CELLS, Cell, cells_of, csv_line, json_line, reason_of, reject_of, row_of};
+use gx_history::record::{RecordData, Verdict};
+use gx_policy::{Policy, RuleName};
+use gx_units::{AccountName, OutOfMemory};
+use std::alloc::Global;
+
+/// The account of the trader who asked, if one did.
+fn account_asked(policy: &Policy, shown: &RecordData) -> Option<AccountName>
+    ensures { result ≡ account_asked policy.now shown.now }
+{
+    account_of(policy, asked_in(shown)?.user)
+}
+
+/// The rule that denied the request, if it was denied.
+pub(crate) fn denied_by(verdict: &Verdict) -> Option<RuleName>
+    ensures { result ≡ denied_by verdict.now }
+{
+    match verdict {
+        Verdict::Denied(rule) => Some(*rule),
+        _ => None,
+    }
+}
+
+/// What is told beside the fields of a record.
+fn beside_of(policy: &Policy, shown: &RecordData) -> Beside
+    ensures { result ≡ beside_of policy.now shown.now }
+{
+    let account = account_asked(policy, shown);
+    match denied_by(&shown.verdict) {
+        Some(rule) => Beside {
+            account,
+            reason: reason_of(policy, rule),
+            reject: reject_of(policy, rule),
+        },
+        None => Beside {
+            account,
+            reason: None,
+            reject: None,
+        },
+    }
+}
+
+/// The cells that a record is shown by.
+pub fn shown_cells(policy: &Policy, shown: &RecordData) -> [Cell; CELLS]
+    ensures { result ≡ shown_cells policy.now shown.now }
+{
+    cells_of(&row_of(shown), &beside_of(policy, shown))
+}
+
+/// The record as a line of CSV, with the end of the line.
+pub fn record_csv(
+    alloc: Global,
+    policy: &Policy,
+    shown: &RecordData,
+) -> Result<Vec<u8>, OutOfMemory>
+    ensures { IfOk result (λ line. line.items
+        ≡ row_text default_writer (map cell_text (shown_cells policy.now shown.now))) }
+{
+    csv_line(alloc, &shown_cells(policy, shown))
+}
+
+/// The record as a line of JSON, with the end of the line.
+pub fn record_json(
+    alloc: Global,
+    policy: &Policy,
+    shown: &RecordData,
+) -> Result<Vec<u8>, OutOfMemory> {
+    json_line(alloc, &shown_cells(policy, shown))
+}
