@@ -1,7 +1,8 @@
 //! The gate as it stood behind one of an audit's records.
 
-ghost use Rattle.std.specs.Prelude.{◌≡◌, ◌++◌, ◌≤◌, [], drop, length, IfErr, IfOk, OnOk};
+ghost use Rattle.std.specs.Prelude.{◌≡◌, ◌++◌, ◌≤◌, [], drop, length, Err, IfErr, IfOk, OnOk};
 ghost use Rattle.gx_history.specs.Verdicts.{IsLegal};
+ghost use Rattle.gx_audit.specs.Auditing.{IsAnswer};
 ghost use Rattle.gx_audit.specs.Beginning.{AreFirst};
 ghost use Rattle.gx_audit.specs.Replaying.{IsRecordsFault};
 ghost use Rattle.gx_audit_bytes.specs.Headers.{front_of};
@@ -33,6 +34,7 @@ fn follow_first<G: AccessGate>(
     ensures legal { OnOk result (IsLegal (G.seen gate.old).policy (G.seen gate.new).records) }
     ensures first { OnOk result
         (AreFirst (G.seen gate.old).policy most audit.now (G.seen gate.new).records) }
+    ensures fault { IfErr result (λ e. IsRecordsFault (G.seen gate.old).policy audit.now e) }
 {
     let mut at = start;
     while audit.len() - at >= RECORD_SIZE {
@@ -57,6 +59,7 @@ fn follow_first<G: AccessGate>(
 /// # Errors
 ///
 /// As of [`check_audit`](crate::check_audit); `Truncated` only where the bytes are too few for a header.
+#[tactic(auto, using(crate::proofs::Walking::answer_of_records))]
 pub fn replay_first<G: AccessGate>(
     alloc: Global,
     policy: &Policy,
@@ -67,6 +70,8 @@ pub fn replay_first<G: AccessGate>(
     ensures legal { IfOk result (λ gate. IsLegal policy.now (G.seen gate).records) }
     ensures first { IfOk result
         (λ gate. AreFirst policy.now most audit.now (G.seen gate).records) }
+    // The fault is what the check of the whole audit answers.
+    ensures fault { IfErr result (λ e. IsAnswer policy.now audit.now (Err e)) }
 {
     let version = AuditVersion::of(audit);
     let start = records_start(policy, version, audit)?;

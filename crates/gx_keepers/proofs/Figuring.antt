@@ -2,8 +2,6 @@
 use Rattle.std.proofs.Common.{◌≡◌, ℕ, ◌-◌, ◌<◌, arith, true, false, Bool, List, [], ◌∷◌, ◌++◌, refl, ◌∙◌, ap, sym, cond, inl}
 use Rattle.std.proofs.Math.Path.{subst}
 use Rattle.std.proofs.lemmas.Bool.{eqb-true}
-use Rattle.std.proofs.lemmas.List.{append-nil}
-use Rattle.std.proofs.lemmas.List.Elements.{filter-append}
 use Rattle.std.specs.Prelude.{Option, Some, None, ◌==◌}
 use Rattle.std.specs.Option.{option_map_or}
 use Rattle.std.specs.List.{filter}
@@ -67,7 +65,7 @@ use Rattle.gx_ledger.specs.Following.{AreHeld, ClosesAll, Replaces}
 use Rattle.gx_ledger.specs.Keeping.{Kept}
 use Rattle.gx_ledger.specs.StandsFor.{Accepts, Carries, Closes, Cuts, Fills, IsAccepted, IsHeld, StandsFor}
 use Rattle.gx_ledger.proofs.Carrying.{stays_for}
-use Rattle.gx_ledger.proofs.Following.{all_are_ended, distinct_filtered, none_closes, one_more_closes}
+use Rattle.gx_ledger.proofs.Following.{all_are_ended, distinct_filtered, none_closes}
 use Rattle.gx_keepers.specs.declared.keepers.Keepers.{Keepers}
 use Rattle.gx_keepers.specs.Keepers.{Takes}
 use Rattle.gx_keepers.specs.Ends.{is_ended}
@@ -295,41 +293,6 @@ replace_figured policy history a r m before o coming new t grants asks found com
 
 -- ---- a command
 
--- the orders that the command is for before what is left of them were closed
-pub record HaveClosed (action : Action) (live left : List LiveOrder) (old now : Kept) : Type 0 where
-  pub gone : List LiveOrder
-  pub are_all : gone ++ left ≡ live
-  pub closes : ClosesAll (ended_orders action gone) old now
-
-pub none_closed : (action : Action) (live : List LiveOrder) (old : Kept) → HaveClosed action live live old old
-none_closed action live old = record { gone = []; are_all = refl; closes = none_closes old }
-
-next_left : (gone left rest live : List LiveOrder) (o : LiveOrder) → left ≡ o ∷ rest → gone ++ left ≡ live → (gone ++ o ∷ []) ++ rest ≡ live
-next_left [] left rest live o e all = sym e ∙ all
-next_left (x ∷ gone) left rest live o e all = ap (λ (xs : List LiveOrder). x ∷ xs) (next_left gone left rest (gone ++ left) o e refl) ∙ all
-
-pub one_more_closed : (action : Action) (live left rest : List LiveOrder) (o : LiveOrder) (old now new : Kept)
-    → left ≡ o ∷ rest → is_ended action o ≡ true → HaveClosed action live left old now → Closes o now new → HaveClosed action live rest old new
-one_more_closed action live left rest o old now new left_is his have closes = record {
-  gone = have.gone ++ o ∷ [];
-  are_all = next_left have.gone left rest live o left_is have.are_all;
-  closes =
-      subst (λ (xs : List LiveOrder). ClosesAll xs old new)
-      (sym (filter-append (is_ended action) have.gone (o ∷ []) ∙ ap (λ (b : Bool). ended_orders action have.gone ++ cond b (o ∷ []) []) his))
-      (one_more_closes (ended_orders action have.gone) o old now new have.closes closes);
-}
-
-pub one_more_passed : (action : Action) (live left rest : List LiveOrder) (o : LiveOrder) (old now : Kept)
-    → left ≡ o ∷ rest → is_ended action o ≡ false → HaveClosed action live left old now → HaveClosed action live rest old now
-one_more_passed action live left rest o old now left_is others have = record {
-  gone = have.gone ++ o ∷ [];
-  are_all = next_left have.gone left rest live o left_is have.are_all;
-  closes =
-      subst (λ (xs : List LiveOrder). ClosesAll xs old now)
-      (sym (filter-append (is_ended action) have.gone (o ∷ []) ∙ ap (λ (b : Bool). ended_orders action have.gone ++ cond b (o ∷ []) []) others ∙ append-nil (ended_orders action have.gone)))
-      have.closes;
-}
-
 -- a command that ends no order closes none
 pub none_end : (action : Action) → is_lasting action ≡ true → (live : List LiveOrder) → filter (is_ended action) live ≡ []
 none_end action lasts [] = refl
@@ -337,10 +300,6 @@ none_end action lasts (o ∷ live) = ap (λ (b : Bool). cond b (o ∷ filter (is
 
 pub none_to_close : (action : Action) (live : List LiveOrder) (k : Kept) → is_lasting action ≡ true → ClosesAll (ended_orders action live) k k
 none_to_close action live k lasts = subst (λ (os : List LiveOrder). ClosesAll os k k) (sym (none_end action lasts live)) (none_closes k)
-
-pub all_have_closed : (action : Action) (live left : List LiveOrder) (old now : Kept) → left ≡ [] → HaveClosed action live left old now → ClosesAll (ended_orders action live) old now
-all_have_closed action live left old now none have =
-    subst (λ (xs : List LiveOrder). ClosesAll (ended_orders action xs) old now) (sym (append-nil have.gone) ∙ ap (λ (xs : List LiveOrder). have.gone ++ xs) (sym none) ∙ have.are_all) have.closes
 
 pub command_figured : (policy : PolicyData) (history : List RecordData) (a : Asked) (r : RecordData) (c : Command) (before : Keepers) (new : Kept)
     → Takes policy history a r before → r.verdict ≡ verdicts.Granted → a.request ≡ requests.Command c

@@ -2,6 +2,7 @@ pub mod Beginning
 pub mod Carrying
 pub mod Commanded
 pub mod Cutting
+pub mod Ending
 pub mod Figuring
 pub mod Keepings
 pub mod Matches

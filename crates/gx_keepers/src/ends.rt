@@ -1,12 +1,12 @@
 //! The orders that a command ends.
 
-ghost use Rattle.std.specs.Prelude.{◌≡◌};
-ghost use Rattle.gx_history.specs.Orders.{ends_account};
+ghost use Rattle.std.specs.Prelude.{◌≡◌, true, map, MatchOption};
 ghost use Rattle.gx_ledger.specs.Following.{ClosesAll};
 ghost use Rattle.gx_market.specs.Changes.{ended_by};
 ghost use Rattle.gx_orders.specs.Changes.{is_lasting, with_live};
-ghost use Rattle.gx_keepers.specs.Ends.{live_left, owed_by_ends, told_of_ends, HaveOwedPlaces};
+ghost use Rattle.gx_keepers.specs.Ends.{live_left, owed_by_end, owed_by_ends, told_of_ends, HaveOwedPlaces};
 ghost use Rattle.gx_keepers.specs.Ledgers.{ended_orders};
+ghost use Rattle.gx_streams.specs.Telling.{with_all_owed};
 
 use crate::reports::ended;
 use gx_book::book::Book;
@@ -14,27 +14,36 @@ use gx_desk::Action;
 use gx_history::report::Report;
 use gx_ledger::ledger::Ledger;
 use gx_orders::orders::Orders;
+use gx_slab::live::LiveOrders;
 use gx_streams::streams::Streams;
-use gx_units::{AccountName, Moment};
+use gx_units::Moment;
 
-/// Whether the command ends no order.
-pub fn is_lasting(action: &Action) -> bool
-    ensures { result ≡ is_lasting action.now }
+/// The live orders that the command ends, by number; `None` where it is one that ends none.
+#[tactic(auto, using(crate::proofs::Ending::all_end))]
+fn ended_by<'a>(orders: &'a Orders, action: &Action) -> Option<LiveOrders<'a>>
+    ensures { MatchOption result (is_lasting action.now ≡ true)
+        (λ found. found ≡ ended_orders action.now orders.now.live) }
 {
-    match action {
-        Action::Kill(_) | Action::CloseDay => false,
-        _ => true,
+    match *action {
+        Action::Kill(account) => Some(orders.live_of(account)),
+        Action::CloseDay => Some(orders.live()),
+        _ => None,
     }
 }
 
-/// Whether the command ends the orders of the account.
-fn ends_account(account: AccountName, action: &Action) -> bool
-    ensures { result ≡ ends_account account action.now }
+/// Tells the user of each of these orders that it has ended.
+fn tell_each(streams: &mut Streams, ending: LiveOrders<'_>, moment: Moment)
+    requires { HaveOwedPlaces (map (owed_by_end moment) ending) streams.old }
+    ensures { streams.new ≡ with_all_owed (map (owed_by_end moment) ending.entry) streams.old }
 {
-    match *action {
-        Action::Kill(killed) => killed == account,
-        Action::CloseDay => true,
-        _ => false,
+    for order in ending {
+        streams.append_reserved(
+            order.user,
+            Report {
+                timestamp: moment,
+                message: ended(order),
+            },
+        );
     }
 }
 
@@ -43,30 +52,17 @@ pub fn tell_of_ends(streams: &mut Streams, orders: &Orders, action: &Action, mom
     requires { HaveOwedPlaces (owed_by_ends action.now moment orders.now.live) streams.old }
     ensures { streams.new ≡ told_of_ends action.now moment orders.now.live streams.old }
 {
-    if is_lasting(action) {
-        return;
-    }
-    for order in orders.live() {
-        if ends_account(order.account, action) {
-            streams.append_reserved(
-                order.user,
-                Report {
-                    timestamp: moment,
-                    message: ended(order),
-                },
-            );
-        }
+    if let Some(ending) = ended_by(orders, action) {
+        tell_each(streams, ending, moment);
     }
 }
 
-/// Takes note that each live order that the command is for ends.
-fn close_ended(ledger: &mut Ledger, orders: &Orders, action: &Action)
-    ensures { ClosesAll (ended_orders action.now orders.now.live) ledger.old ledger.new }
+/// Takes note that each of these orders ends.
+fn close_each(ledger: &mut Ledger, ending: LiveOrders<'_>)
+    ensures { ClosesAll ending.entry ledger.old ledger.new }
 {
-    for order in orders.live() {
-        if ends_account(order.account, action) {
-            ledger.close(order);
-        }
+    for order in ending {
+        ledger.close(order);
     }
 }
 
@@ -79,12 +75,12 @@ pub fn end_orders(ledger: &mut Ledger, orders: &mut Orders, book: &mut Book, act
 {
     match *action {
         Action::Kill(account) => {
-            close_ended(ledger, orders, action);
+            close_each(ledger, orders.live_of(account));
             orders.end_account(account);
             book.remove_account(account);
         }
         Action::CloseDay => {
-            close_ended(ledger, orders, action);
+            close_each(ledger, orders.live());
             orders.end_all();
             book.remove_all();
         }

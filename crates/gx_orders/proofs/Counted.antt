@@ -10,8 +10,8 @@ use Rattle.gx_history_laws.proofs.Adding.{user_is}
 use Rattle.gx_history_laws.proofs.Order.{some_same}
 use Rattle.std.proofs.lemmas.Bool.{eqb-true}
 use Rattle.gx_history.specs.declared.live_order.LiveOrder.{LiveOrder}
-use Rattle.gx_orders.specs.LiveOrders.{NumbersRise, changed, has_number, is_of_user, of_others, without}
-use Rattle.gx_orders.specs.Tables.{account_orders_of, counted_of, orders_of, AreCounted, CountsNoMore, CountsOneLess, CountsOneMore}
+use Rattle.gx_orders.specs.LiveOrders.{NumbersRise, changed, has_number, is_of_user, of_account, of_others, without}
+use Rattle.gx_orders.specs.Tables.{counted_of, orders_of, AreCounted, CountsNoMore, CountsOneLess, CountsOneMore}
 use Rattle.gx_orders.proofs.Kept.{behind, none_taken}
 
 -- one order more of the user
@@ -99,79 +99,32 @@ none_without n (p ∷ ps) none = at (has_number n p) none (λ later. none_withou
     at false this later = ap (λ (rest : List LiveOrder). p ∷ rest) (later this)
 
 -- the orders of other accounts and those of this one make up all
-pub both_parts : (user : UserName) (account : AccountName) (os : List LiveOrder) → orders_of user (of_others account os) + account_orders_of user account os ≡ orders_of user os
+pub both_parts : (user : UserName) (account : AccountName) (os : List LiveOrder) → orders_of user (of_others account os) + orders_of user (of_account account os) ≡ orders_of user os
 both_parts user account [] = refl
-both_parts user account (o ∷ os) = by (same_account account o.account) (same_user o.user user) (both_parts user account os)
+both_parts user account (o ∷ os) = by (same_account account o.account) (both_parts user account os)
   where
-    gone : List LiveOrder
-    gone = filter (λ (p : LiveOrder). is_of_user user p && same_account account p.account) os
-
-    mine : List LiveOrder
-    mine = filter (is_of_user user) (of_others account os)
-
-    all : List LiveOrder
-    all = filter (is_of_user user) os
-
-    others : (b : Bool) → length mine + length gone ≡ length all → length (cond b (o ∷ mine) mine) + length (cond (b && false) (o ∷ gone) gone) ≡ length (cond b (o ∷ all) all)
-    others true h = omega (arith, h)
-    others false h = h
-
-    its : (b : Bool) → length mine + length gone ≡ length all → length mine + length (cond (b && true) (o ∷ gone) gone) ≡ length (cond b (o ∷ all) all)
-    its true h = omega (arith, h)
-    its false h = h
-
-    by : (a b : Bool) → length mine + length gone ≡ length all
-        → length (filter (is_of_user user) (cond (not a) (o ∷ of_others account os) (of_others account os))) + length (cond (same_user o.user user && a) (o ∷ gone) gone) ≡ length (cond (same_user o.user user) (o ∷ all) all)
-    by true b h = its (same_user o.user user) h
-    by false b h = others (same_user o.user user) h
+    by : (its : Bool) → orders_of user (of_others account os) + orders_of user (of_account account os) ≡ orders_of user os
+        → orders_of user (cond (not its) (o ∷ of_others account os) (of_others account os)) + orders_of user (cond its (o ∷ of_account account os) (of_account account os)) ≡ orders_of user (o ∷ os)
+    by true later = omega (arith, later, orders_first user o os, orders_first user o (of_account account os))
+    by false later = omega (arith, later, orders_first user o os, orders_first user o (of_others account os))
 
 -- those before what is left are counted no more
-abbrev pub AreUncounted : AccountName → (live left : List LiveOrder) → (before now : List (UserName × ℕ)) → Type 0
-AreUncounted account live left before now = (user : UserName) → counted_of now user - account_orders_of user account left ≡ counted_of before user - account_orders_of user account live
+abbrev pub AreUncounted : (ended left : List LiveOrder) → (before now : List (UserName × ℕ)) → Type 0
+AreUncounted ended left before now = (user : UserName) → counted_of now user - orders_of user left ≡ counted_of before user - orders_of user ended
 
-account_orders_first : (user : UserName) (account : AccountName) (o : LiveOrder) (os : List LiveOrder)
-    → account_orders_of user account (o ∷ os) ≡ account_orders_of user account os + (if same_user o.user user && same_account account o.account then 1 else 0)
-account_orders_first user account o os = by (same_user o.user user && same_account account o.account)
+pub one_uncounted : (ended left rest : List LiveOrder) (o : LiveOrder) (before now new : List (UserName × ℕ)) → left ≡ o ∷ rest
+    → AreUncounted ended left before now → CountsOneLess o.user now new → AreUncounted ended rest before new
+one_uncounted ended left rest o before now new is have less user =
+    by (same_user o.user user) (less user) (ap (orders_of user) is ∙ orders_first user o rest) (have user)
   where
-    gone : List LiveOrder
-    gone = filter (λ (p : LiveOrder). is_of_user user p && same_account account p.account) os
-
-    by : (b : Bool) → length (cond b (o ∷ gone) gone) ≡ length gone + (if b then 1 else 0)
-    by true = omega arith
-    by false = omega arith
-
-pub one_uncounted : (account : AccountName) (live left rest : List LiveOrder) (o : LiveOrder) (before now new : List (UserName × ℕ)) → left ≡ o ∷ rest → same_account account o.account ≡ true
-    → AreUncounted account live left before now → CountsOneLess o.user now new → AreUncounted account live rest before new
-one_uncounted account live left rest o before now new is its have less user =
-    by (same_user o.user user) (less user)
-    (ap (λ (os : List LiveOrder). account_orders_of user account os) is
-    ∙ account_orders_first user account o rest
-    ∙ ap (λ (b : Bool). account_orders_of user account rest + (if same_user o.user user && b then 1 else 0)) its)
-    (have user)
-  where
-    by : (b : Bool) → counted_of new user ≡ counted_of now user - (if b then 1 else 0) → account_orders_of user account left ≡ account_orders_of user account rest + (if b && true then 1 else 0)
-        → counted_of now user - account_orders_of user account left ≡ counted_of before user - account_orders_of user account live
-        → counted_of new user - account_orders_of user account rest ≡ counted_of before user - account_orders_of user account live
+    by : (b : Bool) → counted_of new user ≡ counted_of now user - (if b then 1 else 0) → orders_of user left ≡ orders_of user rest + (if b then 1 else 0)
+        → counted_of now user - orders_of user left ≡ counted_of before user - orders_of user ended
+        → counted_of new user - orders_of user rest ≡ counted_of before user - orders_of user ended
     by true one more h = omega (arith, one, more, h)
     by false one more h = omega (arith, one, more, h)
 
-pub one_passed : (account : AccountName) (live left rest : List LiveOrder) (o : LiveOrder) (before now : List (UserName × ℕ)) → left ≡ o ∷ rest → same_account account o.account ≡ false
-    → AreUncounted account live left before now → AreUncounted account live rest before now
-one_passed account live left rest o before now is others have user =
-    by (same_user o.user user)
-    (ap (λ (os : List LiveOrder). account_orders_of user account os) is
-    ∙ account_orders_first user account o rest
-    ∙ ap (λ (b : Bool). account_orders_of user account rest + (if same_user o.user user && b then 1 else 0)) others)
-    (have user)
-  where
-    by : (b : Bool) → account_orders_of user account left ≡ account_orders_of user account rest + (if b && false then 1 else 0)
-        → counted_of now user - account_orders_of user account left ≡ counted_of before user - account_orders_of user account live
-        → counted_of now user - account_orders_of user account rest ≡ counted_of before user - account_orders_of user account live
-    by true more h = omega (arith, more, h)
-    by false more h = omega (arith, more, h)
-
-pub all_uncounted : (account : AccountName) (live left : List LiveOrder) (before now : List (UserName × ℕ)) → left ≡ [] → AreUncounted account live left before now → CountsNoMore account live before now
-all_uncounted account live left before now none have user = omega (arith, have user, ap (λ (os : List LiveOrder). account_orders_of user account os) none)
+pub all_uncounted : (ended left : List LiveOrder) (before now : List (UserName × ℕ)) → left ≡ [] → AreUncounted ended left before now → CountsNoMore ended before now
+all_uncounted ended left before now none have user = omega (arith, have user, ap (λ (os : List LiveOrder). orders_of user os) none)
 
 -- after each call
 pub counted_entered : (o : LiveOrder) (live now : List LiveOrder) (before after : List (UserName × ℕ)) → AreCounted before live → now ≡ live ++ o ∷ [] → CountsOneMore o.user before after → AreCounted after now
@@ -192,8 +145,8 @@ counted_ended n o live now before after rise counted found is less user =
     by true one was all = omega (arith, one, was, all)
     by false one was all = omega (arith, one, was, all)
 
-pub counted_of_others : (account : AccountName) (live now : List LiveOrder) (before after : List (UserName × ℕ)) → AreCounted before live → now ≡ of_others account live → CountsNoMore account live before after
-    → AreCounted after now
+pub counted_of_others : (account : AccountName) (live now : List LiveOrder) (before after : List (UserName × ℕ)) → AreCounted before live → now ≡ of_others account live
+    → CountsNoMore (of_account account live) before after → AreCounted after now
 counted_of_others account live now before after counted is gone user =
     omega (arith, gone user, counted user, both_parts user account live) ∙ ap (orders_of user) (sym is)
 

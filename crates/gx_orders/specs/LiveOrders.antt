@@ -8,7 +8,7 @@ use Rattle.gx_history.specs.LiveOrders.{key, token_of}
 use Rattle.gx_policy.specs.Lists.{are_distinct}
 use Rattle.gx_history.specs.declared.live_order.LiveOrder.{LiveOrder}
 use Rattle.gx_history.specs.declared.live_order.UserToken.{UserToken}
-pub use Rattle.gx_slab.specs.Slabs.{is_open, has_number, live_numbered, first_waiting, open_ones, of_others}
+pub use Rattle.gx_slab.specs.Slabs.{is_open, has_number, live_numbered, first_waiting, open_ones, of_account, of_others}
 
 -- the live orders by number, and the used tokens in the order of their first use
 pub record OrdersData : Type 0 where

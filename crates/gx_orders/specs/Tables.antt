@@ -32,10 +32,6 @@ counted_of counts user = unwrap_or (lookup (same_user user) counts) 0
 abbrev pub orders_of : UserName → List LiveOrder → ℕ
 orders_of user live = length (filter (is_of_user user) live)
 
--- and how many of these are for the account
-abbrev pub account_orders_of : UserName → AccountName → List LiveOrder → ℕ
-account_orders_of user account live = length (filter (λ (o : LiveOrder). is_of_user user o && same_account account o.account) live)
-
 -- each user's orders are counted
 abbrev pub AreCounted : List (UserName × ℕ) → List LiveOrder → Type 0
 AreCounted counts live = (user : UserName) → counted_of counts user ≡ orders_of user live
@@ -48,9 +44,9 @@ CountsOneMore user before after = (other : UserName) → counted_of after other 
 abbrev pub CountsOneLess : UserName → (before after : List (UserName × ℕ)) → Type 0
 CountsOneLess user before after = (other : UserName) → counted_of after other ≡ counted_of before other - (if same_user user other then 1 else 0)
 
--- of these orders those for the account are counted no more
-abbrev pub CountsNoMore : AccountName → List LiveOrder → (before after : List (UserName × ℕ)) → Type 0
-CountsNoMore account live before after = (user : UserName) → counted_of after user ≡ counted_of before user - account_orders_of user account live
+-- these orders are counted no more
+abbrev pub CountsNoMore : List LiveOrder → (before after : List (UserName × ℕ)) → Type 0
+CountsNoMore ended before after = (user : UserName) → counted_of after user ≡ counted_of before user - orders_of user ended
 
 -- the tables hang together, and each user's orders are counted
 pub record AreHeld (live : List LiveOrder) (tokens : List (UserToken × ℕ)) (counts : List (UserName × ℕ)) : Type 0 where

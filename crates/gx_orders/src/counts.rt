@@ -4,8 +4,8 @@ ghost use Rattle.std.specs.Prelude.{◌≡◌, ◌<◌, ◌^◌, IsOk, OnOk};
 ghost use Rattle.indexmap.specs.IndexMap.{spare};
 ghost use Rattle.gx_orders.specs.Tables.{counted_of, CountsNoMore, CountsOneLess, CountsOneMore};
 
-use gx_slab::table::Table;
-use gx_units::{AccountName, OutOfMemory, UserName};
+use gx_slab::live::LiveOrders;
+use gx_units::{OutOfMemory, UserName};
 use indexmap::IndexMap;
 
 /// How many orders of the user are counted.
@@ -39,18 +39,11 @@ pub(crate) fn count_one_less(counts: &mut IndexMap<UserName, usize>, user: UserN
     *count = count.saturating_sub(1);
 }
 
-/// Counts the orders of the account no more. It takes no memory.
-pub(crate) fn count_no_more(
-    counts: &mut IndexMap<UserName, usize>,
-    orders: &Table,
-    account: AccountName,
-)
-    ensures { CountsNoMore account orders.now
-        counts.old.entries counts.new.entries }
+/// Counts these orders no more. It takes no memory.
+pub(crate) fn count_no_more(counts: &mut IndexMap<UserName, usize>, ended: LiveOrders<'_>)
+    ensures { CountsNoMore ended.entry counts.old.entries counts.new.entries }
 {
-    for order in orders.live() {
-        if order.is_of_account(account) {
-            count_one_less(counts, order.user);
-        }
+    for order in ended {
+        count_one_less(counts, order.user);
     }
 }

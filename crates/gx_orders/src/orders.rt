@@ -5,7 +5,7 @@ ghost use Rattle.std.specs.List.{filter};
 ghost use Rattle.gx_history.specs.LiveOrders.{key, token_of};
 ghost use Rattle.gx_history.specs.Live.{live_under};
 ghost use Rattle.gx_orders.specs.Changes.{IsUnused, marked_by};
-ghost use Rattle.gx_orders.specs.LiveOrders.{AreBelow, AreSound, HasOpen, at_rest, changed, cut_at, filled_at, first_waiting, is_of_user, is_used, of_others, live_numbered, resized_at, without};
+ghost use Rattle.gx_orders.specs.LiveOrders.{AreBelow, AreSound, HasOpen, at_rest, changed, cut_at, filled_at, first_waiting, is_of_user, is_used, of_account, of_others, live_numbered, resized_at, without};
 
 use crate::counts::{count_in, count_no_more, count_one_less, count_one_more};
 use crate::request_tokens::denied_token;
@@ -61,6 +61,13 @@ impl Orders {
         ensures sound { AreSound self.now }
     {
         self.table.live()
+    }
+
+    /// The live orders of the account, by number.
+    pub fn live_of(&self, account: AccountName) -> LiveOrders<'_>
+        ensures { result ≡ of_account account self.now.live }
+    {
+        self.table.live_of(account)
     }
 
     /// Whether the user has used the token, so that he can enter no more orders under it.
@@ -225,7 +232,7 @@ impl Orders {
         ensures live { self.new.live ≡ of_others account self.old.live }
         ensures used { self.new.used ≡ self.old.used }
     {
-        count_no_more(&mut self.counts, &self.table, account);
+        count_no_more(&mut self.counts, self.table.live_of(account));
         self.table.end_account(account);
     }
 

@@ -94,12 +94,12 @@ module _ (account : AccountName) (before : List LiveOrder) (o : LiveOrder) where
 
 -- the row with the live orders counted
 abbrev counted : AccountRow → List LiveOrder → AccountRow
-counted row orders = record { account = row.account; is_killed = row.is_killed; kill = row.kill; live = live_sums orders row.account }
+counted row orders = record { account = row.account; is_killed = row.is_killed; kill = row.kill; lift = row.lift; live = live_sums orders row.account }
 
 counted_from : (row : AccountRow) (before after : List LiveOrder) → fold (λ (r : AccountRow) (o : LiveOrder). row_with o r) (counted row before) after ≡ counted row (before ++ after)
 counted_from row before [] = ap (counted row) (sym (append-nil before))
 counted_from row before (o ∷ after) =
-    ap (λ (r : AccountRow). fold (λ (r : AccountRow) (o : LiveOrder). row_with o r) r after) (λ i. record { account = row.account; is_killed = row.is_killed; kill = row.kill; live = sym (sums_next row.account before o) i })
+    ap (λ (r : AccountRow). fold (λ (r : AccountRow) (o : LiveOrder). row_with o r) r after) (λ i. record { account = row.account; is_killed = row.is_killed; kill = row.kill; lift = row.lift; live = sym (sums_next row.account before o) i })
     ∙ counted_from row (before ++ o ∷ []) after
     ∙ ap (counted row) (append_assoc before (o ∷ []) after)
 

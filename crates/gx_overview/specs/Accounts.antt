@@ -1,5 +1,5 @@
 -- What stands of each account.
-use Rattle.std.specs.Prelude.{ℕ, ◌+◌, ◌-◌, ◌^◌, Bool, true, false, ◌&&◌, min, List, Option, None, length, map, if◌then◌else◌}
+use Rattle.std.specs.Prelude.{ℕ, ◌+◌, ◌-◌, ◌^◌, Bool, true, false, ◌&&◌, min, List, Option, Some, None, nat_lt, length, map, if◌then◌else◌}
 use Rattle.std.specs.List.{filter}
 use Rattle.gx_units.specs.Names.{same_account}
 use Rattle.gx_units.specs.declared.names.AccountName.{AccountName}
@@ -42,12 +42,19 @@ live_sums orders account = record {
 abbrev pub kill_of : Bool → List GrantedCommand → AccountName → Option GrantedCommand
 kill_of killed commands account = if killed then last_of commands (subjects.KillOf account) else None
 
+-- the last granted Lift, where it came behind that Kill
+abbrev pub lift_since : Option GrantedCommand → Option GrantedCommand → Option GrantedCommand
+lift_since None lift = None
+lift_since (Some kill) None = None
+lift_since (Some kill) (Some lift) = if nat_lt kill.number lift.number then Some lift else None
+
 -- what stands of the account
 abbrev pub account_row : PolicyData → List RecordData → Account → AccountRow
 account_row policy records a = record {
   account = a.name;
   is_killed = is_killed policy records a.name;
   kill = if is_killed policy records a.name then last_about records (subjects.KillOf a.name) else None;
+  lift = lift_since (if is_killed policy records a.name then last_about records (subjects.KillOf a.name) else None) (last_about records (subjects.LiftOf a.name));
   live = live_sums (live policy records) a.name;
 }
 
@@ -57,6 +64,7 @@ first_row policy records commands a = record {
   account = a.name;
   is_killed = is_killed policy records a.name;
   kill = kill_of (is_killed policy records a.name) commands a.name;
+  lift = lift_since (kill_of (is_killed policy records a.name) commands a.name) (last_of commands (subjects.LiftOf a.name));
   live = record { orders = 0; buys = 0; sells = 0 };
 }
 
@@ -74,6 +82,7 @@ row_with o row = record {
   account = row.account;
   is_killed = row.is_killed;
   kill = row.kill;
+  lift = row.lift;
   live = if same_account row.account o.account then with_order o row.live else row.live;
 }
 

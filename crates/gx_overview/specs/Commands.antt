@@ -24,9 +24,10 @@ granted_command r = option_and_then (command_by r) (granted r)
 abbrev pub granted_commands : List RecordData → List GrantedCommand
 granted_commands records = filter_map granted_command records
 
--- a Kill of the account, a Set Limit of the rule, or a Restrict of the stock by the rule
+-- a Kill or a Lift of the account, a Set Limit of the rule, or a Restrict of the stock by the rule
 abbrev pub is_about : Subject → Action → Bool
 is_about (subjects.KillOf account) (actions.Kill named) = same_account named account
+is_about (subjects.LiftOf account) (actions.Lift named) = same_account named account
 is_about (subjects.LimitOf rule) (actions.SetLimit named limit) = same_rule named rule
 is_about (subjects.StockOn rule stock) (actions.Restrict named listed) = same_rule named rule && same_stock listed stock
 is_about subject action = false

@@ -1,7 +1,7 @@
 //! What stands of each account: whether it is killed, and by which command; its live orders.
 
 ghost use Rattle.std.specs.Prelude.{◌≡◌, fold, map, IfOk};
-ghost use Rattle.gx_overview.specs.Accounts.{account_row, first_row, kill_of, row_with, rows_with, with_order};
+ghost use Rattle.gx_overview.specs.Accounts.{account_row, first_row, kill_of, lift_since, row_with, rows_with, with_order};
 ghost use Rattle.gx_overview.specs.Commands.{granted_commands};
 
 use crate::commands::{GrantedCommand, Subject, last_about};
@@ -31,6 +31,9 @@ pub struct AccountRow {
     pub is_killed: bool,
     /// Where it is killed, the last Kill of it that was granted.
     pub kill: Option<GrantedCommand>,
+    /// Where an officer has lifted it since that Kill, the last Lift of it that was granted: another officer's is asked for
+    /// too.
+    pub lift: Option<GrantedCommand>,
     pub live: LiveSums,
 }
 
@@ -103,6 +106,20 @@ fn kill_of(
     }
 }
 
+/// The Lift, where it came behind the Kill.
+fn lift_since(kill: Option<GrantedCommand>, lift: Option<GrantedCommand>) -> Option<GrantedCommand>
+    ensures { result ≡ lift_since kill lift }
+{
+    let (Some(kill), Some(lift)) = (kill, lift) else {
+        return None;
+    };
+    if kill.number < lift.number {
+        Some(lift)
+    } else {
+        None
+    }
+}
+
 /// The row of the account before any live order is counted.
 fn first_row<G: ShowsState>(gate: &G, commands: &[GrantedCommand], account: &Account) -> AccountRow
     ensures { result ≡ first_row (G.seen gate.now).policy (G.seen gate.now).records
@@ -110,10 +127,12 @@ fn first_row<G: ShowsState>(gate: &G, commands: &[GrantedCommand], account: &Acc
 {
     let name = account.name;
     let is_killed = gate.is_killed(name);
+    let kill = kill_of(is_killed, commands, name);
     AccountRow {
         account: name,
         is_killed,
-        kill: kill_of(is_killed, commands, name),
+        kill,
+        lift: lift_since(kill, last_about(commands, Subject::LiftOf(name))),
         live: NO_ORDERS,
     }
 }

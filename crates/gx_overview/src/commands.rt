@@ -26,6 +26,8 @@ pub struct GrantedCommand {
 pub enum Subject {
     /// It kills the account.
     KillOf(AccountName),
+    /// It lifts the account.
+    LiftOf(AccountName),
     /// It sets the limit of the rule.
     LimitOf(RuleId),
     /// It puts the stock on the list of the rule.
@@ -92,6 +94,7 @@ fn is_about(subject: &Subject, action: &Action) -> bool
 {
     match (*subject, *action) {
         (Subject::KillOf(account), Action::Kill(named)) => named == account,
+        (Subject::LiftOf(account), Action::Lift(named)) => named == account,
         (Subject::LimitOf(rule), Action::SetLimit(named, _)) => named == rule,
         (Subject::StockOn(rule, stock), Action::Restrict(named, listed)) => {
             named == rule && listed == stock

@@ -1,5 +1,5 @@
 -- Orders in the places that they were put in, seen as those that are live.
-use Rattle.std.specs.Prelude.{ℕ, ◌≡◌, ◌+◌, ◌*◌, ◌<◌, ◌≤◌, Bool, true, ◌&&◌, ◌==◌, nat_lt, List, length, map, Option, Some, if◌then◌else◌, slice_get}
+use Rattle.std.specs.Prelude.{ℕ, ◌≡◌, ◌+◌, ◌*◌, ◌<◌, ◌≤◌, Bool, true, ◌&&◌, ◌==◌, nat_lt, List, length, map, Option, Some, None, if◌then◌else◌, slice_get}
 use Rattle.std.specs.List.{filter, find, position_or_len}
 use Rattle.gx_units.specs.Names.{same_account}
 use Rattle.gx_units.specs.declared.names.AccountName.{AccountName}
@@ -13,6 +13,19 @@ is_open o = nat_lt o.done o.total
 -- those that have shares open, in their places
 abbrev pub open_ones : List LiveOrder → List LiveOrder
 open_ones live = filter is_open live
+
+-- the order has shares open, and is one of the account where one is named
+abbrev pub is_open_of : Option AccountName → LiveOrder → Bool
+is_open_of None o = is_open o
+is_open_of (Some account) o = is_open o && same_account account o.account
+
+-- the live orders of the account, or all where none is named
+abbrev pub open_of : Option AccountName → List LiveOrder → List LiveOrder
+open_of account rows = filter (is_open_of account) rows
+
+-- the orders of the account, in their places
+abbrev pub of_account : AccountName → List LiveOrder → List LiveOrder
+of_account account live = filter (λ (o : LiveOrder). same_account account o.account) live
 
 -- the order has this number
 abbrev pub has_number : ℕ → LiveOrder → Bool

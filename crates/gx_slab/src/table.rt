@@ -1,7 +1,7 @@
 //! The table.
 
 ghost use Rattle.std.specs.Prelude.{◌≡◌, ◌<◌, ◌^◌, [], ◌∷◌, ◌++◌, length, None, option_copied, IsTrue, OnOk, OnErr};
-ghost use Rattle.gx_slab.specs.Slabs.{first_waiting, is_open, of_others, live_numbered, written};
+ghost use Rattle.gx_slab.specs.Slabs.{first_waiting, is_open, of_account, of_others, live_numbered, written};
 
 use crate::live::LiveOrders;
 use crate::places::{make_room, place_of, thin_out};
@@ -79,7 +79,15 @@ impl Table {
     pub fn live(&self) -> LiveOrders<'_>
         ensures { result ≡ self.now }
     {
-        LiveOrders::of(&self.rows)
+        LiveOrders::of(&self.rows, None)
+    }
+
+    /// The live orders of the account, in the order in which they were put.
+    #[tactic(auto, using(crate::proofs::Going::of_account_are))]
+    pub fn live_of(&self, account: AccountName) -> LiveOrders<'_>
+        ensures { result ≡ of_account account self.now }
+    {
+        LiveOrders::of(&self.rows, Some(account))
     }
 
     /// Puts the order last.

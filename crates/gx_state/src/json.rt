@@ -134,6 +134,8 @@ fn append_account(
     append_bool(text, row.is_killed)?;
     append(text, b",\"kill\":")?;
     append_command(text, row.kill.as_ref())?;
+    append(text, b",\"lift\":")?;
+    append_command(text, row.lift.as_ref())?;
     append(text, b",\"live\":")?;
     append_number(text, row.live.orders)?;
     append(text, b",\"open_buys\":")?;

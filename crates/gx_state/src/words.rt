@@ -92,6 +92,10 @@ fn append_account(
         append(text, b" by ")?;
         append_command(text, kill)?;
     }
+    if let Some(lift) = &row.lift {
+        append(text, b"  lifted by ")?;
+        append_command(text, lift)?;
+    }
     append(text, b"\n")
 }
 

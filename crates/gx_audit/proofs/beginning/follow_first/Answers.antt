@@ -1,5 +1,5 @@
 use Rattle.std.proofs.Common.{arith, ◌∙◌, ap, refl, length}
-use Rattle.gx_audit.proofs.Walking.{begins, none_shown, bytes_further, shown_further}
+use Rattle.gx_audit.proofs.Walking.{begins, none_shown, bytes_further, shown_further, fault_told}
 use Rattle.gx_audit.proofs.beginning.follow_first.Goals as goal
 
 pub loop-at-init : goal.loop-at-init
@@ -22,3 +22,9 @@ loop-at-preserved g c = record {
       bytes_further c.args.version (g.G.AccessGate.seen c.args.gate.now).policy (g.G.AccessGate.seen c.loop-at.gate).records (g.G.AccessGate.seen c.check_record.new.gate).records c.record_at.result c.args.audit.now c.loop-at.at
       c.loop-at.invariant.bytes c.in-Ok.ensures.ok c.record_at.ensures;
 }
+
+pub returns-in-Err-clause-fault : goal.returns-in-Err-clause-fault
+returns-in-Err-clause-fault g c =
+    fault_told c.args.version (g.G.AccessGate.seen c.args.gate.now).policy (g.G.AccessGate.seen c.loop-at.gate).policy (g.G.AccessGate.seen c.loop-at.gate).records c.record_at.result c.args.audit.now c.loop-at.at c.in-Err.fault
+    c.loop-at.invariant.policy c.requires.version c.check_record.ensures.legal c.loop-at.invariant.shown c.loop-at.invariant.bytes (omega arith)
+    c.record_at.ensures c.in-Err.ensures.fault

@@ -1,6 +1,20 @@
+use Rattle.std.proofs.Common.{List, subst}
+use Rattle.gx_history.specs.declared.live_order.LiveOrder.{LiveOrder}
+use Rattle.gx_ledger.specs.Following.{ClosesAll}
 use Rattle.gx_keepers.proofs.Commanded.{none_ends_by_default}
+use Rattle.gx_keepers.proofs.Ending.{close_day_closes, kill_closes}
 use Rattle.gx_keepers.proofs.Figuring.{none_to_close}
 use Rattle.gx_keepers.proofs.ends.end_orders.Goals as goal
+
+pub returns-in-Kill-clause-closed : goal.returns-in-Kill-clause-closed
+returns-in-Kill-clause-closed c =
+    kill_closes c.args.action.now c.in-Kill.account c.args.orders.now.live c.args.ledger.now c.close_each.new.ledger c.in-Kill.is
+    (subst (λ (os : List LiveOrder). ClosesAll os c.args.ledger.now c.close_each.new.ledger) c.live_of.ensures c.close_each.ensures)
+
+pub returns-in-CloseDay-clause-closed : goal.returns-in-CloseDay-clause-closed
+returns-in-CloseDay-clause-closed c =
+    close_day_closes c.args.action.now c.args.orders.now.live c.args.ledger.now c.close_each-in-CloseDay.new.ledger c.in-CloseDay.is
+    (subst (λ (os : List LiveOrder). ClosesAll os c.args.ledger.now c.close_each-in-CloseDay.new.ledger) c.live.ensures.live c.close_each-in-CloseDay.ensures)
 
 pub returns-in_default : goal.returns-in_default
 returns-in_default c =

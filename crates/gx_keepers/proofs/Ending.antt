@@ -1,0 +1,69 @@
+-- The orders that a command ends, one by one.
+use Rattle.std.proofs.Common.{◌≡◌, ◌∙◌, List, [], ◌∷◌, ◌++◌, map, refl, sym, ap, subst}
+use Rattle.std.specs.List.{filter}
+use Rattle.std.proofs.lemmas.List.{append-nil}
+use Rattle.gx_units.specs.declared.names.UserName.{UserName}
+use Rattle.gx_units.specs.declared.names.AccountName.{AccountName}
+use Rattle.gx_desk.specs.declared.Action.{Action}
+use Rattle.gx_desk.specs.declared.Action.TheVariants as actions
+use Rattle.gx_history.specs.declared.live_order.LiveOrder.{LiveOrder}
+use Rattle.gx_history.specs.declared.report.Report.{Report}
+use Rattle.gx_ledger.specs.Following.{ClosesAll}
+use Rattle.gx_ledger.specs.StandsFor.{Closes}
+use Rattle.gx_ledger.specs.Keeping.{Kept}
+use Rattle.gx_ledger.proofs.Following.{none_closes, one_more_closes}
+use Rattle.gx_streams.specs.Streams.{AllStreams}
+use Rattle.gx_streams.specs.Telling.{with_all_owed, with_owed}
+use Rattle.gx_orders.specs.LiveOrders.{of_account}
+use Rattle.gx_keepers.specs.Ends.{HaveOwedPlaces, is_ended}
+use Rattle.gx_keepers.specs.Ledgers.{ended_orders}
+use Rattle.gx_keepers.proofs.Commanded.{rest_have_places}
+
+-- Close Day ends them all
+pub all_end : (live : List LiveOrder) → filter (is_ended actions.CloseDay) live ≡ live
+all_end [] = refl
+all_end (o ∷ live) = ap (λ (others : List LiveOrder). o ∷ others) (all_end live)
+
+-- those before what is left of them were closed
+pub record HaveClosed (all left : List LiveOrder) (old now : Kept) : Type 0 where
+  pub gone : List LiveOrder
+  pub are_all : gone ++ left ≡ all
+  pub closes : ClosesAll gone old now
+
+pub none_closed : (all : List LiveOrder) (old : Kept) → HaveClosed all all old old
+none_closed all old = record { gone = []; are_all = refl; closes = none_closes old }
+
+next_left : (gone left rest all : List LiveOrder) (o : LiveOrder) → left ≡ o ∷ rest → gone ++ left ≡ all → (gone ++ o ∷ []) ++ rest ≡ all
+next_left [] left rest all o e is = sym e ∙ is
+next_left (x ∷ gone) left rest all o e is = ap (λ (xs : List LiveOrder). x ∷ xs) (next_left gone left rest (gone ++ left) o e refl) ∙ is
+
+pub one_more_closed : (all left rest : List LiveOrder) (o : LiveOrder) (old now new : Kept) → left ≡ o ∷ rest → HaveClosed all left old now → Closes o now new → HaveClosed all rest old new
+one_more_closed all left rest o old now new left_is have closes = record {
+  gone = have.gone ++ o ∷ [];
+  are_all = next_left have.gone left rest all o left_is have.are_all;
+  closes = one_more_closes have.gone o old now new have.closes closes;
+}
+
+pub all_have_closed : (all left : List LiveOrder) (old now : Kept) → left ≡ [] → HaveClosed all left old now → ClosesAll all old now
+all_have_closed all left old now none have =
+    subst (λ (xs : List LiveOrder). ClosesAll xs old now) (sym (append-nil have.gone) ∙ ap (λ (xs : List LiveOrder). have.gone ++ xs) (sym none) ∙ have.are_all) have.closes
+
+-- telling the first of those that are left
+pub next_told : (owe : LiveOrder → UserName × Report) (o : LiveOrder) (rest left : List LiveOrder) (streams now all : AllStreams)
+    → left ≡ o ∷ rest → now ≡ with_owed streams (owe o)
+    → HaveOwedPlaces (map owe left) streams → with_all_owed (map owe left) streams ≡ all
+    → HaveOwedPlaces (map owe rest) now × (with_all_owed (map owe rest) now ≡ all)
+next_told owe o rest left streams now all left_is now_is enough telling =
+    let more : List (UserName × Report) = map owe rest in
+    let owed_are : map owe left ≡ owe o ∷ more = ap (map owe) left_is in (
+      subst (HaveOwedPlaces more) (sym now_is) (rest_have_places (owe o ∷ []) more streams (subst (λ (owed : List (UserName × Report)). HaveOwedPlaces owed streams) owed_are enough)),
+      ap (with_all_owed more) now_is ∙ sym (ap (λ (owed : List (UserName × Report)). with_all_owed owed streams) owed_are) ∙ telling,
+    )
+
+-- a Kill ends the account's orders, and Close Day all
+pub kill_closes : (action : Action) (account : AccountName) (live : List LiveOrder) (old new : Kept) → action ≡ actions.Kill account → ClosesAll (of_account account live) old new → ClosesAll (ended_orders action live) old new
+kill_closes action account live old new is closes = subst (λ (a : Action). ClosesAll (ended_orders a live) old new) (sym is) closes
+
+pub close_day_closes : (action : Action) (live : List LiveOrder) (old new : Kept) → action ≡ actions.CloseDay → ClosesAll live old new → ClosesAll (ended_orders action live) old new
+close_day_closes action live old new is closes =
+    subst (λ (a : Action). ClosesAll (ended_orders a live) old new) (sym is) (subst (λ (os : List LiveOrder). ClosesAll os old new) (sym (all_end live)) closes)
