@@ -32,7 +32,8 @@ pub fn write_header(policy: &Policy) -> [u8; RECORD_SIZE]
 pub fn write_header_3(policy: &Policy, day: AuditDay) -> [u8; RECORD_SIZE]
     ensures bytes { result ≡ dated_bytes policy.now day }
     ensures fields { LiesIn dated_header (dated_contents policy.now day) result }
-    ensures read_back { (behind : List ℕ) → version_of (result ++ behind) ≡ versions.Three day }
+    ensures read_back { (behind : List ℕ)
+        → version_of (result ++ behind) ≡ versions.Three day }
     ensures fits { DayFits (versions.Three day) }
 {
     whole(dated_draft(policy, day).as_slice())

@@ -7,6 +7,7 @@ ghost use Rattle.gx_clock.specs.Moments.{first_moment, last_shown};
 ghost use Rattle.gx_clock.specs.Moments.{IsShown};
 
 use crate::moments::{LAST_SHOWN, first_moment, moment_at};
+use crate::now::ClockReading;
 use crate::offset::UtcOffset;
 use gx_units::Moment;
 use std::marker::Model;
@@ -58,7 +59,8 @@ impl DayClock {
     pub fn begin<R: Clock>(rt: &R, offset: UtcOffset, last: Moment) -> DayClock
         ensures { min last last_shown ≤ result.start }
     {
-        DayClock::at(offset, rt.since_1970().ok(), Instant::now(rt).ok(), last)
+        let reading = ClockReading::take(rt);
+        DayClock::at(offset, reading.since, reading.begun, last)
     }
 
     /// The moment at a reading of the monotonic clock. Where that can't be read, the latest that was shown.
