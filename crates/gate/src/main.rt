@@ -11,6 +11,7 @@ mod ends;
 mod files;
 mod keeping;
 mod limits;
+mod report;
 mod showing;
 mod starts;
 mod state;
@@ -46,6 +47,7 @@ use gx_shared::{Kept, Served, serve, serve_journaled};
 use gx_units::{Moment, OutOfMemory};
 use keeping::{Day, JournalDevice, look_back, open_journal, take_up, tell_cut};
 use limits::places_for;
+use report::report;
 use showing::show_under;
 use starts::{Start, audit_version};
 use state::state;
@@ -580,6 +582,7 @@ fn run<'a>(rt: &HostRuntime, asked: Asked<'a>) -> Result<ExitCode, Ended<'a>> {
         Asked::Check(files) => return check(rt, files),
         Asked::Show(files, wanted, shape) => return show(rt, files, wanted, shape),
         Asked::State(files, asked) => return state(rt, files, asked),
+        Asked::Report(files, form) => return report(rt, files, form),
     }
     Ok(ExitCode::SUCCESS)
 }

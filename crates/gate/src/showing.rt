@@ -4,9 +4,14 @@ ghost use Rattle.std.specs.Prelude.{◌^◌, ◌<◌};
 
 use crate::ending::{Ended, Place};
 use crate::files::{Content, bytes_of};
+use gx_audit::endings_of;
 use gx_clock::TimeOfDay;
 use gx_command_line::{Shape, TableForm, Wanted};
+use gx_core::Gate;
+use gx_desk::Action;
 use gx_devices::Counted;
+use gx_endings::endings::Ending;
+use gx_history::record::{Record, Request, Step, Verdict};
 use gx_policy::Policy;
 use gx_server::Noted;
 use gx_shortened::Shortened;
@@ -15,6 +20,7 @@ use gx_show::{
     found_in_audit, is_known_in_capitals, write_records,
 };
 use gx_units::OutOfMemory;
+use std::alloc::Global;
 use std::io;
 use std::process::ExitCode;
 
@@ -93,16 +99,48 @@ fn style_of(shape: Shape) -> Style {
     }
 }
 
+/// Whether the record is a granted Kill or Close Day.
+fn is_ending(record: &Record) -> bool {
+    let shown = record.content();
+    match (&shown.verdict, &shown.step) {
+        (Verdict::Granted, Step::Asked(asked)) => match &asked.request {
+            Request::Command(command) => {
+                matches!(command.action, Action::Kill(_) | Action::CloseDay)
+            }
+            _ => false,
+        },
+        _ => false,
+    }
+}
+
+/// What Kills and Close Days ended, where that is shown and there are any among the records.
+fn endings_for(
+    alloc: Global,
+    policy: &Policy,
+    audit: &[u8],
+    style: &Style,
+    records: &[Record],
+) -> Result<Vec<Ending>, OutOfMemory> {
+    let are_shown = style.has_words || style.form != ShownForm::Text;
+    if are_shown && records.iter().any(is_ending) {
+        return endings_of::<Gate>(alloc, policy, audit);
+    }
+    Ok(Vec::new(alloc))
+}
+
 /// Writes the records, and tells the number of the first that is none: the status that says whether there is one.
 fn write_found<'a>(
     rt: &HostRuntime,
     policy: &Policy,
+    audit: &[u8],
     style: &Style,
     found: &AuditRecords,
 ) -> Result<ExitCode, Ended<'a>> {
     let mut writer = Counted::new(Noted::new(io::writer(rt)));
     let records = found.records.as_slice();
-    if let Err(fault) = write_records(rt.alloc(), policy, style, records, &mut writer) {
+    let endings = endings_for(rt.alloc(), policy, audit, style, records)?;
+    let endings = endings.as_slice();
+    if let Err(fault) = write_records(rt.alloc(), policy, style, records, endings, &mut writer) {
         let cause = writer.into_inner().cause;
         return Err(Ended::of_writing(fault, Place::Output, cause));
     }
@@ -138,7 +176,7 @@ fn show_chosen<'a>(
         Ok(found) => found,
         Err(fault) => return tell_unfound(rt, fault),
     };
-    write_found(rt, policy, style, &found)
+    write_found(rt, policy, audit, style, &found)
 }
 
 /// Shows the records of the audit in this file that are wanted: the status that says what the audit is, or that a name is

@@ -36,7 +36,8 @@ fn told(alloc: Global, gate: &Gate, asked: StateAsked) -> Result<Vec<u8>, OutOfM
     }
 }
 
-fn write<'a>(rt: &HostRuntime, text: &[u8], status: u8) -> Result<ExitCode, Ended<'a>> {
+/// Writes the text on standard output.
+pub(crate) fn write<'a>(rt: &HostRuntime, text: &[u8], status: u8) -> Result<ExitCode, Ended<'a>> {
     match io::writer(rt).write_all(text) {
         Ok(()) => Ok(ExitCode::from(status)),
         Err(error) => Err(Ended::unwritten(Place::Output, error)),
@@ -44,7 +45,7 @@ fn write<'a>(rt: &HostRuntime, text: &[u8], status: u8) -> Result<ExitCode, Ende
 }
 
 /// Tells what is wrong with an audit, as its check does.
-fn tell_fault<'a>(rt: &HostRuntime, fault: AuditFault) -> Result<ExitCode, Ended<'a>> {
+pub(crate) fn tell_fault<'a>(rt: &HostRuntime, fault: AuditFault) -> Result<ExitCode, Ended<'a>> {
     let told = match told_of_fault(rt.alloc(), fault) {
         Ok(told) => told,
         Err(fault) => return Err(Ended::of_writing(fault, Place::Output, None)),

@@ -115,7 +115,7 @@ pub(crate) fn tell_checks(
 fn put_found(alloc: Global, out: &mut Told, policy: &Policy, found: &AuditRecords, limits: Limits) {
     let mut writer = Counted::new(Sips::new(alloc, limits));
     let records = found.records.as_slice();
-    let ended = write_records(alloc, policy, &Style::PLAIN, records, &mut writer);
+    let ended = write_records(alloc, policy, &Style::PLAIN, records, &[], &mut writer);
     let shown = writer.into_inner().taken;
     put_shown(out, shown.as_slice(), ended.err())
 }

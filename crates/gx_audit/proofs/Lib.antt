@@ -7,3 +7,4 @@ pub mod Whole
 pub mod Journals
 pub mod Pieces
 pub mod Days
+pub mod Watching

@@ -3,3 +3,4 @@ pub mod Replaying
 pub mod Telling
 pub mod Resuming
 pub mod Beginning
+pub mod Endings

@@ -8,24 +8,25 @@ ghost use Rattle.gx_audit.specs.Replaying.{IsRecordsFault};
 ghost use Rattle.gx_audit_bytes.specs.Headers.{front_of};
 ghost use Rattle.gx_audit_bytes.specs.Versions.{version_of};
 
-use crate::checking::{check_record, record_at, records_start};
+use crate::checking::{check_watched, record_at, records_start};
 use crate::fault::AuditFault;
-use crate::places::bytes_at;
 use gx_answers::AccessGate;
-use gx_audit_bytes::{AuditVersion, RECORD_SIZE, read_record_in};
+use gx_audit_bytes::{AuditVersion, RECORD_SIZE};
 use gx_policy::Policy;
-use gx_units::Moment;
+use gx_records::{NoWatch, Watches};
 use std::alloc::Global;
 
-/// Makes the steps of the first records from this place on, so many at most, on a new gate.
-fn follow_first<G: AccessGate>(
+/// Makes the steps of the first records from this place on, so many at most, on a new gate, while the watcher looks on.
+fn follow_first<G: AccessGate, W: Watches<G>>(
     gate: &mut G,
+    watcher: &mut W,
     version: AuditVersion,
     audit: &[u8],
     start: usize,
     most: u64,
 ) -> Result<(), AuditFault>
     requires new { (G.seen gate.old).records ≡ [] }
+    requires saw { W.saw watcher.old (G.seen gate.old).policy [] }
     requires version { version_of audit.now ≡ version }
     requires within { start ≤ length audit.now }
     requires front { front_of version (G.seen gate.old).policy ++ drop start audit.now
@@ -34,6 +35,8 @@ fn follow_first<G: AccessGate>(
     ensures legal { OnOk result (IsLegal (G.seen gate.old).policy (G.seen gate.new).records) }
     ensures first { OnOk result
         (AreFirst (G.seen gate.old).policy most audit.now (G.seen gate.new).records) }
+    ensures saw { OnOk result
+        (W.saw watcher.new (G.seen gate.old).policy (G.seen gate.new).records) }
     ensures fault { IfErr result (λ e. IsRecordsFault (G.seen gate.old).policy audit.now e) }
 {
     let mut at = start;
@@ -43,7 +46,7 @@ fn follow_first<G: AccessGate>(
         if gate.length() >= most {
             return Ok(());
         }
-        match check_record(gate, version, &record_at(audit, at)) {
+        match check_watched(gate, watcher, version, &record_at(audit, at)) {
             Ok(()) => at += RECORD_SIZE,
             Err(fault) => return Err(fault),
         }
@@ -59,7 +62,6 @@ fn follow_first<G: AccessGate>(
 /// # Errors
 ///
 /// As of [`check_audit`](crate::check_audit); `Truncated` only where the bytes are too few for a header.
-#[tactic(auto, using(crate::proofs::Walking::answer_of_records))]
 pub fn replay_first<G: AccessGate>(
     alloc: Global,
     policy: &Policy,
@@ -73,32 +75,41 @@ pub fn replay_first<G: AccessGate>(
     // The fault is what the check of the whole audit answers.
     ensures fault { IfErr result (λ e. IsAnswer policy.now audit.now (Err e)) }
 {
+    replay_watched(alloc, policy, audit, most, &mut NoWatch)
+}
+
+/// The gate as [`replay_first`] gives it. The watcher looks on at each of its records.
+///
+/// # Errors
+///
+/// As of [`replay_first`], and `OutOfMemory` where the watcher was refused its memory.
+#[tactic(auto, using(crate::proofs::Walking::answer_of_records))]
+pub fn replay_watched<G: AccessGate, W: Watches<G>>(
+    alloc: Global,
+    policy: &Policy,
+    audit: &[u8],
+    most: u64,
+    watcher: &mut W,
+) -> Result<G, AuditFault>
+    requires saw { W.saw watcher.old policy.now [] }
+    ensures policy { IfOk result (λ gate. (G.seen gate).policy ≡ policy.now) }
+    ensures legal { IfOk result (λ gate. IsLegal policy.now (G.seen gate).records) }
+    ensures first { IfOk result
+        (λ gate. AreFirst policy.now most audit.now (G.seen gate).records) }
+    ensures saw { IfOk result (λ gate. W.saw watcher.new policy.now (G.seen gate).records) }
+    // The fault is what the check of the whole audit answers.
+    ensures fault { IfErr result (λ e. IsAnswer policy.now audit.now (Err e)) }
+{
     let version = AuditVersion::of(audit);
     let start = records_start(policy, version, audit)?;
     let Ok(mut gate) = G::open(alloc, policy) else {
         return Err(AuditFault::OutOfMemory);
     };
-    match follow_first(&mut gate, version, audit, start, most) {
+    match follow_first(&mut gate, watcher, version, audit, start, most) {
         Ok(()) => Ok(gate),
         Err(fault) => {
             gate.close();
             Err(fault)
         }
     }
-}
-
-/// How many of an audit's first records show no later moment than this, in nanoseconds past midnight: in a legal day these
-/// are all that do.
-pub fn count_until(audit: &[u8], moment: Moment) -> u64 {
-    let version = AuditVersion::of(audit);
-    for number in 1..u64::MAX {
-        let Some(bytes) = bytes_at(audit, number) else {
-            return number - 1;
-        };
-        match read_record_in(version, &bytes) {
-            Some(record) if record.content().moment > moment => return number - 1,
-            _ => {}
-        }
-    }
-    u64::MAX
 }

@@ -18,6 +18,7 @@ use gx_audit_bytes::{
 };
 use gx_history::record::{RecordData, Step};
 use gx_policy::Policy;
+use gx_records::{NoWatch, Watches};
 use std::alloc::Global;
 
 /// Whether the bytes are the audit of a legal day under the policy: how many records there are, or the first fault. Bytes
@@ -217,6 +218,28 @@ pub fn check_record<G: AccessGate>(
     ensures fault { IfErr result (λ e.
         IsRecordFault version (G.seen gate.old).policy (G.seen gate.old).records bytes.now e) }
 {
+    check_watched(gate, &mut NoWatch, version, bytes)
+}
+
+/// Checks that these bytes are the gate's next record in this version, as [`check_record`] does, while the watcher looks on.
+pub(crate) fn check_watched<G: AccessGate, W: Watches<G>>(
+    gate: &mut G,
+    watcher: &mut W,
+    version: AuditVersion,
+    bytes: &[u8; RECORD_SIZE],
+) -> Result<(), AuditFault>
+    requires saw { W.saw watcher.old (G.seen gate.old).policy (G.seen gate.old).records }
+    ensures policy { (G.seen gate.new).policy ≡ (G.seen gate.old).policy }
+    ensures legal { IsLegal (G.seen gate.old).policy (G.seen gate.old).records }
+    ensures ok { OnOk result
+        (IsOneMore version (G.seen gate.old).records (G.seen gate.new).records bytes.now) }
+    ensures len { OnOk result (length (G.seen gate.new).records
+        ≡ length (G.seen gate.old).records + 1) }
+    ensures saw { OnOk result
+        (W.saw watcher.new (G.seen gate.new).policy (G.seen gate.new).records) }
+    ensures fault { IfErr result (λ e.
+        IsRecordFault version (G.seen gate.old).policy (G.seen gate.old).records bytes.now e) }
+{
     // that the records so far are those of a legal day
     gate.is_legal();
     let number = gate.length() + 1;
@@ -227,7 +250,42 @@ pub fn check_record<G: AccessGate>(
     if shown.number != number {
         return Err(AuditFault::BadRecord(number));
     }
-    follow(gate, version, number, &shown, bytes)
+    follow_watched(gate, watcher, version, number, &shown, bytes)
+}
+
+/// Makes the step of the record that these bytes show, as [`follow`] does, while the watcher looks on.
+#[tactic(auto, using(crate::proofs::Watching::stands_last, crate::proofs::Watching::is_expected))]
+fn follow_watched<G: AccessGate, W: Watches<G>>(
+    gate: &mut G,
+    watcher: &mut W,
+    version: AuditVersion,
+    number: u64,
+    shown: &RecordData,
+    bytes: &[u8; RECORD_SIZE],
+) -> Result<(), AuditFault>
+    requires saw { W.saw watcher.old (G.seen gate.old).policy (G.seen gate.old).records }
+    requires number { number ≡ length (G.seen gate.old).records + 1 }
+    requires numbered { shown.now.number ≡ number }
+    requires shows { record_of version bytes.now ≡ Some shown.now }
+    requires askable { IsAskableStep shown.now.step }
+    ensures policy { (G.seen gate.new).policy ≡ (G.seen gate.old).policy }
+    ensures ok { OnOk result
+        (IsOneMore version (G.seen gate.old).records (G.seen gate.new).records bytes.now) }
+    ensures len { OnOk result (length (G.seen gate.new).records
+        ≡ length (G.seen gate.old).records + 1) }
+    ensures saw { OnOk result
+        (W.saw watcher.new (G.seen gate.new).policy (G.seen gate.new).records) }
+    ensures fault { IfErr result (λ e.
+        IsRecordFault version (G.seen gate.old).policy (G.seen gate.old).records bytes.now e) }
+{
+    let Ok(()) = watcher.before(gate, shown) else {
+        return Err(AuditFault::OutOfMemory);
+    };
+    follow(gate, version, number, shown, bytes)?;
+    let Ok(()) = watcher.after(gate, shown) else {
+        return Err(AuditFault::OutOfMemory);
+    };
+    Ok(())
 }
 
 /// Makes the step of the record that these bytes show, and checks that it leaves this record.

@@ -8,6 +8,7 @@
 mod beginning;
 mod checking;
 mod day;
+mod endings;
 mod explaining;
 mod fault;
 mod keeping;
@@ -17,12 +18,14 @@ mod resuming;
 mod telling;
 mod writing_fault;
 
-pub use beginning::{count_until, replay_first};
+pub use beginning::{replay_first, replay_watched};
 pub use checking::{check_audit, check_record, is_of_other_policy, record_at};
 pub use day::{audit_of, header_of};
+pub use endings::endings_of;
 pub use explaining::more_of_audit;
 pub use fault::AuditFault;
 pub use keeping::write_audit;
+pub use places::{count_of, count_until, moment_at};
 pub use replaying::replay;
 pub use resuming::{Resumed, resume};
 pub use telling::{AuditAnswer, told_of_audit, told_of_fault};

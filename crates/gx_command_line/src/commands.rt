@@ -387,7 +387,7 @@ pub(crate) const ORDERS: &str = "orders";
 const STATE_LINES: &str =
     "The first line has the day, its last record and that one's moment, whether the day is closed, and how many records
 may still come. Then there is a line for each user who is logged in, and for each account: its live orders, their
-open shares on each side, and where it is killed by whom. Then, rule by rule in the file's order, its limit, that of the
+open shares on each side, the shares that it bought and sold and their value, and where it is killed by whom. Then, rule by rule in the file's order, its limit, that of the
 file and who set it last; what each account, or all together, have used of it and what is left; and the stocks that it
 lists, and who put them there. Values are in dollars. A net rule has a line for each account and stock with anything.
 With --json all of it is one object, where values are in ten-thousandths of a dollar.
@@ -425,6 +425,40 @@ const STATE: Subcommand = Subcommand {
         DAY_POLICY,
     ],
     lines: Some(STATE_LINES),
+};
+
+/// The value of `--format` that a report alone has.
+pub(crate) const HTML: &str = "html";
+
+/// What `gate report --help` says of the tables.
+const REPORT_TABLES: &str =
+    "Tables: the day; each account, what its users were granted and denied, what it executed and whether it is killed; the most
+that was used of each gross and net limit, behind which record it first was, the limit then, and behind which record
+more than the limit was first used, if ever; what was executed by account and stock; each command of an officer, with what
+stood before it and the orders that it ended; denials by rule and account; orders, fills and denials in 48 spans of the day.
+Values are in dollars; in JSON they are in ten-thousandths of a dollar. The page of --format html has charts too, and
+needs nothing from elsewhere. Nothing is told of an audit that is none of a legal day: its fault is, as by `gate check`,
+with status 4.";
+
+const REPORT: Subcommand = Subcommand {
+    name: "report",
+    about: "Reports an audit's day: what accounts did, the most that was used of limits, commands and denials",
+    arguments: &[
+        Argument {
+            name: "audit",
+            value: "AUDIT",
+            kind: Kind::Word,
+            help: "The audit, or the journal of a server; its last record may be cut",
+        },
+        Argument {
+            name: FORMAT,
+            value: "FORMAT",
+            kind: Kind::Choice(&[TEXT, CSV, JSON, HTML]),
+            help: "How it is written: as text, as it is without this, as CSV, as one object of JSON, or as a page of HTML",
+        },
+        DAY_POLICY,
+    ],
+    lines: Some(REPORT_TABLES),
 };
 
 /// What `gate desk --help` says of the password and of the lines.
@@ -593,7 +627,7 @@ fn with_subcommand<'a>(
 pub(crate) fn command_line<'a>(alloc: Global) -> Result<Command<'a>, AllocError> {
     let mut gate = program(alloc);
     for asked in &[
-        PIPE, SERVE, SCRIPT, POLICY, MIGRATE, CHECK, SHOW, STATE, DESK,
+        PIPE, SERVE, SCRIPT, POLICY, MIGRATE, CHECK, SHOW, STATE, REPORT, DESK,
     ] {
         gate = with_subcommand(alloc, gate, asked)?;
     }

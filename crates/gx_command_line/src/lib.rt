@@ -9,8 +9,8 @@ mod words;
 
 use clap::{ArgMatches, Error};
 use commands::{
-    AT, AUDIT_VERSION, CSV, FORMAT, FROM, JSON, LOG, MIDNIGHT, ORDERS, THIRD, TO, UNTIL, WORDS,
-    command_line,
+    AT, AUDIT_VERSION, CSV, FORMAT, FROM, HTML, JSON, LOG, MIDNIGHT, ORDERS, THIRD, TO, UNTIL,
+    WORDS, command_line,
 };
 use gx_clock::{TimeOfDay, UtcOffset};
 use gx_text::Form;
@@ -125,6 +125,19 @@ pub enum TableForm {
     Json,
 }
 
+/// The form in which a day is reported.
+#[derive(Clone, Copy, Debug, PartialEq, Eq)]
+pub enum PageForm {
+    /// As tables in columns.
+    Text,
+    /// As CSV, a line a row.
+    Csv,
+    /// As one object of JSON.
+    Json,
+    /// As a page of HTML, with charts.
+    Html,
+}
+
 /// How records of an audit are shown.
 #[derive(Clone, Copy, Debug)]
 pub struct Shape {
@@ -175,6 +188,8 @@ pub enum Asked<'a> {
     Show(AuditFiles<'a>, Wanted<'a>, Shape),
     /// `gate state`: to tell what stands in an audit's day.
     State(AuditFiles<'a>, StateAsked),
+    /// `gate report`: to report an audit's day.
+    Report(AuditFiles<'a>, PageForm),
     /// `gate desk`: to be a terminal of a gate.
     Desk(Desk<'a>),
 }
@@ -295,6 +310,16 @@ fn form_of_table<'a>(given: &ArgMatches<'a>) -> TableForm {
     }
 }
 
+/// The form in which a day is reported.
+fn form_of_page<'a>(given: &ArgMatches<'a>) -> PageForm {
+    match given.get_str(FORMAT) {
+        Some(CSV) => PageForm::Csv,
+        Some(JSON) => PageForm::Json,
+        Some(HTML) => PageForm::Html,
+        _ => PageForm::Text,
+    }
+}
+
 /// To show records of an audit.
 fn show_options<'a>(given: &ArgMatches<'a>) -> Option<Asked<'a>> {
     let shape = Shape {
@@ -340,6 +365,7 @@ fn asked_for<'a>(given: &ArgMatches<'a>, words: &'a [String]) -> Option<Asked<'a
         "check" => Some(Asked::Check(audit_files(given)?)),
         "show" => Some(show_options(given)?),
         "state" => Some(Asked::State(audit_files(given)?, state_asked(given, AT, ORDERS, JSON)?)),
+        "report" => Some(Asked::Report(audit_files(given)?, form_of_page(given))),
         "desk" => Some(Asked::Desk(desk_options(given, words)?)),
         _ => None,
     }

@@ -27,7 +27,7 @@ use Rattle.gx_history.specs.declared.record.RecordData.{RecordData}
 use Rattle.gx_history.specs.Executions.{Execution, executions}
 use Rattle.gx_history.specs.Figures.{counts_account, done_of_chosen, done_value, live_value, of_accounts, on_side, open_of_chosen, open_value, other_side, positions}
 use Rattle.gx_history.specs.InForce.{is_entitled}
-use Rattle.gx_history.specs.Live.{live}
+use Rattle.gx_history.specs.Live.{live, live_numbered}
 use Rattle.gx_history.specs.LiveOrders.{shares_open}
 use Rattle.gx_history.specs.Verdicts.{IsLegal, day_limit}
 use Rattle.gx_orders.specs.LiveOrders.{OrdersData}
@@ -45,12 +45,21 @@ use Rattle.gx_ledger.specs.Standing.{GivesNet, GivesSums, counted_with, net_sums
 use Rattle.gx_ledger.specs.StandsFor.{sums_of}
 use Rattle.gx_ledger.specs.Tallies.{asks_of, count_of}
 use Rattle.gx_keepers.specs.declared.keepers.Keepers.{Keepers}
+use Rattle.gx_slab.specs.Slabs.{of_account}
 use Rattle.gx_records.specs.State.{gross_of, gross_of_rule, gross_used, limit_in_force, net_of, net_of_rule, net_used}
 use Rattle.gx_core.specs.Kept.{IsKept}
 use Rattle.gx_core.specs.Used.{AreNetSmall, AreSmall, gross_at, gross_in, net_in}
 
 pub live_is_known : (policy : PolicyData) (history : List RecordData) (k : Keepers) → IsKept policy history k → k.orders.live ≡ live policy history
 live_is_known policy history k kept = ap (λ (orders : OrdersData). orders.live) kept.in_force.orders
+
+pub orders_of_account_are_known : (policy : PolicyData) (history : List RecordData) (k : Keepers) (account : AccountName) → IsKept policy history k
+    → of_account account k.orders.live ≡ of_account account (live policy history)
+orders_of_account_are_known policy history k account kept = ap (of_account account) (live_is_known policy history k kept)
+
+pub order_is_known : (policy : PolicyData) (history : List RecordData) (k : Keepers) (number : ℕ) → IsKept policy history k
+    → live_numbered k.orders.live number ≡ live_numbered (live policy history) number
+order_is_known policy history k number kept = ap (λ (orders : List LiveOrder). live_numbered orders number) (live_is_known policy history k kept)
 
 pub limit_is_known : (policy : PolicyData) (history : List RecordData) (k : Keepers) (name : RuleId) → IsKept policy history k
     → limit_in k.rules name ≡ limit_in_force policy history name

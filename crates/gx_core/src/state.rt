@@ -6,6 +6,7 @@ ghost use Rattle.gx_core.specs.Used.{gross_at, gross_in, net_in, AreNetSmall, Ar
 
 use crate::gate::Gate;
 use gx_history::facts::StockSide;
+use gx_history::live_order::LiveOrder;
 use gx_ledger::sums::{NetSums, Sums};
 use gx_policy::{FileRule, RuleKind};
 use gx_records::ShowsState;
@@ -74,6 +75,16 @@ impl ShowsState for Gate {
     #[tactic(auto, using(crate::proofs::Standing::live_is_known))]
     fn live_orders(&self) -> LiveOrders<'_> {
         self.keepers.orders.live()
+    }
+
+    #[tactic(auto, using(crate::proofs::Standing::orders_of_account_are_known))]
+    fn live_orders_of(&self, account: AccountName) -> LiveOrders<'_> {
+        self.keepers.orders.live_of(account)
+    }
+
+    #[tactic(auto, using(crate::proofs::Standing::order_is_known))]
+    fn live_order(&self, number: u64) -> Option<LiveOrder> {
+        self.keepers.orders.numbered(number)
     }
 
     fn is_day_closed(&self) -> bool {

@@ -1,3 +1,4 @@
 pub mod Acts
 pub mod Callers
+pub mod Endings
 pub mod Matching

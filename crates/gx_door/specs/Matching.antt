@@ -1,6 +1,7 @@
 -- What matching steps add, and why no more were made.
 use Rattle.std.specs.Prelude.{◌≡◌, ◌≤◌, ℕ, List, [], ◌∷◌, ◌++◌, map, length, IsTrue, None, is_some}
 use mathlib.Core.List.{IsPrefix}
+use Rattle.gx_policy.specs.declared.policy.PolicyData.{PolicyData}
 use Rattle.gx_history.specs.declared.record.RecordData.{RecordData}
 use Rattle.gx_answers.specs.declared.outcome.Outcome.{Outcome}
 use Rattle.gx_answers.specs.Gates.{GateData, matched_by}
@@ -8,6 +9,8 @@ use Rattle.gx_answers.specs.Matches.{matching_of}
 use Rattle.gx_pass.specs.declared.view.Holds.{Holds}
 use Rattle.gx_pass.specs.Views.{mine}
 use Rattle.gx_door.specs.Acts.{IsToldFull}
+use Rattle.gx_door.specs.Endings.{ended_by, sums_of}
+use Rattle.gx_door.specs.declared.ended.Ended.{Ended}
 use Rattle.gx_door.specs.declared.matched.MatchEnd.{MatchEnd}
 use Rattle.gx_door.specs.declared.matched.MatchEnd.TheVariants as ends
 
@@ -23,12 +26,13 @@ pub record Matches (was is : Holds) (moment made : ℕ) : Type 0 where
   pub begins : IsPrefix was.front earlier
   pub adds : AddsMatches moment made earlier is.front
 
--- the record stands behind all that had been met, and these behind it; it is one more of the pass's own, and they are not
-pub record Turns (was is : Holds) (r : RecordData) (moment made : ℕ) : Type 0 where
+-- the record stands behind all that had been met, and these behind it; it is one more of the pass's own, and they are not; and so much it ended itself
+pub record Turns (policy : PolicyData) (was is : Holds) (r : RecordData) (ended : Ended) (moment made : ℕ) : Type 0 where
   pub earlier : List RecordData
   pub begins : IsPrefix was.front earlier
   pub adds : AddsMatches moment made (earlier ++ r ∷ []) is.front
   pub own : mine is ≡ mine was ++ r ∷ []
+  pub ends : ended ≡ sums_of (ended_by policy earlier r)
 
 -- of at most so many matching steps so many were made, at a gate that is this behind them, and this is why no more
 abbrev pub EndsSo : MatchEnd → GateData → ℕ → ℕ → Type 0

@@ -1,7 +1,7 @@
 //! Who asks to log in.
 
 ghost use Rattle.std.specs.Prelude.{◌≡◌, option_copied};
-ghost use Rattle.gx_policy.specs.People.{user_in};
+ghost use Rattle.gx_policy.specs.People.{is_officer, role_in, user_in};
 ghost use Rattle.gx_door.specs.Callers.{caller_of};
 
 use gx_policy::{Policy, Role, User};
@@ -23,6 +23,16 @@ fn user_in<'a>(users: &'a [User], name: UserName) -> Option<&'a User>
     ensures { option_copied result ≡ user_in users.now name }
 {
     users.iter().find(|user| user.name == name)
+}
+
+/// Whether the policy has an officer of this name. Commands are granted to officers alone.
+pub fn is_officer(policy: &Policy, user: UserName) -> bool
+    ensures { result ≡ is_officer (role_in policy.now.users user) }
+{
+    match user_in(policy.users(), user) {
+        Some(user) => matches!(user.role, Role::Officer(..)),
+        None => false,
+    }
 }
 
 impl Caller {

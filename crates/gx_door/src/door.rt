@@ -137,7 +137,8 @@ pub trait Door {
         ensures adds { added result.0 ≡ added pass + result.1.made };
 
     /// A request on the pass's line, and behind it matching steps, as [`Door::match_some`] makes them: nobody comes between.
-    /// Where the request is refused, none is made.
+    /// Where the request is refused, none is made. Tells too what the request's own record ended: the live orders in front of
+    /// it that a granted Kill or Close Day ends, and how many of their shares were open.
     fn turn<R: Wait + Dial>(
         &self,
         rt: &R,
@@ -150,9 +151,9 @@ pub trait Door {
         requires clock { R.shown moment }
         requires first { IsTrue (has_its_first request) }
         ensures later { IsLater policy (held pass) (held result.0) }
-        ensures done { IfOk result.1 (λ t. Turns (held pass) (held result.0)
+        ensures done { IfOk result.1 (λ t. Turns policy (held pass) (held result.0)
             (left_by (asked_on (held pass).line user request moment) t.outcome)
-            moment t.matched.made) }
+            t.ended moment t.matched.made) }
         ensures ended { IfOk result.1 (λ t. EndsSo t.matched.end
             (gate_met policy (held result.0)) t.matched.made most) }
         ensures refused { OnErr result.1 (mine (held result.0) ≡ mine (held pass)) }

@@ -5,13 +5,15 @@
 mod caller;
 mod dial;
 mod door;
+mod ended;
 mod fault;
 mod issuer;
 mod matched;
 
-pub use caller::Caller;
+pub use caller::{Caller, is_officer};
 pub use dial::Dial;
 pub use door::Door;
+pub use ended::Ended;
 pub use fault::PullFault;
 pub use issuer::Issuer;
 pub use matched::{MatchEnd, Matched, Turned};

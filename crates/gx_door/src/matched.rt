@@ -3,6 +3,7 @@
 ghost use Rattle.std.specs.Prelude.{◌≡◌, ◌↔◌, IsTrue};
 ghost use Rattle.gx_door.specs.declared.matched.MatchEnd.TheVariants as ends;
 
+use crate::ended::Ended;
 use gx_answers::{Outcome, StepFault};
 
 /// Why no more matching steps were made.
@@ -39,5 +40,7 @@ pub struct Matched {
 #[derive(Clone, Copy)]
 pub struct Turned {
     pub outcome: Outcome,
+    /// What the request's own record ended.
+    pub ended: Ended,
     pub matched: Matched,
 }

@@ -1,5 +1,5 @@
 -- The cells of a row, and their texts.
-use Rattle.std.specs.Prelude.{ℕ, Bool, true, false, List, [], ◌∷◌, Option, Some, None, codes, decimal}
+use Rattle.std.specs.Prelude.{ℕ, Bool, true, false, List, [], ◌∷◌, Option, Some, None, option_map, codes, decimal}
 use Rattle.std.specs.Option.{option_map_or}
 use Rattle.gx_units.specs.declared.names.AccountName.{AccountName}
 use Rattle.gx_units.specs.declared.names.Firm.{Firm}
@@ -17,6 +17,7 @@ use Rattle.gx_text.specs.declared.moments.Decimals.TheVariants as decimals
 use Rattle.gx_fields.specs.Reasons.{reason_words}
 use Rattle.gx_fields.specs.declared.cell.Beside.{Beside}
 use Rattle.gx_fields.specs.declared.cell.Cell.{Cell}
+use Rattle.gx_fields.specs.declared.cell.EndedOrders.{EndedOrders}
 use Rattle.gx_fields.specs.declared.cell.Cell.TheVariants as cells
 use Rattle.gx_fields.specs.declared.row.Row.{Row}
 use Rattle.gx_fields.specs.declared.row.RowKind.{RowKind}
@@ -68,6 +69,8 @@ cells_of row beside =
     cells.Number row.maker ∷
     cells.Number32 row.fill_shares ∷
     cells.Number32 row.fill_price ∷
+    cells.Number (option_map (λ (e : EndedOrders). e.orders) beside.ended) ∷
+    cells.Number (option_map (λ (e : EndedOrders). e.shares) beside.ended) ∷
     []
 
 -- the words of a kind

@@ -1,6 +1,6 @@
 //! The cells of a row, as they stand beside one another in a table.
 
-ghost use Rattle.std.specs.Prelude.{◌≡◌};
+ghost use Rattle.std.specs.Prelude.{◌≡◌, option_map};
 ghost use Rattle.gx_fields.specs.Cells.{cells_of};
 
 use crate::reasons::Reason;
@@ -11,7 +11,7 @@ use gx_policy::RuleName;
 use gx_units::{AccountName, Firm, Moment, RuleId, Symbol, Token, UserName};
 
 /// How many cells a row has.
-pub const CELLS: usize = 41;
+pub const CELLS: usize = 43;
 
 /// The names of the cells, in their order.
 pub const NAMES: [&str; CELLS] = [
@@ -56,7 +56,17 @@ pub const NAMES: [&str; CELLS] = [
     "maker",
     "fill_shares",
     "fill_price",
+    "ended_orders",
+    "ended_shares",
 ];
+
+/// Live orders that a Kill or a Close Day ended.
+#[derive(Clone, Copy, PartialEq, Eq)]
+pub struct EndedOrders {
+    pub orders: u64,
+    /// The shares that they had open.
+    pub shares: u64,
+}
 
 /// What is told beside the fields of a record.
 #[derive(Clone, Copy)]
@@ -67,6 +77,8 @@ pub struct Beside {
     pub reason: Option<Reason>,
     /// The reason of the Rejected that answers the denial.
     pub reject: Option<RejectReason>,
+    /// What the record ended, where it is a granted Kill or Close Day and that is known.
+    pub ended: Option<EndedOrders>,
 }
 
 /// A cell: nothing stands in it where its value is None.
@@ -95,6 +107,24 @@ pub enum Cell {
     Rule(Option<RuleName>),
     Reason(Option<Reason>),
     Reject(Option<RejectReason>),
+}
+
+fn orders_ended(ended: Option<EndedOrders>) -> Option<u64>
+    ensures { result ≡ option_map (λ (e : EndedOrders). e.orders) ended }
+{
+    match ended {
+        Some(ended) => Some(ended.orders),
+        None => None,
+    }
+}
+
+fn shares_ended(ended: Option<EndedOrders>) -> Option<u64>
+    ensures { result ≡ option_map (λ (e : EndedOrders). e.shares) ended }
+{
+    match ended {
+        Some(ended) => Some(ended.shares),
+        None => None,
+    }
 }
 
 /// The cells of a row, in the order of their names.
@@ -143,5 +173,7 @@ pub fn cells_of(row: &Row, beside: &Beside) -> [Cell; CELLS]
         Cell::Number(row.maker),
         Cell::Number32(row.fill_shares),
         Cell::Number32(row.fill_price),
+        Cell::Number(orders_ended(beside.ended)),
+        Cell::Number(shares_ended(beside.ended)),
     ]
 }

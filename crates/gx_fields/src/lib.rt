@@ -11,7 +11,7 @@ mod row_making;
 mod row_reading;
 mod texts;
 
-pub use cell::{Beside, CELLS, Cell, NAMES, cells_of};
+pub use cell::{Beside, CELLS, Cell, EndedOrders, NAMES, cells_of};
 pub use csv_lines::{csv_line, csv_names};
 pub use json_lines::json_line;
 pub use laws::csv_lines_are_read_back;

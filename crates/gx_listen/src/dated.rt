@@ -1,32 +1,49 @@
-//! The clock that a server hands its steps in by.
+//! The runtime of a server's connections: the clock that it hands its steps in by, and the log that it announces in.
 
 ghost use Rattle.std.specs.Prelude.{◌≤◌};
 ghost use Rattle.gx_clock.specs.Moments.{last_shown};
 
+use crate::announcing::tell_ended;
 use gx_clock::DayClock;
 use gx_door::Dial;
+use gx_lobby::Lobby;
+use gx_log::Log;
+use gx_serve::{Announces, EndedOrders};
 use gx_units::Moment;
+use std::alloc::Global;
 use std::io;
-use std::sync::Wait;
+use std::sync::{Arc, Wait};
 use std::thread::Threads;
 use std::time::{Clock, Duration};
 
-/// A runtime by whose clock a day goes on.
+/// A runtime by whose clock a day goes on, and in whose log it is told what commands ended.
 pub(crate) struct Dated<'x, R> {
     rt: &'x R,
+    alloc: Global,
     clock: &'x DayClock,
+    log: &'x Arc<Log, Global>,
 }
 
 impl<'x, R> Dated<'x, R> {
-    /// The runtime, by the clock of a day.
-    pub(crate) fn new(rt: &'x R, clock: &'x DayClock) -> Dated<'x, R> {
-        Dated { rt, clock }
+    /// The runtime, by the clock of this lobby's day, and with its log.
+    pub(crate) fn new(rt: &'x R, alloc: Global, lobby: &'x Lobby) -> Dated<'x, R> {
+        Dated {
+            rt,
+            alloc,
+            clock: &lobby.clock,
+            log: &lobby.log,
+        }
     }
 }
 
 impl<R> Drop for Dated<'_, R> {
     fn drop(self) {
-        let Dated { rt: _, clock: _ } = self;
+        let Dated {
+            rt: _,
+            alloc: _,
+            clock: _,
+            log: _,
+        } = self;
     }
 }
 
@@ -56,5 +73,11 @@ impl<R: Clock> Dial for Dated<'_, R> {
         ensures from { self.now.clock.now.start ≤ result }
     {
         self.clock.now(self.rt)
+    }
+}
+
+impl<R: Wait> Announces for Dated<'_, R> {
+    fn announce(&self, orders: &EndedOrders) {
+        tell_ended(self.rt, self.alloc, self.log, orders);
     }
 }

@@ -3,6 +3,7 @@
 //! - `accepting`: connections are taken, and each has a place;
 //! - `visiting`: a connection from its beginning to its end;
 //! - `serving`: the threads of a server;
+//! - `announcing`: what commands ended, as the log tells it;
 //! - `telling`: the log of the day's records, as they are made;
 //! - `ending`, `fault`: how a server ended.
 //!
@@ -10,6 +11,7 @@
 #![tactic(auto)]
 
 mod accepting;
+mod announcing;
 mod dated;
 mod ending;
 mod fault;

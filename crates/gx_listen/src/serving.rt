@@ -298,7 +298,7 @@ fn run<
 ) -> Result<(T, Ending), Unserved> {
     thread::scope(thread::scope_env(), rt, |scope| {
         let Ok(matcher) = (&*scope).spawn(move || match_on(
-            &Dated::new(rt, &lobby.clock),
+            &Dated::new(rt, alloc, lobby),
             door,
             lobby,
             pass,

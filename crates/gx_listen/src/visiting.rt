@@ -90,7 +90,7 @@ fn turn_stranger_away<D: Door, A: Admits<D>, R: Wait + Clock>(
         return Gone::Quietly;
     }
     turn_away(
-        &Dated::new(hall.rt, &hall.lobby.clock),
+        &Dated::new(hall.rt, hall.alloc, hall.lobby),
         hall.alloc,
         hall.door,
         &hall.lobby.stop,
@@ -100,7 +100,7 @@ fn turn_stranger_away<D: Door, A: Admits<D>, R: Wait + Clock>(
     )
 }
 
-/// Serves a user who has a line to his end. Answers why he was cut off, if he was.
+/// Serves a user who has a line to his end. What his commands ended is told in the log. Answers why he was cut off, if he was.
 fn serve_user<D: Door + Sync, A, R: Threads + Wait + Clock + Sync>(
     hall: &Hall<'_, D, A, R>,
     link: &Link<D::Ticket>,
@@ -111,7 +111,7 @@ fn serve_user<D: Door + Sync, A, R: Threads + Wait + Clock + Sync>(
 where
     D::Ticket: Send,
 {
-    let rt = &Dated::new(hall.rt, &hall.lobby.clock);
+    let rt = &Dated::new(hall.rt, hall.alloc, hall.lobby);
     let (_hung_up, listening) = converse(
         rt,
         hall.alloc,
@@ -149,7 +149,7 @@ where
     let Ok(chime) = hang_chime(hall, peer.number) else {
         return Gone::Quietly;
     };
-    let link = Link::new(&Dated::new(hall.rt, &hall.lobby.clock), pass, caller);
+    let link = Link::new(&Dated::new(hall.rt, hall.alloc, hall.lobby), pass, caller);
     let cut = serve_user(hall, &link, opening, &peer.stream, &chime);
     let farewell = link.farewell(hall.rt);
     hall.lobby.chimes.take_down(hall.rt, peer.number);

@@ -74,7 +74,7 @@ module _ (policy : PolicyData) (records : List RecordData) (i : ℕ) (r d : Reco
 -- ---- the sums of each row
 
 -- one more execution, counted where it is chosen
-shares_next : (made : List Execution) (e : Execution) (chosen : AccountName → OrderTerms → Bool)
+pub shares_next : (made : List Execution) (e : Execution) (chosen : AccountName → OrderTerms → Bool)
     → done_of_chosen (made ++ e ∷ []) chosen ≡ done_of_chosen made chosen + cond (chosen e.order.account e.order.terms) e.fill.shares 0
 unfolding done_of_chosen
 shares_next made e chosen =
@@ -89,7 +89,7 @@ shares_next made e chosen =
     by true = omega arith
     by false = refl
 
-value_next : (made : List Execution) (e : Execution) (chosen : AccountName → OrderTerms → Bool)
+pub value_next : (made : List Execution) (e : Execution) (chosen : AccountName → OrderTerms → Bool)
     → value_of_chosen (made ++ e ∷ []) chosen ≡ value_of_chosen made chosen + cond (chosen e.order.account e.order.terms) (value e.fill.shares e.fill.price) 0
 value_next made e chosen =
     ap (sum_by worth) (filter-append p made (e ∷ []))

@@ -65,7 +65,7 @@ none_more_known owners known knows = subst (KnowOrders owners) (sym (append-nil 
 
 -- a granted Enter
 pub entered_known : (policy : PolicyData) (r : RecordData) (user : UserName) (m : EnterOrder) (account : AccountName) (old new : Owners) → account_of policy user ≡ Some account
-    → IsOneMore r.number (record { user = user; token = m.token }) (record { account = account; buys = is_buy m.side }) old new
+    → IsOneMore r.number (record { user = user; token = m.token }) (record { account = account; stock = m.stock; buys = is_buy m.side }) old new
     → Learn old new (λ known. orders_made policy known r user (requests.Enter m))
 entered_known policy r user m account old new is more =
     λ known knows. subst (λ (found : Option AccountName). KnowOrders new (known ++ option_map_or (λ (a : AccountName). entered policy r user a m ∷ []) found [])) (sym is)

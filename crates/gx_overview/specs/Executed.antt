@@ -47,9 +47,9 @@ executed_row policy records a = executed_by (executions policy records) a.name
 abbrev pub no_executions : Account → ExecutedRow
 no_executions a = record { account = a.name; bought = record { shares = 0; value = 0 }; sold = record { shares = 0; value = 0 } }
 
--- whose order it is, and on which side
+-- whose order it is, in which stock and on which side
 abbrev pub owner_of : Order → Owner
-owner_of o = record { account = o.account; buys = is_buy o.terms.side }
+owner_of o = record { account = o.account; stock = o.terms.stock; buys = is_buy o.terms.side }
 
 -- with so many more shares at this price
 abbrev pub with_fill : Fill → Executed → Executed

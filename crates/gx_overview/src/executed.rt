@@ -38,7 +38,8 @@ const NOTHING: Executed = Executed {
 };
 
 impl Executed {
-    fn with_fill(self, fill: &Fill) -> Executed
+    /// With one more fill.
+    pub fn with_fill(self, fill: &Fill) -> Executed
         ensures { result ≡ with_fill fill.now self }
     {
         Executed {

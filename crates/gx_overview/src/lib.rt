@@ -7,5 +7,5 @@ pub mod accounts;
 pub mod commands;
 pub mod day;
 pub mod executed;
-mod owners;
+pub mod owners;
 pub mod rules;

@@ -13,14 +13,15 @@ use gx_history::live_order::UserToken;
 use gx_history::record::{Asked, RecordData, Request};
 use gx_ouch::{EnterOrder, ReplaceOrder};
 use gx_policy::{Policy, Role, User};
-use gx_units::{AccountName, OutOfMemory, Token, UserName};
+use gx_units::{AccountName, OutOfMemory, Symbol, Token, UserName};
 use indexmap::IndexMap;
 use std::alloc::Global;
 
-/// Whose order it is, and on which side.
+/// Whose order it is, in which stock and on which side.
 #[derive(Clone, Copy, PartialEq, Eq)]
 pub struct Owner {
     pub account: AccountName,
+    pub stock: Symbol,
     /// It is a buy.
     pub buys: bool,
 }
@@ -49,7 +50,7 @@ fn find_user(users: &[User], name: UserName) -> Option<&User>
 }
 
 /// The account that the user trades for, if he is known and trades.
-fn account_of(policy: &Policy, user: UserName) -> Option<AccountName>
+pub fn account_of(policy: &Policy, user: UserName) -> Option<AccountName>
     ensures { result ≡ account_of policy.now user }
 {
     match find_user(policy.users(), user) {
@@ -122,12 +123,12 @@ impl Owners {
             return Ok(());
         };
         let token = m.token;
-        let buys = m.side == b'B';
-        self.take_in(
-            shown.number,
-            UserToken { user, token },
-            Owner { account, buys },
-        )
+        let owner = Owner {
+            account,
+            stock: m.stock,
+            buys: m.side == b'B',
+        };
+        self.take_in(shown.number, UserToken { user, token }, owner)
     }
 
     /// Notes the order that a granted Replace makes.
@@ -148,6 +149,10 @@ impl Owners {
     }
 
     /// Notes the order that a granted request makes, if it makes one.
+    ///
+    /// # Errors
+    ///
+    /// `OutOfMemory` where the owners were refused their memory.
     pub fn note(
         &mut self,
         policy: &Policy,

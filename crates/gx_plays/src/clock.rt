@@ -3,6 +3,7 @@
 ghost use Rattle.std.specs.Prelude.{◌<◌};
 
 use gx_door::Dial;
+use gx_serve::{Announces, EndedOrders};
 use gx_units::Moment;
 use std::io;
 use std::sync::Wait;
@@ -148,4 +149,9 @@ impl<R> Dial for Timed<'_, R> {
         self.looks.add();
         self.clock.moment()
     }
+}
+
+/// A play tells what its peers are sent, and nothing of a log.
+impl<R> Announces for Timed<'_, R> {
+    fn announce(&self, _orders: &EndedOrders) {}
 }

@@ -11,7 +11,7 @@ use gx_door::{Caller, Dial, Door, Issuer};
 use gx_lobby::Chime;
 use gx_reception::{Admits, Opening, Reception};
 use gx_serve::{
-    Cut, Gone, HangUp, Link, Received, converse, let_go_of, match_on, receive, turn_away,
+    Announces, Cut, Gone, HangUp, Link, Received, converse, let_go_of, match_on, receive, turn_away,
 };
 use std::alloc::Global;
 use std::sync::Wait;
@@ -27,7 +27,7 @@ fn attend_user<
     D: Door + Sync,
     A,
     R: Threads + Wait + Clock + Sync,
-    C: Threads + Wait + Clock + Dial + Sync,
+    C: Threads + Wait + Clock + Dial + Announces + Sync,
 >(
     rt: &C,
     house: &House<'_, D, A, R>,

@@ -3,12 +3,14 @@
 #![tactic(auto)]
 
 mod state;
+mod watching;
 
 ghost use Rattle.std.specs.Prelude.{◌≡◌};
 
 use gx_answers::AccessGate;
 use gx_history::record::Record;
 pub use state::ShowsState;
+pub use watching::{NoWatch, Watches};
 
 /// A gate that shows its records where they stand.
 pub trait ShowsRecords: AccessGate {

@@ -3,12 +3,14 @@
 ghost use Rattle.std.specs.Prelude.{◌≡◌};
 ghost use Rattle.gx_history.specs.Asking.{has_stock, rule_in_force};
 ghost use Rattle.gx_history.specs.InForce.{is_closed, is_entitled};
-ghost use Rattle.gx_history.specs.Live.{live};
+ghost use Rattle.gx_history.specs.Live.{live, live_numbered};
 ghost use Rattle.gx_history.specs.Verdicts.{last_moment};
 ghost use Rattle.gx_records.specs.State.{gross_used, limit_in_force, net_used};
+ghost use Rattle.gx_slab.specs.Slabs.{of_account};
 
 use gx_answers::AccessGate;
 use gx_history::facts::StockSide;
+use gx_history::live_order::LiveOrder;
 use gx_slab::live::LiveOrders;
 use gx_units::{AccountName, Moment, RuleId, Symbol, UserName};
 
@@ -20,6 +22,16 @@ pub trait ShowsState: AccessGate {
     /// The live orders, the oldest first.
     fn live_orders(&self) -> LiveOrders<'_>
         ensures { result ≡ live (Self.seen self.now).policy (Self.seen self.now).records };
+
+    /// The live orders of the account, the oldest first.
+    fn live_orders_of(&self, account: AccountName) -> LiveOrders<'_>
+        ensures { result ≡ of_account account
+            (live (Self.seen self.now).policy (Self.seen self.now).records) };
+
+    /// The live order of this number.
+    fn live_order(&self, number: u64) -> Option<LiveOrder>
+        ensures { result ≡ live_numbered
+            (live (Self.seen self.now).policy (Self.seen self.now).records) number };
 
     /// Whether some Close Day was granted.
     fn is_day_closed(&self) -> bool

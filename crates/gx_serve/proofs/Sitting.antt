@@ -3,7 +3,10 @@ use Rattle.std.proofs.Common.{◌≡◌, ◌≢◌, ℕ, ◌-◌, Bool, true, fa
 use Rattle.std.specs.Prelude.{nat_le}
 use Rattle.gx_units.specs.declared.names.UserName.{UserName}
 use Rattle.gx_policy.specs.declared.policy.PolicyData.{PolicyData}
+use Rattle.gx_history.specs.declared.record.Asked.{Asked}
+use Rattle.gx_answers.specs.declared.outcome.Outcome.{Outcome}
 use Rattle.gx_answers.specs.declared.outcome.StepFault.TheVariants as faults
+use Rattle.gx_answers.specs.Gates.{left_by}
 use Rattle.gx_answers.specs.declared.outcome.LoginAnswer.{LoginAnswer}
 use Rattle.gx_answers.specs.declared.outcome.LoginAnswer.TheVariants as answers
 use Rattle.gx_soup.specs.declared.packet.ClientPacket.{ClientPacket}
@@ -18,8 +21,12 @@ use Rattle.gx_units.specs.Spelling.{folded_user}
 use Rattle.gx_answers.specs.declared.pulled.Pulled.{Pulled}
 use Rattle.gx_pass.specs.Views.{mine, retold}
 use Rattle.gx_door.specs.Acts.{IsLater}
+use Rattle.gx_door.specs.declared.ended.Ended.{Ended}
+use Rattle.gx_door.specs.Matching.{Turns}
 use Rattle.gx_lobby.specs.Watches.{has_news, WatchData}
 use Rattle.gx_session.specs.Events.{is_over}
+use Rattle.gx_serve.specs.declared.announcing.EndedOrders.{EndedOrders}
+use Rattle.gx_serve.specs.Announcements.{announced_of, WasAnnounced}
 use Rattle.gx_serve.specs.declared.seat.Sign.{Sign}
 use Rattle.gx_serve.specs.declared.seat.outgoing.Due.{Due}
 use Rattle.gx_serve.specs.declared.seat.outgoing.Due.TheVariants as dues
@@ -27,6 +34,11 @@ use Rattle.gx_serve.specs.Marks.{fetched, FetchedData, Mark}
 use Rattle.gx_serve.specs.Seats.{answer_after, is_on, sign_after, HasLooked, WasTold, WasToldRefusal}
 use Rattle.gx_serve.specs.Seeking.{due_of, is_bare, watch_after, GoesOnWhere, IsOver, LooksWhere, Seeks, Watches, WasPulled, WasSought, WasWatched}
 use Rattle.gx_serve.specs.Speech.{IsDue, IsShown}
+
+-- a step was made, and what belongs to it is announced
+pub was_announced : (policy : PolicyData) (a : Asked) (was is : Holds) (o : Outcome) (ended : Ended) (made : ℕ) (told : Option EndedOrders) → IsLater policy was is → Turns policy was is (left_by a o) ended a.handed made
+    → told ≡ announced_of a.user a.request o ended → WasAnnounced policy a was is told
+was_announced policy a was is o ended made told later turns same = record { turned = record { later = later; outcome = o; ended = ended; made = made; turns = turns }; tells = same }
 
 -- as many records were told as had been seen
 pub was_idle : (policy : PolicyData) (user : UserName) (m : Mark) (moment : ℕ) (session : SessionData) (was is : Holds) (watch : WatchData) (count : ℕ) → is ≡ retold was count → has_news watch count ≡ false

@@ -1,3 +1,4 @@
+pub mod Announcements
 pub mod Breaks
 pub mod Conducts
 pub mod Marks

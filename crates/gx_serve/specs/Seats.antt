@@ -17,6 +17,7 @@ use Rattle.gx_pass.specs.declared.view.Holds.{Holds}
 use Rattle.gx_pass.specs.Views.{mine}
 use Rattle.gx_door.specs.Acts.{asked_on, gate_met, login_on, AddsOwn, IsLater, IsToldFull, LogsIn, MayBeRefused}
 use Rattle.gx_door.specs.Matching.{Matches, Turns}
+use Rattle.gx_door.specs.declared.ended.Ended.{Ended}
 use Rattle.gx_session.specs.declared.event.Control.{Control}
 use Rattle.gx_session.specs.declared.event.Control.TheVariants as controls
 use Rattle.gx_session.specs.declared.event.Next.{Next}
@@ -59,12 +60,13 @@ pub record WasMade (policy : PolicyData) (a : Asked) (was is : Holds) : Type 0 w
   pub outcome : Outcome
   pub adds : AddsOwn was is (left_by a outcome)
 
--- the step was made, and matching steps behind it, at the same moment
+-- the step was made, and matching steps behind it, at the same moment; and so much its own record ended
 pub record WasTurned (policy : PolicyData) (a : Asked) (was is : Holds) : Type 0 where
   pub later : IsLater policy was is
   pub outcome : Outcome
+  pub ended : Ended
   pub made : ℕ
-  pub turns : Turns was is (left_by a outcome) a.handed made
+  pub turns : Turns policy was is (left_by a outcome) ended a.handed made
 
 -- matching steps were made at this moment, and nothing else
 pub record WasMatched (policy : PolicyData) (moment : ℕ) (was is : Holds) : Type 0 where

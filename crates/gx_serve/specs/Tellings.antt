@@ -1,7 +1,8 @@
 -- What a session was told, as those see it who do not see the session.
-use Rattle.std.specs.Prelude.{Bool, false, length}
+use Rattle.std.specs.Prelude.{Bool, false, length, Option}
 use Rattle.gx_answers.specs.declared.outcome.StepFault.TheVariants as step_faults
 use Rattle.gx_session.specs.declared.fault.SendFault.TheVariants as send_faults
+use Rattle.gx_serve.specs.declared.announcing.EndedOrders.{EndedOrders}
 use Rattle.gx_serve.specs.declared.writing.Unsent.{Unsent}
 use Rattle.gx_serve.specs.declared.writing.Unsent.TheVariants as unsent
 use Rattle.gx_answers.specs.declared.pulled.Pulled.{Pulled}
@@ -9,9 +10,10 @@ use Rattle.gx_session.specs.Happenings.{Happening}
 use Rattle.gx_session.specs.Happenings as happens
 use Rattle.gx_reception.specs.Openings.{is_idle}
 
--- a session was told of this event, and was over then
+-- a session was told of this event, and was over then; and this is to be announced of it
 pub record ToldData : Type 0 where
   pub event : Happening
+  pub ended : Option EndedOrders
   pub over : Bool
 
 -- a packet that leaves every session as it is

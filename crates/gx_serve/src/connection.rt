@@ -1,5 +1,6 @@
 //! A connection: its two threads.
 
+use crate::announcing::Announces;
 use crate::link::Link;
 use crate::reading::{Cut, Heard, read_on};
 use crate::seat::{Break, BrokenOff};
@@ -89,7 +90,7 @@ impl Listening {
 }
 
 /// Reads to the end.
-fn listen<'x, D: Door, I: Read + Drop, R: Wait + Clock + Dial>(
+fn listen<'x, D: Door, I: Read + Drop, R: Wait + Clock + Dial + Announces>(
     rt: &R,
     door: &D,
     bell: &'x Bell,
@@ -104,7 +105,7 @@ fn listen<'x, D: Door, I: Read + Drop, R: Wait + Clock + Dial>(
 }
 
 /// Runs the reader and the writer of a connection that begins with a login, each in a thread of its own, until both have
-/// ended and the line was hung up. The writer is woken by its chime.
+/// ended and the line was hung up. The writer is woken by its chime. What commands ended the runtime announces.
 pub fn converse<
     'x,
     T: Drop + Send,
@@ -112,7 +113,7 @@ pub fn converse<
     I: Read + Drop + Send,
     O: Write + Drop,
     H: HangUp + Sync,
-    R: Threads + Wait + Clock + Dial + Sync,
+    R: Threads + Wait + Clock + Dial + Announces + Sync,
 >(
     rt: &'x R,
     alloc: Global,

@@ -4,10 +4,12 @@
 //! Each connection has a reader, which takes packets and asks the gate, and a writer, which alone
 //! writes. They share a [`Link`]: the session and the pass, under a lock that nobody holds while he
 //! reads or writes. A reader makes the matching steps that its packets ask for, a few at a time, and a matcher makes what is
-//! left, and wakes the writers for what others did. All of them are generic over the [`Door`](gx_door::Door)
+//! left, and wakes the writers for what others did. What an officer's Kill or Close Day has ended the reader that
+//! made its step has announced ([`Announces`]). All of them are generic over the [`Door`](gx_door::Door)
 //! that they ask, the reader and the writer.
 #![tactic(auto)]
 
+mod announcing;
 mod conduct;
 mod connection;
 mod keeping;
@@ -18,6 +20,7 @@ mod receiving;
 mod seat;
 mod writing;
 
+pub use announcing::{Announced, Announces, EndedBy, EndedOrders};
 pub use conduct::Exclusion;
 pub use connection::{HangUp, Listening, converse};
 pub use keeping::keep_on;

@@ -6,6 +6,7 @@ ghost use Rattle.gx_soup.specs.Packets.{packets_of};
 ghost use Rattle.gx_reception.specs.Openings.{is_idle, IsOpening};
 ghost use Rattle.gx_serve.specs.Readings.{cut_in, IfOpen, IsCut, IsKept, IsLeft, Stands, WasHeard};
 
+use crate::announcing::{Announces, announce};
 use crate::conduct::Exclusion;
 use crate::link::{Link, is_farewell};
 use crate::seat::taking::Taken;
@@ -135,9 +136,9 @@ fn settle<D: Door, R: Wait + Clock + Dial>(
     bells.ring(rt, !settled);
 }
 
-/// Takes a few packets until the session is over, or its user is put out, and makes the matching steps behind them. The writer
-/// is woken before one that asks for the session's end, which waits for him.
-fn take_group<D: Door, R: Wait + Clock + Dial>(
+/// Takes a few packets until the session is over, or its user is put out, announces what commands among them ended, and makes
+/// the matching steps behind them. The writer is woken before one that asks for the session's end, which waits for him.
+fn take_group<D: Door, R: Wait + Clock + Dial + Announces>(
     rt: &R,
     door: &D,
     bells: &Bells<'_>,
@@ -152,7 +153,8 @@ fn take_group<D: Door, R: Wait + Clock + Dial>(
         }
         match link.take(rt, door, packet) {
             Taken::Told(told) => {
-                if let Some(over) = told.over(&note(rt, bells, packet)) {
+                let announced = announce(rt, told.ended());
+                if let Some(over) = told.over(&announced, &note(rt, bells, packet)) {
                     bells.wake(rt);
                     return Left::Over(over);
                 }
@@ -169,7 +171,7 @@ fn take_group<D: Door, R: Wait + Clock + Dial>(
 
 /// Takes packets until the session is over, or its user is put out. Whoever sends many at once waits for what came of them to
 /// be kept, so that this is never far behind.
-fn take_packets<D: Door, R: Wait + Clock + Dial>(
+fn take_packets<D: Door, R: Wait + Clock + Dial + Announces>(
     rt: &R,
     door: &D,
     bells: &Bells<'_>,
@@ -192,7 +194,7 @@ fn take_packets<D: Door, R: Wait + Clock + Dial>(
 }
 
 /// Takes packets, and tells the session of the fault behind them, unless it is over. Answers what this leaves of it.
-fn take_all<D: Door, R: Wait + Clock + Dial>(
+fn take_all<D: Door, R: Wait + Clock + Dial + Announces>(
     rt: &R,
     door: &D,
     bells: &Bells<'_>,
@@ -209,7 +211,7 @@ fn take_all<D: Door, R: Wait + Clock + Dial>(
 }
 
 /// Takes the packets of a piece. Answers what it leaves of the session.
-fn take_piece<D: Door, R: Wait + Clock + Dial>(
+fn take_piece<D: Door, R: Wait + Clock + Dial + Announces>(
     rt: &R,
     door: &D,
     bells: &Bells<'_>,
@@ -232,7 +234,7 @@ fn take_piece<D: Door, R: Wait + Clock + Dial>(
 
 /// Takes the packets of a piece, unless the session is over, or was told that it ends.
 #[tactic(auto, using(crate::proofs::Hearing::opened, crate::proofs::Hearing::still_broken))]
-fn hear_piece<D: Door, R: Wait + Clock + Dial>(
+fn hear_piece<D: Door, R: Wait + Clock + Dial + Announces>(
     rt: &R,
     door: &D,
     bells: &Bells<'_>,
@@ -254,7 +256,7 @@ fn hear_piece<D: Door, R: Wait + Clock + Dial>(
 }
 
 /// Takes the packets that a connection begins with, its login first.
-fn take_opening<D: Door, R: Wait + Clock + Dial>(
+fn take_opening<D: Door, R: Wait + Clock + Dial + Announces>(
     rt: &R,
     door: &D,
     bells: &Bells<'_>,
@@ -267,8 +269,8 @@ fn take_opening<D: Door, R: Wait + Clock + Dial>(
 }
 
 /// Takes the packets that a connection begins with, its login first, then reads on and takes each that comes, until its
-/// input ends or fails. Once the session is over, what comes is let go.
-pub fn read_on<D: Door, I: Read, R: Wait + Clock + Dial>(
+/// input ends or fails. Once the session is over, what comes is let go. What its commands ended is announced.
+pub fn read_on<D: Door, I: Read, R: Wait + Clock + Dial + Announces>(
     rt: &R,
     door: &D,
     bells: &Bells<'_>,

@@ -1,6 +1,6 @@
 //! What the two threads of a connection share under its lock.
 
-ghost use Rattle.std.specs.Prelude.{◌≡◌, IsFalse, IsTrue, is_some, true, None, IfErr, OnOk};
+ghost use Rattle.std.specs.Prelude.{◌≡◌, IsFalse, IsTrue, is_some, true, None, IfErr, IfOk, OnOk};
 ghost use Rattle.gx_history.specs.declared.record.Request.TheVariants as requests;
 ghost use Rattle.gx_history.specs.Showing.{has_its_first};
 ghost use Rattle.gx_lobby.specs.Watches.{watch_of};
@@ -12,6 +12,7 @@ ghost use Rattle.gx_door.specs.Acts.{asked_on};
 ghost use Rattle.gx_serve.specs.Seats.{answer_after, is_on, sign_after, user_after};
 ghost use Rattle.gx_door.specs.Acts.{gate_met, met};
 ghost use Rattle.gx_answers.specs.Matches.{matching_of};
+ghost use Rattle.gx_serve.specs.Announcements.{Announces, WasAnnounced};
 ghost use Rattle.gx_serve.specs.Breaks.{break_of};
 ghost use Rattle.gx_serve.specs.Tellings.{is_idle_event};
 ghost use Rattle.gx_serve.specs.Seats.{Follows, Heeds, WasAnswered, WasLoggedOut, WasRefused, WasTaken, WasTold, WasToldRefusal, WasTurned};
@@ -21,6 +22,7 @@ pub mod resting;
 pub mod settling;
 pub mod taking;
 
+use crate::announcing::{Announced, EndedOrders, announced_of};
 use crate::conduct::Conduct;
 use gx_answers::{LoginAnswer, StepFault};
 use gx_door::{Caller, Dial, Door};
@@ -80,10 +82,11 @@ impl Model for BrokenOff {
     ghost view = { λ b. break_of b.cause };
 }
 
-/// That a session was told of a packet, and whether it was over then. A seat alone makes one.
+/// That a session was told of a packet, what is to be announced of it, and whether it was over then. A seat alone makes one.
 #[derive(Drop)]
 pub struct Told<'a> {
     event: Event<'a>,
+    ended: Option<EndedOrders>,
     over: bool,
 }
 
@@ -93,7 +96,11 @@ impl<'a> Model for Told<'a> {
 
     ghost Value = { ToldData };
 
-    ghost view = { λ t. record { event = happening t.event; over = t.over } };
+    ghost view = { λ t. record {
+      event = happening t.event;
+      ended = t.ended;
+      over = t.over;
+    } };
 }
 
 /// That a session was over.
@@ -103,8 +110,17 @@ pub struct Over {
 }
 
 impl Told<'_> {
-    /// That the session was over, if it was, once the matcher's bell was rung, unless the packet asks for nothing.
-    pub fn over(&self, _rung: &Option<Rung>) -> Option<Over>
+    /// The orders that a command ended, if the packet was one: they are to be announced.
+    pub fn ended(&self) -> Option<EndedOrders>
+        ensures { result ≡ self.now.ended }
+    {
+        self.ended
+    }
+
+    /// That the session was over, if it was, once what a command ended was announced, and the matcher's bell was rung, unless
+    /// the packet asks for nothing.
+    pub fn over(&self, _announced: &Announced, _rung: &Option<Rung>) -> Option<Over>
+        requires announced { _announced.now ≡ self.now.ended }
         requires rung { IsFalse (is_idle_event self.now.event) → IsTrue (is_some _rung.now) }
         ensures { is_some result ≡ self.now.over }
     {
@@ -210,16 +226,20 @@ impl<T: Drop> Seat<T> {
         self.is_on() && !self.looked
     }
 
-    /// Makes the request's step, and the matching steps that it asks for, unless they are many.
+    /// Makes the request's step, and the matching steps that it asks for, unless they are many. Answers what is to be
+    /// announced.
     fn act<D: Door<Ticket = T>, R: Wait + Dial>(
         &mut self,
         rt: &R,
         door: &D,
         request: Request,
         moment: Moment,
-    ) -> Result<(), StepFault>
+    ) -> Result<Option<EndedOrders>, StepFault>
         requires clock { R.shown moment }
         requires first { IsTrue (has_its_first request) }
+        ensures announced { IfOk result (λ told. WasAnnounced D.policy
+            (asked_on (met D.held self.old.pass).line self.old.user request moment)
+            (met D.held self.old.pass) (met D.held self.new.pass) told) }
         ensures made { OnOk result (WasTurned D.policy
             (asked_on (met D.held self.old.pass).line self.old.user request moment)
             (met D.held self.old.pass) (met D.held self.new.pass)) }
@@ -244,7 +264,7 @@ impl<T: Drop> Seat<T> {
             Ok(turned) => {
                 self.conduct.note(&turned.outcome.verdict);
                 self.is_settled = turned.matched.end.is_idle();
-                Ok(())
+                Ok(announced_of(self.user, &request, &turned.outcome, turned.ended))
             }
             Err(fault) => Err(fault),
         }
@@ -312,16 +332,19 @@ impl<T: Drop> Seat<T> {
         }
     }
 
-    /// Makes the step that a session asks for. Where it is refused, the session is told so.
+    /// Makes the step that a session asks for. Where it is refused, the session is told so. Answers what is to be announced.
     fn follow<D: Door<Ticket = T>, R: Wait + Dial>(
         &mut self,
         rt: &R,
         door: &D,
         next: Next,
         moment: Moment,
-    )
+    ) -> Option<EndedOrders>
         requires clock { R.shown moment }
         requires able { CanAsk next }
+        ensures announced { Announces next D.policy self.old.user moment
+            self.old.session (met D.held self.old.pass)
+            self.new.session (met D.held self.new.pass) result }
         ensures follows { Follows next D.policy self.old.user moment
             self.old.session (met D.held self.old.pass)
             self.new.session (met D.held self.new.pass) }
@@ -332,26 +355,38 @@ impl<T: Drop> Seat<T> {
     {
         match next {
             Next::Act(request) => match self.act(rt, door, request, moment) {
-                Ok(()) => {}
-                Err(fault) => self.refuse(rt, door, fault, moment),
+                Ok(ended) => ended,
+                Err(fault) => {
+                    self.refuse(rt, door, fault, moment);
+                    None
+                }
             },
-            Next::Logout => self.log_out(rt, door, moment),
-            Next::Idle | Next::Login | Next::Close => {}
+            Next::Logout => {
+                self.log_out(rt, door, moment);
+                None
+            }
+            Next::Idle | Next::Login | Next::Close => None,
         }
     }
 
     /// Tells the session of an event, makes the step that it asks for, and leaves what it asks to
-    /// send. Answers what it asks for.
+    /// send. Answers what it asks for, and what is to be announced.
     pub fn tell<D: Door<Ticket = T>, R: Wait + Dial>(
         &mut self,
         rt: &R,
         door: &D,
         event: Event<'_>,
         moment: Moment,
-    ) -> Next
+    ) -> (Next, Option<EndedOrders>)
         requires clock { R.shown moment }
-        ensures next { result
+        ensures next { result.0
             ≡ (turn self.old.session (happening event.entry) moment).reply.next }
+        ensures announced { Announces
+            (turn self.old.session (happening event.entry) moment).reply.next
+            D.policy self.old.user moment
+            (turn self.old.session (happening event.entry) moment).session
+            (met D.held self.old.pass)
+            self.new.session (met D.held self.new.pass) result.1 }
         ensures told { WasTold D.policy self.old.user (happening event.entry) moment
             self.old.session (met D.held self.old.pass)
             self.new.session (met D.held self.new.pass) }
@@ -364,8 +399,8 @@ impl<T: Drop> Seat<T> {
     {
         let reply = self.session.on(event, moment);
         self.leave(reply.send);
-        self.follow(rt, door, reply.next, moment);
-        reply.next
+        let ended = self.follow(rt, door, reply.next, moment);
+        (reply.next, ended)
     }
 
     /// Tells the session of what breaks it off, and does what it asks for.
@@ -476,7 +511,7 @@ impl<T: Drop> Seat<T> {
         }
     }
 
-    /// Tells the session of a packet, and does what it asks for.
+    /// Tells the session of a packet, and does what it asks for. Answers what is to be announced.
     #[tactic(auto, using(crate::proofs::Sitting::packets_leave_no_sign))]
     fn serve<D: Door<Ticket = T>, R: Wait + Dial>(
         &mut self,
@@ -484,8 +519,14 @@ impl<T: Drop> Seat<T> {
         door: &D,
         packet: &ClientPacket,
         moment: Moment,
-    )
+    ) -> Option<EndedOrders>
         requires clock { R.shown moment }
+        ensures announced { Announces
+            (turn self.old.session (happens.Packet packet.now) moment).reply.next
+            D.policy self.old.user moment
+            (turn self.old.session (happens.Packet packet.now) moment).session
+            (met D.held self.old.pass)
+            self.new.session (met D.held self.new.pass) result }
         ensures taken { WasTaken D.policy self.old.user packet.now moment
             self.old.session (met D.held self.old.pass) self.old.answer
             self.new.session (met D.held self.new.pass) self.new.answer }
@@ -493,13 +534,17 @@ impl<T: Drop> Seat<T> {
             (turn self.old.session (happens.Packet packet.now) moment).reply.next packet.now self.old.user }
         ensures sign { self.new.sign ≡ self.old.sign }
     {
-        match (self.tell(rt, door, Event::Packet(packet), moment), packet) {
-            (Next::Login, ClientPacket::Login(login)) => self.log_in(rt, door, login, moment),
-            _ => {}
+        let (next, ended) = self.tell(rt, door, Event::Packet(packet), moment);
+        match (next, packet) {
+            (Next::Login, ClientPacket::Login(login)) => {
+                self.log_in(rt, door, login, moment);
+                None
+            }
+            _ => ended,
         }
     }
 
-    /// Takes a packet: tells the session of it, and does what it asks for.
+    /// Takes a packet: tells the session of it, and does what it asks for. What is given tells what is to be announced.
     pub fn take<'a, D: Door<Ticket = T>, R: Wait + Dial>(
         &mut self,
         rt: &R,
@@ -509,6 +554,12 @@ impl<T: Drop> Seat<T> {
     ) -> Told<'a>
         requires clock { R.shown moment }
         ensures event { result.event ≡ happens.Packet packet.now }
+        ensures announced { Announces
+            (turn self.old.session (happens.Packet packet.now) moment).reply.next
+            D.policy self.old.user moment
+            (turn self.old.session (happens.Packet packet.now) moment).session
+            (met D.held self.old.pass)
+            self.new.session (met D.held self.new.pass) result.ended }
         ensures over { result.over ≡ is_over self.new.session.phase }
         ensures taken { WasTaken D.policy self.old.user packet.now moment
             self.old.session (met D.held self.old.pass) self.old.answer
@@ -517,9 +568,10 @@ impl<T: Drop> Seat<T> {
             (turn self.old.session (happens.Packet packet.now) moment).reply.next packet.now self.old.user }
         ensures sign { self.new.sign ≡ self.old.sign }
     {
-        self.serve(rt, door, packet, moment);
+        let ended = self.serve(rt, door, packet, moment);
         Told {
             event: Event::Packet(packet),
+            ended,
             over: self.is_over(),
         }
     }

@@ -1,3 +1,4 @@
+pub mod Commanding
 pub mod Idling
 pub mod Matchings
 pub mod Meetings

@@ -1,3 +1,4 @@
+pub mod Endings
 pub mod GoingOn
 pub mod Lines
 pub mod Permits

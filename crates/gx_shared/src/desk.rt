@@ -29,6 +29,7 @@ use gx_door::{Caller, Matched, PullFault, Turned};
 use gx_history::record::{Record, Request};
 use gx_pass::{Blank, GateName, Keeper, Pass, PassFault};
 use gx_policy::Policy;
+use gx_records::ShowsState;
 use gx_units::{Moment, OutOfMemory, Password, SessionName, UserName};
 use std::alloc::Global;
 use std::marker::Model;
@@ -253,41 +254,6 @@ impl<G: AccessGate, N: GateName> Desk<G, N> {
         (leave(&self.gate, &mut self.keeper, entered), matched)
     }
 
-    /// A request on the pass's line, and matching steps behind it, all of which are counted in the share.
-    pub fn turn(
-        &mut self,
-        pass: Pass<N>,
-        share: &mut Share<N>,
-        user: UserName,
-        request: Request,
-        moment: Moment,
-        most: u64,
-    ) -> (Pass<N>, Result<Turned, StepFault>)
-        requires first { IsTrue (has_its_first request) }
-        requires part { 0 < share.old.parts }
-        ensures front { result.0.front ≡ self.new }
-        ensures later { IsLater N.policy pass result.0 }
-        ensures done { IfOk result.1 (λ t.
-            Turns pass result.0 (left_by (asked_on pass.line user request moment) t.outcome)
-            moment t.matched.made) }
-        ensures ended { IfOk result.1 (λ t.
-            EndsSo t.matched.end (gate_at N.policy self.new) t.matched.made most) }
-        ensures refused { OnErr result.1 (mine result.0 ≡ mine pass) }
-        ensures never_refused { OnErr result.1 (MayBeRefused (gate_at N.policy self.new)
-            (asked_on pass.line user request moment)) }
-        ensures full { IfErr result.1 (IsToldFull (gate_at N.policy self.new)) }
-        ensures adds { IfOk result.1 (λ t.
-            share.new.amount ≡ share.old.amount + 1 + t.matched.made) }
-        ensures adds_none { OnErr result.1 (share.new.amount ≡ share.old.amount) }
-        ensures parts { share.new.parts ≡ share.old.parts }
-    {
-        let line = pass.line();
-        let entered = self.keeper.enter(pass);
-        let asked = asked_on(line, user, request, moment);
-        let result = turn(&mut self.gate, &mut self.keeper, share, asked, most);
-        (leave(&self.gate, &mut self.keeper, entered), result)
-    }
-
     /// The reports of a user who is logged in on the pass's line, from this number on, at most so many.
     pub fn pull(
         &mut self,
@@ -381,5 +347,43 @@ impl<G: AccessGate, N: GateName> Desk<G, N> {
     pub fn let_go(self) {
         let Desk { gate, keeper: _ } = self;
         gate.close();
+    }
+}
+
+impl<G: ShowsState, N: GateName> Desk<G, N> {
+    /// A request on the pass's line, and matching steps behind it, all of which are counted in the share.
+    pub fn turn(
+        &mut self,
+        pass: Pass<N>,
+        share: &mut Share<N>,
+        user: UserName,
+        request: Request,
+        moment: Moment,
+        most: u64,
+    ) -> (Pass<N>, Result<Turned, StepFault>)
+        requires first { IsTrue (has_its_first request) }
+        requires part { 0 < share.old.parts }
+        ensures front { result.0.front ≡ self.new }
+        ensures later { IsLater N.policy pass result.0 }
+        ensures done { IfOk result.1 (λ t.
+            Turns N.policy pass result.0
+            (left_by (asked_on pass.line user request moment) t.outcome)
+            t.ended moment t.matched.made) }
+        ensures ended { IfOk result.1 (λ t.
+            EndsSo t.matched.end (gate_at N.policy self.new) t.matched.made most) }
+        ensures refused { OnErr result.1 (mine result.0 ≡ mine pass) }
+        ensures never_refused { OnErr result.1 (MayBeRefused (gate_at N.policy self.new)
+            (asked_on pass.line user request moment)) }
+        ensures full { IfErr result.1 (IsToldFull (gate_at N.policy self.new)) }
+        ensures adds { IfOk result.1 (λ t.
+            share.new.amount ≡ share.old.amount + 1 + t.matched.made) }
+        ensures adds_none { OnErr result.1 (share.new.amount ≡ share.old.amount) }
+        ensures parts { share.new.parts ≡ share.old.parts }
+    {
+        let line = pass.line();
+        let entered = self.keeper.enter(pass);
+        let asked = asked_on(line, user, request, moment);
+        let result = turn(&mut self.gate, &mut self.keeper, share, asked, most);
+        (leave(&self.gate, &mut self.keeper, entered), result)
     }
 }

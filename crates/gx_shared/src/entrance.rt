@@ -11,6 +11,7 @@ use gx_answers::AccessGate;
 use gx_door::Issuer;
 use gx_journal::{JournalName, Journaled};
 use gx_pass::{GateName, PassFault};
+use gx_records::ShowsState;
 use std::io::Write;
 use std::sync::Wait;
 
@@ -28,7 +29,7 @@ impl<'x, G: AccessGate, N: GateName> Entrance<'x, G, N> {
     }
 }
 
-impl<G: AccessGate, N: GateName> Issuer<SharedGate<G, N>> for Entrance<'_, G, N> {
+impl<G: ShowsState, N: GateName> Issuer<SharedGate<G, N>> for Entrance<'_, G, N> {
     ghost left = { λ e. e.permits.left };
 
     ghost last = { λ e. e.permits.issued };
@@ -38,7 +39,7 @@ impl<G: AccessGate, N: GateName> Issuer<SharedGate<G, N>> for Entrance<'_, G, N>
     }
 }
 
-impl<G: AccessGate, N: GateName, W: Write, J: JournalName> Issuer<
+impl<G: ShowsState, N: GateName, W: Write, J: JournalName> Issuer<
     Journaled<'_, SharedGate<G, N>, W, J>,
 > for Entrance<'_, G, N> {
     ghost left = { λ e. e.permits.left };

@@ -14,13 +14,13 @@ use crate::permit::{BlankLedgers, Permits};
 use crate::rest::put_rest;
 use crate::shared::SharedGate;
 use crate::ticket::Ticket;
-use gx_answers::AccessGate;
 use gx_audit_bytes::AuditVersion;
 use gx_journal::{Journal, JournalFault, JournalName, Journaled};
 use gx_leaving::log_out_at_last;
 use gx_listen::{DayLog, Ending, serve_door};
 use gx_lobby::Lobby;
 use gx_pass::{Blank, GateName, PassFault};
+use gx_records::ShowsState;
 use std::alloc::Global;
 use std::io::Write;
 use std::marker::Brand;
@@ -42,7 +42,7 @@ pub struct Kept<G, W> {
 
 /// Closes a gate that no thread shares any more, and keeps what its journal lacks, unless that has failed. Gives a pass
 /// too, which has met all that was done, and how many records that are.
-pub fn close_kept<G: AccessGate, N: GateName, J: JournalName, W: Write + Drop>(
+pub fn close_kept<G: ShowsState, N: GateName, J: JournalName, W: Write + Drop>(
     shared: SharedGate<G, N>,
     journal: Journal<SharedGate<G, N>, W, J>,
 ) -> (Kept<G, W>, Ticket<N>, Total<N>)
@@ -69,7 +69,7 @@ pub fn close_kept<G: AccessGate, N: GateName, J: JournalName, W: Write + Drop>(
 /// Serves at a gate whose records are kept on this device, on which there are so many of those that the pass has met.
 /// Gives a pass too, which has met all that was done, how many records that are, and how the server ended.
 fn serve_kept<
-    G: AccessGate + Send,
+    G: ShowsState + Send,
     N: GateName + Send + Sync,
     J: JournalName + Send + Sync,
     W: Write + Drop + Send,
@@ -127,7 +127,7 @@ fn serve_kept<
 }
 
 fn serve_named<
-    G: AccessGate + Send,
+    G: ShowsState + Send,
     N: GateName + Send + Sync,
     J: JournalName + Send + Sync,
     W: Write + Drop + Send,
@@ -198,7 +198,7 @@ fn serve_named<
 ///
 /// `NoLines` where the records have the last line that there is. The gate is closed then, as it is where memory is refused.
 pub fn serve_journaled<
-    G: AccessGate + Send,
+    G: ShowsState + Send,
     W: Write + Drop + Send,
     R: Threads + Wait + Clock + Sync,
 >(

@@ -16,6 +16,7 @@
 //! - `ticket`: a pass, and how many records were added with it;
 //! - `counting`: the keeper, and the books in which each record and each line is counted;
 //! - `steps`: each step is one call of the gate, and the keeper notes its record before the lock is let go;
+//! - `ending`: what a Kill or a Close Day ends, counted in front of its step;
 //! - `resuming`: the keeper of a history that was there before it, which it reads a portion at a time;
 //! - `serving`: a server whose day begins with it, and the gate that was served;
 //! - `keeping`: a server whose day is kept in a journal, on whatever device that lies, and may go on from records that
@@ -25,6 +26,7 @@
 
 mod counting;
 mod desk;
+mod ending;
 mod entrance;
 mod keeping;
 mod logging;

@@ -9,11 +9,11 @@ use crate::logging::day_log;
 use crate::permit::BlankLedgers;
 use crate::shared::SharedGate;
 use crate::ticket::Ticket;
-use gx_answers::AccessGate;
 use gx_listen::{Ending, ServeFault, serve_door};
 use gx_lobby::Lobby;
 use gx_pass::{Blank, GateName};
 use gx_policy::Policy;
+use gx_records::ShowsState;
 use std::alloc::Global;
 use std::marker::Brand;
 use std::net::TcpListener;
@@ -31,7 +31,7 @@ pub struct Served<G> {
 }
 
 /// Serves at a gate of this name. Gives a pass too, which has met all that was done, and how many records that are.
-fn serve_shared<G: AccessGate + Send, N: GateName + Send + Sync, R: Threads + Wait + Clock + Sync>(
+fn serve_shared<G: ShowsState + Send, N: GateName + Send + Sync, R: Threads + Wait + Clock + Sync>(
     rt: &R,
     alloc: Global,
     policy: &Policy,
@@ -78,7 +78,7 @@ fn serve_shared<G: AccessGate + Send, N: GateName + Send + Sync, R: Threads + Wa
 }
 
 /// Serves at a gate of this name.
-fn serve_named<G: AccessGate + Send, N: GateName + Send + Sync, R: Threads + Wait + Clock + Sync>(
+fn serve_named<G: ShowsState + Send, N: GateName + Send + Sync, R: Threads + Wait + Clock + Sync>(
     rt: &R,
     alloc: Global,
     policy: &Policy,
@@ -113,7 +113,7 @@ fn serve_named<G: AccessGate + Send, N: GateName + Send + Sync, R: Threads + Wai
 
 /// Takes connections under the policy, and serves each until it ends: so many of them, or
 /// fewer where the lobby is asked to end. Gives the gate back, also where it gave up.
-pub fn serve<G: AccessGate + Send, R: Threads + Wait + Clock + Sync>(
+pub fn serve<G: ShowsState + Send, R: Threads + Wait + Clock + Sync>(
     rt: &R,
     alloc: Global,
     policy: &Policy,

@@ -27,6 +27,7 @@ use gx_door::{Caller, Dial, Door, Matched, PullFault, Turned};
 use gx_history::record::{Record, Request};
 use gx_pass::{Blank, GateName, PassFault};
 use gx_policy::Policy;
+use gx_records::ShowsState;
 use gx_units::{Moment, OutOfMemory, Password, SessionName, UserName};
 use std::alloc::Global;
 use std::hint::spin_loop;
@@ -187,7 +188,7 @@ impl<G: AccessGate, N: GateName> SharedGate<G, N> {
     }
 }
 
-impl<G: AccessGate, N: GateName> Door for SharedGate<G, N> {
+impl<G: ShowsState, N: GateName> Door for SharedGate<G, N> {
     type Ticket = Ticket<N>;
 
     ghost policy = { N.policy };

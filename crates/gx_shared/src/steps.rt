@@ -6,18 +6,22 @@ ghost use Rattle.gx_history.specs.InForce.{line_of};
 ghost use Rattle.gx_history.specs.Showing.{has_its_first, is_askable};
 ghost use Rattle.gx_history.specs.Verdicts.{IsLegal};
 ghost use Rattle.gx_answers.specs.Matches.{matching_of, with_match};
-ghost use Rattle.gx_answers.specs.Steps.{with_record};
+ghost use Rattle.gx_answers.specs.Gates.{left_by};
+ghost use Rattle.gx_answers.specs.Steps.{next_of, with_record};
 ghost use Rattle.gx_pass.specs.Rules.{Has};
 ghost use Rattle.gx_pass.specs.Views.{holds, keeps, without};
 ghost use Rattle.gx_door.specs.declared.fault.PullFault.TheVariants as pull_faults;
 ghost use Rattle.gx_door.specs.Acts.{asked_on, IsPulled, IsToldFull, MayBeRefused};
+ghost use Rattle.gx_door.specs.Endings.{ended_by, sums_of};
 ghost use Rattle.gx_door.specs.Matching.{AddsMatches, EndsSo};
 
 use crate::counting::CountingKeeper;
+use crate::ending::{ends_of, if_granted};
 use gx_answers::{AccessGate, Outcome, Pulled, StepFault, record_of, record_of_match};
 use gx_door::{MatchEnd, Matched, PullFault, Turned};
 use gx_history::record::{Asked, Request};
 use gx_pass::{Entered, GateName, Pass};
+use gx_records::ShowsState;
 use gx_units::{Moment, UserName};
 use std::sync::ledger::Share;
 
@@ -56,6 +60,7 @@ pub fn step<G: AccessGate, N: GateName>(
     ensures policy { (G.seen gate.new).policy ≡ (G.seen gate.old).policy }
     ensures done { IfOk result
         (λ o. (G.seen gate.new).records ≡ with_record (G.seen gate.old) asked o) }
+    ensures next { IfOk result (λ o. next_of (G.seen gate.old) asked ≡ Some (left_by asked o)) }
     ensures refused { OnErr result (G.seen gate.new ≡ G.seen gate.old) }
     ensures never_refused { OnErr result (MayBeRefused (G.seen gate.new) asked) }
     ensures full { IfErr result (IsToldFull (G.seen gate.new)) }
@@ -149,8 +154,10 @@ pub fn match_some<G: AccessGate, N: GateName>(
 }
 
 /// Makes the request's step, and matching steps behind it, none where it is refused. The keeper, which has its line in hand,
-/// notes the records, and they are counted in the share.
-pub fn turn<G: AccessGate, N: GateName>(
+/// notes the records, and they are counted in the share. Tells what the request's own record ended, which is counted in front of
+/// it: behind it these orders are gone.
+#[tactic(auto, using(crate::proofs::Commanding::told_so))]
+pub fn turn<G: ShowsState, N: GateName>(
     gate: &mut G,
     keeper: &mut CountingKeeper<N>,
     share: &mut Share<N>,
@@ -164,6 +171,8 @@ pub fn turn<G: AccessGate, N: GateName>(
     ensures policy { (G.seen gate.new).policy ≡ (G.seen gate.old).policy }
     ensures done { IfOk result (λ t. AddsMatches asked.handed t.matched.made
         (with_record (G.seen gate.old) asked t.outcome) (G.seen gate.new).records) }
+    ensures ends { IfOk result (λ t. t.ended ≡ sums_of (ended_by
+        (G.seen gate.old).policy (G.seen gate.old).records (left_by asked t.outcome))) }
     ensures ended { IfOk result (λ t.
         EndsSo t.matched.end (G.seen gate.new) t.matched.made most) }
     ensures refused { OnErr result (G.seen gate.new ≡ G.seen gate.old) }
@@ -176,9 +185,15 @@ pub fn turn<G: AccessGate, N: GateName>(
     ensures adds_none { OnErr result (share.new.amount ≡ share.old.amount) }
     ensures parts { share.new.parts ≡ share.old.parts }
 {
+    let ends = ends_of(gate, &asked);
     let outcome = step(gate, keeper, share, asked)?;
+    let ended = if_granted(ends, &outcome.verdict);
     let matched = match_some(gate, keeper, share, asked.handed, most);
-    Ok(Turned { outcome, matched })
+    Ok(Turned {
+        outcome,
+        ended,
+        matched,
+    })
 }
 
 /// The reports of a user who is logged in on the line, from this number on, at most so many.

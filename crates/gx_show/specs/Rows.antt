@@ -12,6 +12,7 @@ use Rattle.gx_history.specs.Reasons.{reject_reason}
 use Rattle.gx_history.specs.Requests.{asked}
 use Rattle.gx_fields.specs.declared.cell.Beside.{Beside}
 use Rattle.gx_fields.specs.declared.cell.Cell.{Cell}
+use Rattle.gx_fields.specs.declared.cell.EndedOrders.{EndedOrders}
 use Rattle.gx_fields.specs.Cells.{cells_of}
 use Rattle.gx_fields.specs.Reasons.{reason_of}
 use Rattle.gx_fields.specs.Rows.{row_of}
@@ -25,14 +26,15 @@ abbrev pub denied_by : Verdict → Option RuleName
 denied_by (verdicts.Denied rule) = Some rule
 denied_by other = None
 
--- what is told beside the fields of a record: the account of who asked, and why it was denied
-abbrev pub beside_of : PolicyData → RecordData → Beside
-beside_of policy r = record {
+-- what is told beside the fields of a record: the account of who asked, why it was denied, and what it ended
+abbrev pub beside_of : PolicyData → RecordData → Option EndedOrders → Beside
+beside_of policy r ended = record {
   account = account_asked policy r;
   reason = option_and_then (reason_of policy) (denied_by r.verdict);
   reject = option_and_then (reject_reason policy) (denied_by r.verdict);
+  ended = ended;
 }
 
--- the cells of a record
-abbrev pub shown_cells : PolicyData → RecordData → List Cell
-shown_cells policy r = cells_of (row_of r) (beside_of policy r)
+-- the cells of a record that ended so much
+abbrev pub shown_cells : PolicyData → RecordData → Option EndedOrders → List Cell
+shown_cells policy r ended = cells_of (row_of r) (beside_of policy r ended)

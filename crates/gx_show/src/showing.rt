@@ -7,7 +7,8 @@ use crate::table::{denied_by, record_csv, record_json};
 use gx_audit::AuditingFault;
 use gx_audit_bytes::{RECORD_SIZE, message_shown, write_record};
 use gx_devices::{Counted, write_whole};
-use gx_fields::{csv_names, reason_of, reject_of};
+use gx_endings::endings::Ending;
+use gx_fields::{EndedOrders, csv_names, reason_of, reject_of};
 use gx_history::record::{Asked, Login, Record, RecordData, Request, Step, Unreadable, Verdict};
 use gx_policy::{Policy, RuleName};
 use gx_script::{ScriptLine, ScriptStep, append, append_number, outcome_line};
@@ -224,6 +225,25 @@ fn append_words(
     }
 }
 
+/// Puts what the record ended behind the line, if it ended anything and that is asked for.
+fn append_ended(
+    text: &mut Vec<u8>,
+    style: &Style,
+    ended: Option<EndedOrders>,
+) -> Result<(), OutOfMemory> {
+    let Some(ended) = ended else {
+        return Ok(());
+    };
+    if !style.has_words {
+        return Ok(());
+    }
+    append(text, b" (ended ")?;
+    append_number(text, ended.orders)?;
+    append(text, b" orders, ")?;
+    append_number(text, ended.shares)?;
+    append(text, b" shares)")
+}
+
 /// The line of a record as text.
 fn text_line(
     alloc: Global,
@@ -231,12 +251,14 @@ fn text_line(
     style: &Style,
     shown: &RecordData,
     bytes: &[u8; RECORD_SIZE],
+    ended: Option<EndedOrders>,
 ) -> Result<Vec<u8>, OutOfMemory> {
     let mut text = Vec::new(alloc);
     append_clock(&mut text, style, shown.moment)?;
     let line = record_line(alloc, shown, bytes)?;
     append(&mut text, without_end(line.as_slice()))?;
     append_words(&mut text, policy, style, &shown.verdict)?;
+    append_ended(&mut text, style, ended)?;
     append(&mut text, b"\n")?;
     Ok(text)
 }
@@ -256,11 +278,12 @@ fn line_of(
     style: &Style,
     shown: &RecordData,
     bytes: &[u8; RECORD_SIZE],
+    ended: Option<EndedOrders>,
 ) -> Result<Vec<u8>, OutOfMemory> {
     match style.form {
-        ShownForm::Text => text_line(alloc, policy, style, shown, bytes),
-        ShownForm::Csv => record_csv(alloc, policy, shown),
-        ShownForm::Json => record_json(alloc, policy, shown),
+        ShownForm::Text => text_line(alloc, policy, style, shown, bytes, ended),
+        ShownForm::Csv => record_csv(alloc, policy, shown, ended),
+        ShownForm::Json => record_json(alloc, policy, shown, ended),
     }
 }
 
@@ -280,19 +303,47 @@ fn write_head<W: Write>(
     Ok(())
 }
 
-/// Writes the records in this style, a line for each, in their order.
+/// What the record of this number ended, if it is among these endings, which stand by rising number.
+fn ended_by(endings: &[Ending], number: u64) -> Option<EndedOrders> {
+    let place = endings.partition_point(|ending| ending.number < number);
+    let ending = endings.get(place)?;
+    if ending.number != number {
+        return None;
+    }
+    Some(EndedOrders {
+        orders: ending.orders,
+        shares: u64::try_from(ending.shares).unwrap_or(u64::MAX),
+    })
+}
+
+/// The line of a record in this style, with what it ended.
+fn line_with(
+    alloc: Global,
+    policy: &Policy,
+    style: &Style,
+    record: &Record,
+    endings: &[Ending],
+) -> Result<Vec<u8>, OutOfMemory> {
+    let shown = record.content();
+    let ended = ended_by(endings, shown.number);
+    line_of(alloc, policy, style, &shown, &write_record(record), ended)
+}
+
+/// Writes the records in this style, a line for each, in their order, with what Kills and Close Days among them ended, where
+/// it stands among the endings, which are by rising number.
 pub fn write_records<W: Write>(
     alloc: Global,
     policy: &Policy,
     style: &Style,
     records: &[Record],
+    endings: &[Ending],
     writer: &mut Counted<W>,
 ) -> Result<(), AuditingFault>
     requires writer { writer.old.failed < 2 ^ 64 - 1 }
 {
     write_head(alloc, style, writer)?;
     for each in records {
-        let line = line_of(alloc, policy, style, &each.content(), &write_record(each))?;
+        let line = line_with(alloc, policy, style, each, endings)?;
         write_whole(writer, line.as_slice())?;
     }
     Ok(())

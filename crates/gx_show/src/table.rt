@@ -6,7 +6,9 @@ ghost use Rattle.gx_fields.specs.Cells.{cell_text};
 ghost use Rattle.gx_show.specs.Rows.{account_asked, beside_of, denied_by, shown_cells};
 
 use crate::making::{account_of, asked_in};
-use gx_fields::{Beside, CELLS, Cell, cells_of, csv_line, json_line, reason_of, reject_of, row_of};
+use gx_fields::{
+    Beside, CELLS, Cell, EndedOrders, cells_of, csv_line, json_line, reason_of, reject_of, row_of,
+};
 use gx_history::record::{RecordData, Verdict};
 use gx_policy::{Policy, RuleName};
 use gx_units::{AccountName, OutOfMemory};
@@ -30,8 +32,8 @@ pub(crate) fn denied_by(verdict: &Verdict) -> Option<RuleName>
 }
 
 /// What is told beside the fields of a record.
-fn beside_of(policy: &Policy, shown: &RecordData) -> Beside
-    ensures { result ≡ beside_of policy.now shown.now }
+fn beside_of(policy: &Policy, shown: &RecordData, ended: Option<EndedOrders>) -> Beside
+    ensures { result ≡ beside_of policy.now shown.now ended }
 {
     let account = account_asked(policy, shown);
     match denied_by(&shown.verdict) {
@@ -39,20 +41,22 @@ fn beside_of(policy: &Policy, shown: &RecordData) -> Beside
             account,
             reason: reason_of(policy, rule),
             reject: reject_of(policy, rule),
+            ended,
         },
         None => Beside {
             account,
             reason: None,
             reject: None,
+            ended,
         },
     }
 }
 
-/// The cells that a record is shown by.
-pub fn shown_cells(policy: &Policy, shown: &RecordData) -> [Cell; CELLS]
-    ensures { result ≡ shown_cells policy.now shown.now }
+/// The cells that a record is shown by which ended so much.
+pub fn shown_cells(policy: &Policy, shown: &RecordData, ended: Option<EndedOrders>) -> [Cell; CELLS]
+    ensures { result ≡ shown_cells policy.now shown.now ended }
 {
-    cells_of(&row_of(shown), &beside_of(policy, shown))
+    cells_of(&row_of(shown), &beside_of(policy, shown, ended))
 }
 
 /// The record as a line of CSV, with the end of the line.
@@ -60,11 +64,12 @@ pub fn record_csv(
     alloc: Global,
     policy: &Policy,
     shown: &RecordData,
+    ended: Option<EndedOrders>,
 ) -> Result<Vec<u8>, OutOfMemory>
     ensures { IfOk result (λ line. line.items
-        ≡ row_text default_writer (map cell_text (shown_cells policy.now shown.now))) }
+        ≡ row_text default_writer (map cell_text (shown_cells policy.now shown.now ended))) }
 {
-    csv_line(alloc, &shown_cells(policy, shown))
+    csv_line(alloc, &shown_cells(policy, shown, ended))
 }
 
 /// The record as a line of JSON, with the end of the line.
@@ -72,6 +77,7 @@ pub fn record_json(
     alloc: Global,
     policy: &Policy,
     shown: &RecordData,
+    ended: Option<EndedOrders>,
 ) -> Result<Vec<u8>, OutOfMemory> {
-    json_line(alloc, &shown_cells(policy, shown))
+    json_line(alloc, &shown_cells(policy, shown, ended))
 }

@@ -8,6 +8,7 @@ invariant-loop-at g l = record {
   policy : (g.G.AccessGate.seen l.gate).policy ≡ (g.G.AccessGate.seen l.fn.gate).policy;
   few : length (g.G.AccessGate.seen l.gate).records ≤ l.most;
   shown : AreShown l.version (g.G.AccessGate.seen l.gate).records;
+  saw : g.W.Watches.saw l.watcher (g.G.AccessGate.seen l.gate).policy (g.G.AccessGate.seen l.gate).records;
   bytes : whole_audit l.version (g.G.AccessGate.seen l.fn.gate).policy (g.G.AccessGate.seen l.gate).records ++ drop l.at l.audit ≡ l.audit;
 }
 

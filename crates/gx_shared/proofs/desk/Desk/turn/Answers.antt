@@ -7,6 +7,7 @@ use Rattle.gx_answers.specs.Gates.{left_by}
 use Rattle.gx_pass.specs.Rules.{IsMet}
 use Rattle.gx_pass.specs.Views.{holds}
 use Rattle.gx_door.specs.Acts.{asked_on}
+use Rattle.gx_door.specs.Endings.{ended_by, sums_of}
 use Rattle.gx_door.specs.Matching.{AddsMatches}
 use Rattle.gx_shared.proofs.Meetings.{goes_later}
 use Rattle.gx_shared.proofs.Refusals.{stays_refused}
@@ -31,8 +32,10 @@ returns-clause-done g c =
     let is : c.asked_on-asked.result ≡ a = c.asked_on-asked.ensures.asked ∙ ap (λ (l : ℕ). asked_on l c.args.user c.args.request c.args.moment) c.line-line.ensures in
     let all = c.leave.ensures.pass ∙ ap (λ (l : ℕ). holds l now.records (length now.records)) c.enter-entered.ensures.line in
     let met : IsMet was.records c.args.pass = subst (λ (xs : List RecordData). IsMet xs c.args.pass) c.self.invariant.1 c.enter-entered.ensures.met in
-    turns c.turn-result.result was.records now.records a c.args.pass c.leave.result all met refl c.enter-entered.ensures.some
+    turns g.N.GateName.policy c.turn-result.result was.records now.records a c.args.pass c.leave.result all met refl c.enter-entered.ensures.some
     (subst (λ (x : Asked). IfOk c.turn-result.result (λ t. AddsMatches x.handed t.matched.made (was.records ++ left_by x t.outcome ∷ []) now.records)) is c.turn-result.ensures.done)
+    (subst (λ (p : PolicyData). IfOk c.turn-result.result (λ t. t.ended ≡ sums_of (ended_by p was.records (left_by a t.outcome)))) c.self.invariant.0
+    (subst (λ (x : Asked). IfOk c.turn-result.result (λ t. t.ended ≡ sums_of (ended_by was.policy was.records (left_by x t.outcome)))) is c.turn-result.ensures.ends))
 
 pub returns-clause-never_refused : goal.returns-clause-never_refused
 returns-clause-never_refused g c =

@@ -1,0 +1,7 @@
+pub mod Counting
+pub mod Knowing
+pub mod Standing
+pub mod Tables
+pub mod Trading
+pub mod Denied
+pub mod Timing

@@ -1,0 +1,112 @@
+-- No count comes near 64 bits, and the rows stand as they were noted.
+use Rattle.std.proofs.Common.{◌≡◌, ℕ, ◌+◌, ◌<◌, ◌≤◌, ◌*◌, ◌^◌, arith, Bool, List, [], ◌∷◌, ◌++◌, map, length, take, drop, refl, ap, sym, ◌∙◌, length-append}
+use Rattle.std.specs.Prelude.{Option, Some, None, count_by, filter_map, flat_map, option_and_then, option_to_list}
+use Rattle.std.specs.List.{cons_option}
+use Rattle.std.proofs.lemmas.List.{length-map}
+use Rattle.std.proofs.lemmas.List.Sums.{count_by-le-length}
+use Rattle.gx_units.specs.Names.{same_account}
+use Rattle.gx_units.specs.declared.names.AccountName.{AccountName}
+use Rattle.gx_ouch.specs.declared.letters.Liquidity.{Liquidity}
+use Rattle.gx_ouch.specs.declared.letters.Liquidity.TheVariants as liquidities
+use Rattle.gx_policy.specs.declared.policy.Account.{Account}
+use Rattle.gx_policy.specs.declared.policy.PolicyData.{PolicyData}
+use Rattle.gx_policy.specs.Lists.{each_after, each_with_earlier}
+use Rattle.gx_history.specs.declared.record.Fill.{Fill}
+use Rattle.gx_history.specs.declared.record.RecordData.{RecordData}
+use Rattle.gx_history.specs.declared.record.Request.{Request}
+use Rattle.gx_history.specs.declared.record.Verdict.{Verdict}
+use Rattle.gx_history.specs.declared.record.Verdict.TheVariants as verdicts
+use Rattle.gx_history.specs.Book.{rested_of}
+use Rattle.gx_history.specs.Executions.{Execution, executions, executions_of, side_of, sides_in}
+use Rattle.gx_history.specs.Orders.{Order, order_numbered, orders}
+use Rattle.gx_history.specs.Requests.{is_granted}
+use Rattle.gx_overview.specs.Accounts.{capped_count}
+use Rattle.gx_overview.proofs.Passing.{map_same, written_back}
+use Rattle.gx_activity.specs.declared.activity.ActivityRow.{ActivityRow}
+use Rattle.gx_activity.specs.Activity.{activity_row, expired_of, is_asked, is_cancel, is_denied, is_enter, is_replace, no_activity, orders_of, orders_said, requests_of}
+use Rattle.gx_activity.specs.Noting.{capped_requests, so_far}
+use Rattle.gx_activity.proofs.Counting.{the_requests, the_row}
+
+pub fits : (n : ℕ) → n < 2 ^ 64 → capped_count n ≡ n
+fits n few = omega arith
+
+-- a list is no longer with some of it mapped
+pub found_are_few : {X Y : Type 0} (f : X → Option Y) (xs : List X) → length (filter_map f xs) ≤ length xs
+found_are_few f [] = omega arith
+found_are_few {X} {Y} f (x ∷ xs) = by (f x) (found_are_few f xs)
+  where
+    by : (found : Option Y) → length (filter_map f xs) ≤ length xs → length (cons_option found (filter_map f xs)) ≤ length (x ∷ xs)
+    by None fewer = omega arith
+    by (Some y) fewer = omega arith
+
+entries_are : (earlier records : List RecordData) → length (each_after earlier records) ≡ length records
+entries_are earlier [] = refl
+entries_are earlier (r ∷ records) = let rest : length (each_after (earlier ++ r ∷ []) records) ≡ length records = entries_are (earlier ++ r ∷ []) records in omega arith
+
+-- a record has no more than two sides of fills
+two_are_few : {X Y : Type 0} (f : X → List Y) → ((x : X) → length (f x) ≤ 2) → (xs : List X) → length (flat_map f xs) ≤ 2 * length xs
+two_are_few f few [] = omega arith
+two_are_few f few (x ∷ xs) =
+    let rest : length (flat_map f xs) ≤ 2 * length xs = two_are_few f few xs in
+    let one : length (f x) ≤ 2 = few x in
+    let parts : length (f x ++ flat_map f xs) ≡ length (f x) + length (flat_map f xs) = length-append (f x) (flat_map f xs) in
+    omega arith
+
+one_side : (known : List Order) (f : Fill) (l : Liquidity) (number : ℕ) → length (side_of known f l number) ≤ 1
+one_side known f l number = by (order_numbered known number)
+  where
+    by : (found : Option Order) → length (map {B = Execution} (λ (o : Order). record { fill = f; liquidity = l; order = o }) (option_to_list found)) ≤ 1
+    by None = omega arith
+    by (Some o) = omega arith
+
+two_sides : (known : List Order) (v : Verdict) → length (sides_in known v) ≤ 2
+two_sides known (verdicts.Filled f) =
+    let takers : length (side_of known f liquidities.Removed f.taker) ≤ 1 = one_side known f liquidities.Removed f.taker in
+    let makers : length (side_of known f liquidities.Added f.maker) ≤ 1 = one_side known f liquidities.Added f.maker in
+    let parts : length (sides_in known (verdicts.Filled f)) ≡ length (side_of known f liquidities.Removed f.taker) + length (side_of known f liquidities.Added f.maker) =
+    length-append (side_of known f liquidities.Removed f.taker) (side_of known f liquidities.Added f.maker) in
+    omega arith
+two_sides known verdicts.Granted = omega arith
+two_sides known (verdicts.Denied rule) = omega arith
+two_sides known (verdicts.Rested number) = omega arith
+two_sides known (verdicts.Expired number) = omega arith
+
+sides_are_few : (policy : PolicyData) (records : List RecordData) → length (executions policy records) ≤ 2 * length records
+unfolding executions
+sides_are_few policy records =
+    let few : length (flat_map (executions_of policy) (each_with_earlier records)) ≤ 2 * length (each_with_earlier records) =
+    two_are_few (executions_of policy) (λ entry. two_sides (orders policy entry.0) entry.1.verdict) (each_with_earlier records) in
+    let many : length (each_with_earlier records) ≡ length records = entries_are [] records in
+    omega arith
+
+module _ (policy : PolicyData) (records : List RecordData) (n : ℕ) (is : n ≡ length records) (few : n < 2 ^ 63) where
+  asked_fit : (account : AccountName) (became : Verdict → Bool) → capped_requests (requests_of policy records account became) ≡ requests_of policy records account became
+  asked_fit account became = λ i. the_requests (one is_enter i) (one is_replace i) (one is_cancel i)
+    where
+      one : (kind : Request → Bool) → capped_count (count_by (is_asked policy account became kind) records) ≡ count_by (is_asked policy account became kind) records
+      one kind = fits (count_by (is_asked policy account became kind) records) (omega (arith, count_by-le-length (is_asked policy account became kind) records))
+
+  fills_fit : (account : AccountName)
+      → capped_count (count_by (λ (e : Execution). same_account account e.order.account) (executions policy records)) ≡ count_by (λ (e : Execution). same_account account e.order.account) (executions policy records)
+  fills_fit account =
+      fits (count_by (λ (e : Execution). same_account account e.order.account) (executions policy records))
+      (omega (arith, count_by-le-length (λ (e : Execution). same_account account e.order.account) (executions policy records), sides_are_few policy records))
+
+  said_fit : (account : AccountName) (says : Verdict → Option ℕ) → capped_count (orders_of account (orders_said says policy records)) ≡ orders_of account (orders_said says policy records)
+  said_fit account says =
+      let said : (List RecordData × RecordData) → Option Order = λ (entry : List RecordData × RecordData). option_and_then (order_numbered (orders policy entry.0)) (says entry.1.verdict) in
+      let found : length (orders_said says policy records) ≤ length (each_with_earlier records) = found_are_few said (each_with_earlier records) in
+      let many : length (each_with_earlier records) ≡ length records = entries_are [] records in
+      let his : orders_of account (orders_said says policy records) ≤ length (orders_said says policy records) = count_by-le-length (λ (o : Order). same_account account o.account) (orders_said says policy records) in
+      fits (orders_of account (orders_said says policy records)) (omega arith)
+
+  all_fit : (a : Account) → so_far policy records a ≡ activity_row policy records a
+  all_fit a = λ i. the_row a.name (asked_fit a.name is_granted i) (asked_fit a.name is_denied i) (fills_fit a.name i) (said_fit a.name rested_of i) (said_fit a.name expired_of i)
+
+  -- as they are written over those before any record
+  pub rows_stand : (items new : List ActivityRow) (len : ℕ) → items ≡ map no_activity policy.accounts → new ≡ map (so_far policy records) policy.accounts → len ≡ length items
+      → take len (new ++ drop (length new) items) ≡ map (activity_row policy records) policy.accounts
+  rows_stand items new len first noted whole =
+      let many : length new ≡ length items =
+      ap length noted ∙ length-map policy.accounts (so_far policy records) ∙ sym (length-map policy.accounts no_activity) ∙ ap length (sym first) in
+      written_back new items len many whole ∙ noted ∙ map_same (so_far policy records) (activity_row policy records) all_fit policy.accounts

@@ -1,0 +1,12 @@
+use Rattle.std.proofs.Common.{◌≡◌, map, take}
+use Rattle.gx_history.specs.Orders.{orders}
+use Rattle.gx_overview.specs.Executed.{KnowOrders}
+use Rattle.gx_activity.specs.Noting.{so_far}
+use Rattle.gx_activity.proofs.activity.note_records.Given as goal
+
+-- the orders of the records so far are known, and what these tell is counted
+abbrev pub invariant-loop-record : goal.invariant-loop-record
+invariant-loop-record l = record {
+  knows : KnowOrders l.owners (orders l.policy (take l.record-index l.records));
+  rows : l.rows ≡ map (so_far l.policy (take l.record-index l.records)) l.policy.accounts;
+}

@@ -1,0 +1,21 @@
+use Rattle.std.proofs.Common.{◌∙◌, List, ap, arith}
+use Rattle.std.specs.Prelude.{Some}
+use Rattle.std.proofs.lemmas.List.{take_all}
+use Rattle.gx_history.specs.declared.record.RecordData.{RecordData}
+use Rattle.gx_activity.specs.declared.spans.SpanRow.{SpanRow}
+use Rattle.gx_activity.specs.Spanning.{span_so_far}
+use Rattle.gx_activity.proofs.Timing.{span_fits, span_further}
+use Rattle.gx_activity.proofs.spans.note_all.Goals as goal
+
+pub loop-record-preserved : goal.loop-record-preserved
+loop-record-preserved c = λ k within.
+    c.note.ensures.noted k _ (c.loop-record.invariant k within)
+    ∙ ap (λ (row : SpanRow). Some row) (span_further c.args.from c.args.width k c.args.records.now c.loop-record.record-index c.record-item.result c.record-item.result c.loop-record-test.true c.record-item.is)
+
+pub returns : goal.returns
+returns c = record {
+  noted = λ k within.
+      c.loop-record.invariant k within
+      ∙ ap (λ (rs : List RecordData). Some (span_so_far rs c.args.from c.args.width k)) (take_all c.loop-record.record-index c.args.records.now c.loop-record-test.false)
+      ∙ ap (λ (row : SpanRow). Some row) (span_fits c.args.from c.args.width k c.args.records.now (omega arith));
+}

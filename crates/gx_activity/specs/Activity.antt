@@ -1,0 +1,100 @@
+-- What each account asked for, and what became of its orders.
+use Rattle.std.specs.Prelude.{ℕ, Bool, true, false, ◌&&◌, List, count_by, Option, Some, None, option_and_then}
+use Rattle.std.specs.Option.{option_map_or}
+use Rattle.std.specs.List.{filter_map}
+use Rattle.gx_units.specs.Names.{same_account}
+use Rattle.gx_units.specs.declared.names.AccountName.{AccountName}
+use Rattle.gx_units.specs.declared.names.UserName.{UserName}
+use Rattle.gx_policy.specs.declared.policy.Account.{Account}
+use Rattle.gx_policy.specs.declared.policy.PolicyData.{PolicyData}
+use Rattle.gx_policy.specs.Lists.{each_with_earlier}
+use Rattle.gx_policy.specs.People.{account_of}
+use Rattle.gx_history.specs.declared.record.Asked.{Asked}
+use Rattle.gx_history.specs.declared.record.RecordData.{RecordData}
+use Rattle.gx_history.specs.declared.record.Request.{Request}
+use Rattle.gx_history.specs.declared.record.Request.TheVariants as requests
+use Rattle.gx_history.specs.declared.record.Verdict.{Verdict}
+use Rattle.gx_history.specs.declared.record.Verdict.TheVariants as verdicts
+use Rattle.gx_history.specs.Book.{rested_of}
+use Rattle.gx_history.specs.Executions.{Execution, executions}
+use Rattle.gx_history.specs.Orders.{Order, order_numbered, orders}
+use Rattle.gx_history.specs.Requests.{asked, is_granted}
+use Rattle.gx_activity.specs.declared.activity.ActivityRow.{ActivityRow}
+use Rattle.gx_activity.specs.declared.activity.OrderRequests.{OrderRequests}
+
+-- Enter Order
+abbrev pub is_enter : Request → Bool
+is_enter (requests.Enter m) = true
+is_enter other = false
+
+-- Replace Order
+abbrev pub is_replace : Request → Bool
+is_replace (requests.Replace m) = true
+is_replace other = false
+
+-- Cancel Order
+abbrev pub is_cancel : Request → Bool
+is_cancel (requests.Cancel m) = true
+is_cancel other = false
+
+-- the request was denied
+abbrev pub is_denied : Verdict → Bool
+is_denied (verdicts.Denied rule) = true
+is_denied other = false
+
+-- the account that the user trades for is this one
+abbrev pub trades_for : PolicyData → AccountName → UserName → Bool
+trades_for policy account user = option_map_or (same_account account) (account_of policy user) false
+
+-- a user of the account asked for such a thing, and such a thing became of it
+abbrev pub is_asked : PolicyData → AccountName → (Verdict → Bool) → (Request → Bool) → RecordData → Bool
+is_asked policy account became kind r =
+    became r.verdict && option_map_or (λ (a : Asked). trades_for policy account a.user && kind a.request) (asked r.step) false
+
+-- how many requests for orders of the account's users became such
+abbrev pub requests_of : PolicyData → List RecordData → AccountName → (Verdict → Bool) → OrderRequests
+requests_of policy records account became = record {
+  enters = count_by (is_asked policy account became is_enter) records;
+  replaces = count_by (is_asked policy account became is_replace) records;
+  cancels = count_by (is_asked policy account became is_cancel) records;
+}
+
+-- the order that came to an end since it found nothing to trade with
+abbrev pub expired_of : Verdict → Option ℕ
+expired_of (verdicts.Expired order) = Some order
+expired_of other = None
+
+-- the orders of which the verdicts say so, each by the records in front of it
+abbrev pub orders_said : (Verdict → Option ℕ) → PolicyData → List RecordData → List Order
+orders_said says policy records =
+    filter_map (λ (entry : List RecordData × RecordData). option_and_then (order_numbered (orders policy entry.0)) (says entry.1.verdict)) (each_with_earlier records)
+
+-- how many of these orders are the account's
+abbrev pub orders_of : AccountName → List Order → ℕ
+orders_of account found = count_by (λ (o : Order). same_account account o.account) found
+
+-- what the account did
+abbrev pub activity_of : PolicyData → List RecordData → AccountName → ActivityRow
+activity_of policy records account = record {
+  account = account;
+  granted = requests_of policy records account is_granted;
+  denied = requests_of policy records account is_denied;
+  fills = count_by (λ (e : Execution). same_account account e.order.account) (executions policy records);
+  rested = orders_of account (orders_said rested_of policy records);
+  expired = orders_of account (orders_said expired_of policy records);
+}
+
+-- what an account of the policy did
+abbrev pub activity_row : PolicyData → List RecordData → Account → ActivityRow
+activity_row policy records a = activity_of policy records a.name
+
+-- before any record
+abbrev pub no_activity : Account → ActivityRow
+no_activity a = record {
+  account = a.name;
+  granted = record { enters = 0; replaces = 0; cancels = 0 };
+  denied = record { enters = 0; replaces = 0; cancels = 0 };
+  fills = 0;
+  rested = 0;
+  expired = 0;
+}

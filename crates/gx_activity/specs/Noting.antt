@@ -1,0 +1,106 @@
+-- What one more record changes in the rows of the accounts.
+use Rattle.std.specs.Prelude.{◌≡◌, ℕ, ◌+◌, Bool, List, [], ◌++◌, map, fold, Option, option_to_list, if◌then◌else◌}
+use Rattle.std.specs.Option.{option_map_or}
+use Rattle.gx_units.specs.Names.{same_account}
+use Rattle.gx_units.specs.declared.names.AccountName.{AccountName}
+use Rattle.gx_policy.specs.declared.policy.Account.{Account}
+use Rattle.gx_policy.specs.declared.policy.PolicyData.{PolicyData}
+use Rattle.gx_policy.specs.People.{account_of}
+use Rattle.gx_history.specs.declared.record.Asked.{Asked}
+use Rattle.gx_history.specs.declared.record.RecordData.{RecordData}
+use Rattle.gx_history.specs.declared.record.Request.{Request}
+use Rattle.gx_history.specs.declared.record.Step.{Step}
+use Rattle.gx_history.specs.declared.record.Verdict.{Verdict}
+use Rattle.gx_history.specs.declared.record.Verdict.TheVariants as verdicts
+use Rattle.gx_history.specs.Orders.{Order, order_numbered, orders_added}
+use Rattle.gx_history.specs.Requests.{asked}
+use Rattle.gx_overview.specs.declared.owners.Owner.{Owner}
+use Rattle.gx_overview.specs.declared.owners.Owners.{Owners}
+use Rattle.gx_overview.specs.Accounts.{capped_count}
+use Rattle.gx_overview.specs.Executed.{KnowOrders}
+use Rattle.gx_activity.specs.declared.activity.ActivityRow.{ActivityRow}
+use Rattle.gx_activity.specs.declared.activity.OrderRequests.{OrderRequests}
+use Rattle.gx_activity.specs.declared.deeds.Deed.{Deed}
+use Rattle.gx_activity.specs.declared.deeds.Deed.TheVariants as deeds
+use Rattle.gx_activity.specs.Activity.{activity_of, is_cancel, is_enter, is_replace}
+
+-- with one more, where this is so
+abbrev pub one_more : Bool → ℕ → ℕ
+one_more is_so n = if is_so then capped_count (n + 1) else n
+
+-- with the request counted as what it is
+abbrev pub requests_with : Request → OrderRequests → OrderRequests
+requests_with q counts = record {
+  enters = one_more (is_enter q) counts.enters;
+  replaces = one_more (is_replace q) counts.replaces;
+  cancels = one_more (is_cancel q) counts.cancels;
+}
+
+-- the row, once this is done by its account
+abbrev pub row_with : Deed → ActivityRow → ActivityRow
+row_with (deeds.Granted q) row = record { account = row.account; granted = requests_with q row.granted; denied = row.denied; fills = row.fills; rested = row.rested; expired = row.expired }
+row_with (deeds.Denied q) row = record { account = row.account; granted = row.granted; denied = requests_with q row.denied; fills = row.fills; rested = row.rested; expired = row.expired }
+row_with deeds.Filled row = record { account = row.account; granted = row.granted; denied = row.denied; fills = capped_count (row.fills + 1); rested = row.rested; expired = row.expired }
+row_with deeds.Rested row = record { account = row.account; granted = row.granted; denied = row.denied; fills = row.fills; rested = capped_count (row.rested + 1); expired = row.expired }
+row_with deeds.Expired row = record { account = row.account; granted = row.granted; denied = row.denied; fills = row.fills; rested = row.rested; expired = capped_count (row.expired + 1) }
+
+-- the row, once this is done by the account, if it is that row's
+abbrev pub row_done : AccountName → Deed → ActivityRow → ActivityRow
+row_done account deed row = if same_account row.account account then row_with deed row else row
+
+-- the rows, once this is done by the account, or by none
+abbrev pub rows_done : List ActivityRow → Option AccountName → Deed → List ActivityRow
+rows_done rows account deed = option_map_or (λ (name : AccountName). map (row_done name deed) rows) account rows
+
+-- the rows, once this is done to an order of this owner, or to none
+abbrev pub rows_of_number : List ActivityRow → Option Owner → Deed → List ActivityRow
+rows_of_number rows owner deed = option_map_or (λ (o : Owner). map (row_done o.account deed) rows) owner rows
+
+-- the request of a user of the account, granted or denied
+abbrev pub deed_asked : PolicyData → (Request → Deed) → Step → List (AccountName × Deed)
+deed_asked policy became step =
+    option_map_or (λ (a : Asked). map (λ (account : AccountName). (account, became a.request)) (option_to_list (account_of policy a.user))) (asked step) []
+
+-- what was done to the order of this number, if it is known
+abbrev pub deed_of : List Order → Deed → ℕ → List (AccountName × Deed)
+deed_of known deed number = map (λ (o : Order). (o.account, deed)) (option_to_list (order_numbered known number))
+
+-- what a record tells, where these orders are known
+abbrev pub deeds_in : PolicyData → List Order → Step → Verdict → List (AccountName × Deed)
+deeds_in policy known step verdicts.Granted = deed_asked policy deeds.Granted step
+deeds_in policy known step (verdicts.Denied rule) = deed_asked policy deeds.Denied step
+deeds_in policy known step (verdicts.Filled f) = deed_of known deeds.Filled f.taker ++ deed_of known deeds.Filled f.maker
+deeds_in policy known step (verdicts.Rested number) = deed_of known deeds.Rested number
+deeds_in policy known step (verdicts.Expired number) = deed_of known deeds.Expired number
+
+-- the rows, once all this is done
+abbrev pub rows_after : List ActivityRow → List (AccountName × Deed) → List ActivityRow
+rows_after rows done = fold (λ (rs : List ActivityRow) (d : AccountName × Deed). map (row_done d.0 d.1) rs) rows done
+
+-- the record's order is known too, and what it tells is counted
+pub record AreNoted (policy : PolicyData) (r : RecordData) (known : List Order) (owners : Owners) (before after : List ActivityRow) : Type 0 where
+  pub knows : KnowOrders owners (known ++ orders_added policy known r)
+  pub rows : after ≡ rows_after before (deeds_in policy known r.step r.verdict)
+
+-- of any orders that were known
+abbrev pub NoteRecord : PolicyData → RecordData → Owners → Owners → List ActivityRow → List ActivityRow → Type 0
+NoteRecord policy r old new before after = (known : List Order) → KnowOrders old known → AreNoted policy r known new before after
+
+-- the counts, where each stops at 64 bits
+abbrev pub capped_requests : OrderRequests → OrderRequests
+capped_requests counts = record { enters = capped_count counts.enters; replaces = capped_count counts.replaces; cancels = capped_count counts.cancels }
+
+-- the row, where each count stops at 64 bits
+abbrev pub capped_row : ActivityRow → ActivityRow
+capped_row row = record {
+  account = row.account;
+  granted = capped_requests row.granted;
+  denied = capped_requests row.denied;
+  fills = capped_count row.fills;
+  rested = capped_count row.rested;
+  expired = capped_count row.expired;
+}
+
+-- the row of an account after these records
+abbrev pub so_far : PolicyData → List RecordData → Account → ActivityRow
+so_far policy records a = capped_row (activity_of policy records a.name)

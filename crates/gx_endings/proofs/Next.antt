@@ -1,0 +1,42 @@
+-- What is kept, once one more record is looked at.
+use Rattle.std.proofs.Common.{◌≡◌, List, [], ◌∷◌, ◌++◌, refl, ap, sym, ◌∙◌}
+use Rattle.std.specs.Prelude.{Option, Some, None, filter_map, option_to_list}
+use Rattle.std.specs.List.{cons_option}
+use Rattle.std.proofs.lemmas.List.Elements.{filter_map-append}
+use Rattle.gx_policy.specs.declared.policy.PolicyData.{PolicyData}
+use Rattle.gx_policy.specs.Lists.{each_with_earlier}
+use Rattle.gx_history.specs.declared.record.RecordData.{RecordData}
+use Rattle.gx_history_laws.proofs.Pushing.{each_after_next}
+use Rattle.gx_endings.specs.declared.commands.CommandRow.{CommandRow}
+use Rattle.gx_endings.specs.declared.endings.Ending.{Ending}
+use Rattle.gx_endings.specs.Commands.{command_by, command_rows}
+use Rattle.gx_endings.specs.Endings.{Grows, ending_by, endings}
+
+one_found : {Y : Type 0} (found : Option Y) → cons_option found [] ≡ option_to_list found
+one_found None = refl
+one_found (Some y) = refl
+
+-- what each record gives with those before it, of one more
+found_next : {X Y : Type 0} (f : List X → X → Option Y) (xs : List X) (x : X)
+    → filter_map (λ (entry : List X × X). f entry.0 entry.1) (each_with_earlier (xs ++ x ∷ [])) ≡ filter_map (λ (entry : List X × X). f entry.0 entry.1) (each_with_earlier xs) ++ option_to_list (f xs x)
+found_next {X} {Y} f xs x =
+    ap (filter_map at) (each_after_next [] xs x)
+    ∙ filter_map-append at (each_with_earlier xs) ((xs, x) ∷ [])
+    ∙ ap (λ (ys : List Y). filter_map at (each_with_earlier xs) ++ ys) (one_found (f xs x))
+  where
+    at : (List X × X) → Option Y
+    at entry = f entry.0 entry.1
+
+pub one_more_ending : (policy : PolicyData) (records : List RecordData) (r : RecordData) (old new : List Ending) → old ≡ endings policy records → Grows old (ending_by policy records r) new
+    → new ≡ endings policy (records ++ r ∷ [])
+one_more_ending policy records r old new saw grows =
+    grows ∙ ap (λ (list : List Ending). list ++ option_to_list (ending_by policy records r)) saw ∙ sym (found_next (ending_by policy) records r)
+
+pub one_more_command : (policy : PolicyData) (records : List RecordData) (r : RecordData) (old new : List CommandRow) → old ≡ command_rows policy records → Grows old (command_by policy records r) new
+    → new ≡ command_rows policy (records ++ r ∷ [])
+one_more_command policy records r old new saw grows =
+    grows ∙ ap (λ (list : List CommandRow). list ++ option_to_list (command_by policy records r)) saw ∙ sym (found_next (command_by policy) records r)
+
+-- behind the record it stands last
+pub stands_behind : {Y : Type 0} (kept : List Y) (told : List RecordData → List Y) (records earlier : List RecordData) (r : RecordData) → records ≡ earlier ++ r ∷ [] → kept ≡ told (earlier ++ r ∷ []) → kept ≡ told records
+stands_behind kept told records earlier r last expected = expected ∙ sym (ap told last)

@@ -1,0 +1,36 @@
+-- What granted Kills and Close Days ended.
+use Rattle.std.specs.Prelude.{◌≡◌, ℕ, List, ◌++◌, length, sum_by, Option, Some, None, option_and_then, option_map, option_to_list}
+use Rattle.std.specs.List.{filter_map}
+use Rattle.gx_desk.specs.declared.Action.{Action}
+use Rattle.gx_desk.specs.declared.Action.TheVariants as actions
+use Rattle.gx_policy.specs.declared.policy.PolicyData.{PolicyData}
+use Rattle.gx_policy.specs.Lists.{each_with_earlier}
+use Rattle.gx_history.specs.declared.live_order.LiveOrder.{LiveOrder}
+use Rattle.gx_history.specs.declared.record.RecordData.{RecordData}
+use Rattle.gx_history.specs.Live.{live}
+use Rattle.gx_history.specs.LiveOrders.{shares_open}
+use Rattle.gx_history.specs.Requests.{granted_action}
+use Rattle.gx_slab.specs.Slabs.{of_account}
+use Rattle.gx_endings.specs.declared.endings.Ending.{Ending}
+
+-- which of the live orders an action ends: a Kill those of its account, a Close Day all; None for any other action
+abbrev pub ended_by : List LiveOrder → Action → Option (List LiveOrder)
+ended_by live (actions.Kill account) = Some (of_account account live)
+ended_by live actions.CloseDay = Some live
+ended_by live other = None
+
+-- the record of this number ended these orders: how many, and the shares that they had open
+abbrev pub ending_of : ℕ → List LiveOrder → Ending
+ending_of number ended = record { number = number; orders = length ended; shares = sum_by shares_open ended }
+
+-- what the record ended of the orders that were live behind the earlier ones, if it is a granted Kill or Close Day
+abbrev pub ending_by : PolicyData → List RecordData → RecordData → Option Ending
+ending_by policy earlier r = option_map (ending_of r.number) (option_and_then (ended_by (live policy earlier)) (granted_action r))
+
+-- what each granted Kill and Close Day ended, in their order
+abbrev pub endings : PolicyData → List RecordData → List Ending
+endings policy records = filter_map (λ (entry : List RecordData × RecordData). ending_by policy entry.0 entry.1) (each_with_earlier records)
+
+-- one more stands last, where there is one
+abbrev pub Grows : {X : Type 0} → List X → Option X → List X → Type 0
+Grows before one after = after ≡ before ++ option_to_list one

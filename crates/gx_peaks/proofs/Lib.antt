@@ -1,0 +1,11 @@
+pub mod Rising
+pub mod Sorts
+pub mod Settings
+pub mod Newest
+pub mod Quiet
+pub mod Unraised
+pub mod Sameness
+pub mod Advancing
+pub mod Looping
+pub mod Holding
+pub mod Beginning

@@ -1,0 +1,132 @@
+-- The order that a record adds is the live one of its number, and the account of each live order is one of the policy.
+use Rattle.std.proofs.Common.{◌≡◌, ℕ, Bool, true, false, cond, ◌⊎◌, inl, inr, List, [], ◌∷◌, ◌++◌, refl, sym, ap, subst, ◌∙◌}
+use Rattle.std.specs.Prelude.{Option, Some, None, ◌==◌, is_some}
+use Rattle.std.specs.Option.{option_map_or}
+use Rattle.std.specs.List.{AllByRecursion, cons_option, filter_map}
+use Rattle.std.proofs.lemmas.Bool.{eq-eqb}
+use Rattle.gx_units.specs.declared.names.AccountName.{AccountName}
+use Rattle.gx_policy.specs.declared.policy.PolicyData.{PolicyData}
+use Rattle.gx_policy.specs.People.{account_named, account_of}
+use Rattle.gx_policy.specs.Soundness.{is_sound}
+use Rattle.gx_history.specs.declared.live_order.LiveOrder.{LiveOrder}
+use Rattle.gx_history.specs.declared.record.Asked.{Asked}
+use Rattle.gx_history.specs.declared.record.RecordData.{RecordData}
+use Rattle.gx_history.specs.declared.record.Request.{Request}
+use Rattle.gx_history.specs.declared.record.Request.TheVariants as requests
+use Rattle.gx_history.specs.declared.record.Step.{Step}
+use Rattle.gx_history.specs.declared.record.Step.TheVariants as steps
+use Rattle.gx_history.specs.declared.record.Verdict.{Verdict}
+use Rattle.gx_history.specs.declared.record.Verdict.TheVariants as verdicts
+use Rattle.gx_history.specs.Figures.{Positions, positions}
+use Rattle.gx_history.specs.Live.{live, live_numbered, live_under}
+use Rattle.gx_history.specs.LiveOrders.{replacement_order}
+use Rattle.gx_history.specs.Orders.{Order}
+use Rattle.gx_history.specs.Turns as turns
+use Rattle.gx_history.specs.Turns.{Turn, becomes, new_in, new_order, turned}
+use Rattle.gx_history.specs.Verdicts.{Follows, IsLegal}
+use Rattle.gx_history.specs.World.{World, Adds, Nothing, Replaces, Sizes, move_asked, turn_by, turn_in, world}
+use Rattle.gx_history_laws.proofs.Owners.{IsHisAccounts, orders_are_their_users}
+use Rattle.gx_effects.proofs.Accounts.{accounts_are_known}
+use Rattle.gx_effects.proofs.NewOrders.{found_is}
+use Rattle.gx_positions.specs.Laws.{granted_after, turn_after}
+use Rattle.gx_positions.specs.Sound.{MayChange}
+use Rattle.gx_positions.proofs.Coming.{of_live, records_may_come}
+use Rattle.gx_positions.proofs.GoingOn.{positions_go_on}
+
+-- an order that is new has the number of the record
+abbrev HasNumber : ℕ → LiveOrder → Type 0
+HasNumber number o = o.number ≡ number
+
+asked_number : (policy : PolicyData) (w : World) (r : RecordData) (a : Asked) (q : Request) → AllByRecursion (HasNumber r.number) (new_in (turn_in (move_asked policy w r a q)))
+asked_number policy w r a (requests.Login m) = tt
+asked_number policy w r a requests.Logout = tt
+asked_number policy w r a (requests.Unreadable m) = tt
+asked_number policy w r a (requests.Command c) = tt
+asked_number policy w r a (requests.Enter m) =
+    elim (account_of policy a.user) as (λ (x : Option AccountName). AllByRecursion (HasNumber r.number) (new_in (turn_in (option_map_or (λ (account : AccountName). Adds (new_order policy r a.user account m)) x Nothing))))
+    [ None ↦ tt | Some account ↦ (refl, tt) ]
+asked_number policy w r a (requests.Replace m) =
+    elim (live_under w.live a.user m.existing_token) as (λ (x : Option LiveOrder). AllByRecursion (HasNumber r.number) (new_in (turn_in (option_map_or (λ (old : LiveOrder). Replaces old (replacement_order r m old)) x Nothing))))
+    [ None ↦ tt | Some old ↦ (refl, tt) ]
+asked_number policy w r a (requests.Cancel m) =
+    elim (live_under w.live a.user m.token) as (λ (x : Option LiveOrder). AllByRecursion (HasNumber r.number) (new_in (turn_in (option_map_or (λ (cut : LiveOrder). Sizes cut m.shares) x Nothing))))
+    [ None ↦ tt | Some cut ↦ tt ]
+
+new_number : (policy : PolicyData) (w : World) (r : RecordData) (v : Verdict) (s : Step) → AllByRecursion (HasNumber r.number) (new_in (turn_by policy w r v s))
+new_number policy w r verdicts.Granted (steps.Asked a) = asked_number policy w r a a.request
+new_number policy w r verdicts.Granted (steps.Matching handed) = tt
+new_number policy w r (verdicts.Denied rule) (steps.Asked a) = tt
+new_number policy w r (verdicts.Denied rule) (steps.Matching handed) = tt
+new_number policy w r (verdicts.Filled f) s = tt
+new_number policy w r (verdicts.Rested number) s = tt
+new_number policy w r (verdicts.Expired number) s = tt
+
+-- a live order goes on as it is, or ends
+abbrev StaysOrEnds : (LiveOrder → Option LiveOrder) → LiveOrder → Type 0
+StaysOrEnds f o = (f o ≡ Some o) ⊎ (f o ≡ None)
+
+not_it : (b : Bool) (o : LiveOrder) (rest : Option LiveOrder) → cond b (Some o) rest ≡ None → (b ≡ false) × (rest ≡ None)
+not_it true o rest h = cc
+not_it false o rest h = (refl, h)
+
+-- the one behind them all is found, where none of them has its number
+last_found : (f : LiveOrder → Option LiveOrder) → ((o : LiveOrder) → StaysOrEnds f o) → (os : List LiveOrder) (new : LiveOrder) → live_numbered os new.number ≡ None
+    → live_numbered (filter_map f os ++ new ∷ []) new.number ≡ Some new
+last_found f each [] new none = ap (λ (b : Bool). cond b (Some new) None) (eq-eqb new.number new.number refl)
+last_found f each (o ∷ os) new none = by (each o) (last_found f each os new (not_it (o.number == new.number) o (live_numbered os new.number) none).1)
+  where
+    parts : ((o.number == new.number) ≡ false) × (live_numbered os new.number ≡ None)
+    parts = not_it (o.number == new.number) o (live_numbered os new.number) none
+
+    by : StaysOrEnds f o → live_numbered (filter_map f os ++ new ∷ []) new.number ≡ Some new → live_numbered (cons_option (f o) (filter_map f os) ++ new ∷ []) new.number ≡ Some new
+    by (inl stays) later =
+        ap (λ (x : Option LiveOrder). live_numbered (cons_option x (filter_map f os) ++ new ∷ []) new.number) stays
+        ∙ ap (λ (b : Bool). cond b (Some o) (live_numbered (filter_map f os ++ new ∷ []) new.number)) parts.0
+        ∙ later
+    by (inr ends) later = ap (λ (x : Option LiveOrder). live_numbered (cons_option x (filter_map f os) ++ new ∷ []) new.number) ends ∙ later
+
+replaced_or_not : (number : ℕ) (new o : LiveOrder) → StaysOrEnds (becomes (turns.Replaces number new)) o
+replaced_or_not number new o = by (o.number == number)
+  where
+    by : (b : Bool) → (cond b None (Some o) ≡ Some o) ⊎ (cond b None (Some o) ≡ None)
+    by true = inr refl
+    by false = inl refl
+
+-- each new order is found among those that are live then
+new_found : (policy : PolicyData) (held : Positions) (granted : List Order) (turn : Turn) → MayChange policy held turn granted
+    → AllByRecursion (λ (o : LiveOrder). live_numbered (turned turn held.live) o.number ≡ Some o) (new_in turn)
+new_found policy held granted turns.Keeps may = tt
+new_found policy held granted (turns.Adds new) may = (last_found (becomes (turns.Adds new)) (λ o. inl refl) held.live new may.is_new, tt)
+new_found policy held granted (turns.Sizes number size) may = tt
+new_found policy held granted (turns.Replaces number new) may = (last_found (becomes (turns.Replaces number new)) (replaced_or_not number new) held.live new may.may_come.is_new, tt)
+new_found policy held granted (turns.EndsAll action) may = tt
+new_found policy held granted (turns.Fills f) may = tt
+new_found policy held granted (turns.Rests number) may = tt
+new_found policy held granted (turns.Ends number) may = tt
+
+both_found : (number : ℕ) (found : ℕ → Option LiveOrder) (new : List LiveOrder) → AllByRecursion (λ (o : LiveOrder). found o.number ≡ Some o) new → AllByRecursion (HasNumber number) new
+    → AllByRecursion (λ (o : LiveOrder). found number ≡ Some o) new
+both_found number found [] h k = tt
+both_found number found (o ∷ os) h k = (ap found (sym k.0) ∙ h.0, both_found number found os h.1 k.1)
+
+-- the new order is the live one of the record's number
+pub new_is_newest : (policy : PolicyData) (records : List RecordData) (r : RecordData) → IsLegal policy records → Follows policy (records, r)
+    → AllByRecursion (λ (o : LiveOrder). live_numbered (live policy (records ++ r ∷ [])) r.number ≡ Some o) (new_in (turn_after policy records r))
+new_is_newest policy records r legal follows =
+    let turn : Turn = turn_after policy records r in
+    let goes : positions policy (records ++ r ∷ []) ≡ _ = positions_go_on policy records r.step r legal follows.is_next in
+    let now : live policy (records ++ r ∷ []) ≡ turned turn (live policy records) = ap (λ (p : Positions). p.live) goes in
+    both_found r.number (live_numbered (live policy (records ++ r ∷ []))) (new_in turn)
+    (subst (λ (os : List LiveOrder). AllByRecursion (λ (o : LiveOrder). live_numbered os o.number ≡ Some o) (new_in turn)) (sym now)
+    (new_found policy (positions policy records) (granted_after policy records r) turn (records_may_come policy records r.step r legal follows.is_next)))
+    (new_number policy (world policy records) r r.verdict r.step)
+
+-- the account of a live order is one of the policy
+pub account_is_known : (policy : PolicyData) (records : List RecordData) (number : ℕ) (o : LiveOrder) → is_sound policy ≡ true → IsLegal policy records → live_numbered (live policy records) number ≡ Some o
+    → is_some (account_named policy o.account) ≡ true
+account_is_known policy records number o sound legal found =
+    found_is (λ (x : LiveOrder). is_some (account_named policy x.account) ≡ true) (λ (x : LiveOrder). x.number == number) (live policy records) o
+    (of_live policy records (IsHisAccounts policy) (λ (x : LiveOrder). is_some (account_named policy x.account) ≡ true)
+    (λ grant x of his. ap (λ (a : AccountName). is_some (account_named policy a)) (sym of.account) ∙ accounts_are_known policy grant.user grant.account sound his)
+    legal (orders_are_their_users policy records))
+    found

@@ -1,0 +1,5 @@
+use Rattle.gx_peaks.proofs.Unraised.{limits_stay, most_raise_nothing}
+use Rattle.gx_peaks.proofs.laws.what_raises_no_figure.Goals as goal
+
+pub returns : goal.returns
+returns c = record { most = most_raise_nothing; limits = limits_stay }

@@ -1,0 +1,6 @@
+use Rattle.std.specs.Prelude.{None}
+use Rattle.gx_peaks.proofs.Beginning.{answered}
+use Rattle.gx_peaks.proofs.peaks.Peaks.gross.Goals as goal
+
+pub returns-clause-peak : goal.returns-clause-peak
+returns-clause-peak c = answered c.args.policy.now (record { rule = c.args.rule; account = c.args.account; side = None }) c.args.self.now.table c.peak.result c.peak.ensures.counted c.peak.ensures.peak

@@ -1,0 +1,5 @@
+use Rattle.gx_peaks.proofs.Beginning.{empty_holds}
+use Rattle.gx_peaks.proofs.peaks.Peaks.new.Goals as goal
+
+pub returns : goal.returns
+returns c = record { none = empty_holds c.new.result c.new.ensures.none }

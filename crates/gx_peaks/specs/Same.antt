@@ -1,0 +1,82 @@
+-- Keys that are the same are equal.
+use Rattle.std.proofs.Common.{◌≡◌, ℕ, Bool, true, false, List, refl, ap}
+use Rattle.std.specs.Prelude.{Option, Some, None, ◌&&◌}
+use Rattle.std.specs.Bool.{beq}
+use Rattle.std.specs.Option.{option_eq}
+use Rattle.std.proofs.lemmas.Slice.Eq.{bytes_eq-Decides}
+use Rattle.gx_units.specs.Names.{same_account, same_rule, same_stock}
+use Rattle.gx_units.specs.declared.names.RuleId.{RuleId}
+use Rattle.gx_units.specs.declared.names.Symbol.{Symbol}
+use Rattle.gx_history.specs.declared.facts.StockSide.{StockSide}
+use Rattle.gx_history_laws.proofs.Judging.{both}
+use Rattle.gx_history_laws.proofs.Names.{account_is, account_is_itself, stock_is}
+use Rattle.gx_peaks.specs.declared.key.PeakKey.{PeakKey}
+use Rattle.gx_peaks.specs.Keys.{key_bytes, same_key, same_side}
+
+-- names that are the same are equal
+pub rule_is : (a b : RuleId) → same_rule a b ≡ true → a ≡ b
+rule_is a b h = let name : List ℕ → RuleId = λ (bytes : List ℕ). record { bytes = bytes } in ap name ((bytes_eq-Decides a.bytes b.bytes).0 h)
+
+-- and a name is the same as itself
+pub rule_is_itself : (a : RuleId) → same_rule a a ≡ true
+rule_is_itself a = (bytes_eq-Decides a.bytes a.bytes).1 refl
+
+stock_is_itself : (a : Symbol) → same_stock a a ≡ true
+stock_is_itself a = (bytes_eq-Decides a.bytes a.bytes).1 refl
+
+-- so too of truth values
+bool_is : (a b : Bool) → beq a b ≡ true → a ≡ b
+bool_is true true h = refl
+bool_is true false h = cc
+bool_is false true h = cc
+bool_is false false h = refl
+
+bool_is_itself : (a : Bool) → beq a a ≡ true
+bool_is_itself true = refl
+bool_is_itself false = refl
+
+-- two that are true
+both_true : (a b : Bool) → a ≡ true → b ≡ true → (a && b) ≡ true
+both_true a b h k = λ i. h i && k i
+
+-- sides of stocks
+pub side_is : (a b : StockSide) → same_side a b ≡ true → a ≡ b
+side_is a b h =
+    let parts : (same_stock a.stock b.stock ≡ true) × (beq a.buys b.buys ≡ true) = both (same_stock a.stock b.stock) (beq a.buys b.buys) h in
+    λ i. record { stock = stock_is a.stock b.stock parts.0 i; buys = bool_is a.buys b.buys parts.1 i }
+
+side_is_itself : (a : StockSide) → same_side a a ≡ true
+side_is_itself a = both_true (same_stock a.stock a.stock) (beq a.buys a.buys) (stock_is_itself a.stock) (bool_is_itself a.buys)
+
+-- what may be there
+option_is : {X : Type 0} (same : X → X → Bool) → ((a b : X) → same a b ≡ true → a ≡ b) → (a b : Option X) → option_eq same a b ≡ true → a ≡ b
+option_is same is None None h = refl
+option_is same is None (Some y) h = cc
+option_is same is (Some x) None h = cc
+option_is same is (Some x) (Some y) h = ap Some (is x y h)
+
+option_is_itself : {X : Type 0} (same : X → X → Bool) → ((a : X) → same a a ≡ true) → (a : Option X) → option_eq same a a ≡ true
+option_is_itself same is None = refl
+option_is_itself same is (Some x) = is x
+
+-- keys
+pub key_is : (a b : PeakKey) → same_key a b ≡ true → a ≡ b
+key_is a b h =
+    let first : (same_rule a.rule b.rule ≡ true) × ((option_eq same_account a.whose b.whose && option_eq same_side a.side b.side) ≡ true) =
+    both (same_rule a.rule b.rule) (option_eq same_account a.whose b.whose && option_eq same_side a.side b.side) h in
+    let rest : (option_eq same_account a.whose b.whose ≡ true) × (option_eq same_side a.side b.side ≡ true) =
+    both (option_eq same_account a.whose b.whose) (option_eq same_side a.side b.side) first.1 in
+    λ i. record {
+      rule = rule_is a.rule b.rule first.0 i;
+      whose = option_is same_account account_is a.whose b.whose rest.0 i;
+      side = option_is same_side side_is a.side b.side rest.1 i;
+    }
+
+pub key_is_itself : (a : PeakKey) → same_key a a ≡ true
+key_is_itself a =
+    both_true (same_rule a.rule a.rule) (option_eq same_account a.whose a.whose && option_eq same_side a.side a.side) (rule_is_itself a.rule)
+    (both_true (option_eq same_account a.whose a.whose) (option_eq same_side a.side a.side) (option_is_itself same_account account_is_itself a.whose) (option_is_itself same_side side_is_itself a.side))
+
+-- and are hashed alike
+pub same_bytes : (a b : PeakKey) → same_key a b ≡ true → key_bytes a ≡ key_bytes b
+same_bytes a b h = ap key_bytes (key_is a b h)

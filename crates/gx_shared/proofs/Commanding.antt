@@ -1,0 +1,135 @@
+-- What a command ends; and none is granted but to an officer.
+use Rattle.std.proofs.Common.{◌≡◌, ◌≤◌, Bool, true, false, List, [], ◌∷◌, length, cond, ◌⊎◌, inl, inr, ℕ, refl, ap, arith, ◌∙◌}
+use Rattle.std.specs.Prelude.{Option, Some, None, option_and_then, if◌then◌else◌}
+use Rattle.std.specs.List.{filter}
+use Rattle.std.specs.Option.{option_map_or}
+use Rattle.std.proofs.lemmas.Bool.{not-false}
+use Rattle.gx_units.specs.declared.names.AccountName.{AccountName}
+use Rattle.gx_units.specs.declared.names.RuleId.{RuleId}
+use Rattle.gx_units.specs.declared.names.Symbol.{Symbol}
+use Rattle.gx_desk.specs.declared.Action.{Action}
+use Rattle.gx_desk.specs.declared.Action.TheVariants as actions
+use Rattle.gx_desk.specs.declared.WrittenName.{WrittenName}
+use Rattle.gx_policy.specs.declared.policy.PolicyData.{PolicyData}
+use Rattle.gx_policy.specs.declared.policy.Role.{Role}
+use Rattle.gx_policy.specs.declared.rule_name.RuleName.TheVariants.{G2}
+use Rattle.gx_policy.specs.People.{is_officer, role_in}
+use Rattle.gx_history.specs.declared.live_order.LiveOrder.{LiveOrder}
+use Rattle.gx_history.specs.declared.record.Asked.{Asked}
+use Rattle.gx_history.specs.declared.record.RecordData.{RecordData}
+use Rattle.gx_history.specs.declared.record.Request.{Request}
+use Rattle.gx_history.specs.declared.record.Request.TheVariants as requests
+use Rattle.gx_history.specs.declared.record.Step.TheVariants as steps
+use Rattle.gx_history.specs.declared.record.Verdict.{Verdict}
+use Rattle.gx_history.specs.declared.record.Verdict.TheVariants as verdicts
+use Rattle.gx_history.specs.Asking.{facts, fits_role}
+use Rattle.gx_history.specs.Live.{live}
+use Rattle.gx_history.specs.Requests.{action_of, is_granted}
+use Rattle.gx_history.specs.Verdicts.{IsLegal, day_limit, next}
+use Rattle.gx_history_laws.proofs.Granting.{is_no_bar}
+use Rattle.gx_positions.proofs.Sound.{live_are_few}
+use Rattle.gx_slab.specs.Slabs.{of_account}
+use Rattle.gx_answers.specs.declared.outcome.Outcome.{Outcome}
+use Rattle.gx_answers.specs.Gates.{left_by}
+use Rattle.gx_door.specs.declared.ended.Ended.{Ended}
+use Rattle.gx_door.specs.Endings.{ended_among, ended_by, sums_of}
+use Rattle.gx_shared.specs.Endings.{ends_of}
+
+few_pass : {X : Type 0} (p : X → Bool) (xs : List X) → length (filter p xs) ≤ length xs
+few_pass p [] = omega arith
+few_pass {X} p (x ∷ xs) = at (p x) (few_pass p xs)
+  where
+    at : (passes : Bool) → length (filter p xs) ≤ length xs → length (cond passes (x ∷ filter p xs) (filter p xs)) ≤ length (x ∷ xs)
+    at true deeper = omega (arith, deeper)
+    at false deeper = omega (arith, deeper)
+
+all_pass : {X : Type 0} (xs : List X) → filter (λ (x : X). true) xs ≡ xs
+all_pass [] = refl
+all_pass (x ∷ xs) = ap (λ rest. x ∷ rest) (all_pass xs)
+
+none_pass : {X : Type 0} (xs : List X) → filter (λ (x : X). false) xs ≡ []
+none_pass [] = refl
+none_pass (x ∷ xs) = none_pass xs
+
+-- no more are live than a day has records
+pub few_live : (policy : PolicyData) (records : List RecordData) → IsLegal policy records → length (live policy records) ≤ day_limit
+few_live policy records legal = live_are_few policy records legal
+
+pub few_of_account : (policy : PolicyData) (records : List RecordData) (account : AccountName) → IsLegal policy records → length (of_account account (live policy records)) ≤ day_limit
+few_of_account policy records account legal =
+    let some : length (of_account account (live policy records)) ≤ length (live policy records) = few_pass _ (live policy records) in
+    omega (arith, some, few_live policy records legal)
+
+-- a Close Day ends all
+pub close_ends_all : (found : List LiveOrder) → ended_among found actions.CloseDay ≡ found
+close_ends_all found = all_pass found
+
+-- neither a Kill nor a Close Day
+abbrev IsOther : Action → Type 0
+IsOther action =
+    ((account : AccountName) × action ≡ actions.Lift account)
+    ⊎ (((rule : RuleId) × (limit : ℕ) × action ≡ actions.SetLimit rule limit)
+    ⊎ (((rule : RuleId) × (stock : Symbol) × action ≡ actions.Restrict rule stock)
+    ⊎ (((rule : RuleId) × (stock : Symbol) × action ≡ actions.Unrestrict rule stock)
+    ⊎ (((reader : WrittenName) × (account : AccountName) × action ≡ actions.Grant reader account)
+    ⊎ ((reader : WrittenName) × (account : AccountName) × action ≡ actions.Revoke reader account)))))
+
+-- any other command none
+pub others_end_none : (found : List LiveOrder) (action : Action) → IsOther action → ended_among found action ≡ []
+others_end_none found action (inl (account, is)) = ap (ended_among found) is ∙ none_pass found
+others_end_none found action (inr (inl (rule, limit, is))) = ap (ended_among found) is ∙ none_pass found
+others_end_none found action (inr (inr (inl (rule, stock, is)))) = ap (ended_among found) is ∙ none_pass found
+others_end_none found action (inr (inr (inr (inl (rule, stock, is))))) = ap (ended_among found) is ∙ none_pass found
+others_end_none found action (inr (inr (inr (inr (inl (reader, account, is)))))) = ap (ended_among found) is ∙ none_pass found
+others_end_none found action (inr (inr (inr (inr (inr (reader, account, is)))))) = ap (ended_among found) is ∙ none_pass found
+
+-- the role is one that the request may be granted to
+fits : (policy : PolicyData) (earlier : List RecordData) (a : Asked) (r : RecordData) → next policy earlier (steps.Asked a) ≡ Some r → r.verdict ≡ verdicts.Granted
+    → fits_role (role_in policy.users a.user) a.request ≡ true
+unfolding facts
+fits policy earlier a r e granted = not-false (fits_role (role_in policy.users a.user) a.request) (is_no_bar policy earlier a r e granted G2)
+
+-- what a command ends among these orders, if the request is one
+abbrev ends_among : List LiveOrder → Option Action → List LiveOrder
+ends_among found action = option_map_or (ended_among found) action []
+
+abbrev nothing : List LiveOrder
+nothing = []
+
+either : (b : Bool) → (if b then nothing else nothing) ≡ nothing
+either true = refl
+either false = refl
+
+-- that an officer asks says nothing of what is no command
+officers_alone : (role : Option Role) (q : Request) (found : List LiveOrder) → fits_role role q ≡ true
+    → (if is_officer role then ends_among found (action_of q) else []) ≡ ends_among found (action_of q)
+officers_alone role (requests.Login m) found fit = either (is_officer role)
+officers_alone role requests.Logout found fit = either (is_officer role)
+officers_alone role (requests.Unreadable m) found fit = either (is_officer role)
+officers_alone role (requests.Enter m) found fit = either (is_officer role)
+officers_alone role (requests.Replace m) found fit = either (is_officer role)
+officers_alone role (requests.Cancel m) found fit = either (is_officer role)
+officers_alone role (requests.Command c) found fit = ap (λ (b : Bool). if b then ended_among found c.action else []) fit
+
+is_granted_by : (v : Verdict) → is_granted v ≡ true → v ≡ verdicts.Granted
+is_granted_by verdicts.Granted h = refl
+is_granted_by (verdicts.Denied rule) h = cc
+is_granted_by (verdicts.Filled f) h = cc
+is_granted_by (verdicts.Rested number) h = cc
+is_granted_by (verdicts.Expired number) h = cc
+
+-- what was counted in front of the step is what its record ended, where that grants the request, and else it ended nothing
+pub told_so : (policy : PolicyData) (earlier : List RecordData) (a : Asked) (o : Outcome) (ends told : Ended)
+    → ends ≡ sums_of (ends_of policy earlier a) → told ≡ (if is_granted o.verdict then ends else sums_of [])
+    → next policy earlier (steps.Asked a) ≡ Some (left_by a o) → told ≡ sums_of (ended_by policy earlier (left_by a o))
+told_so policy earlier a o ends told counted once e = once ∙ by (is_granted o.verdict) refl
+  where
+    ended_where : Bool → List LiveOrder
+    ended_where granted =
+        ends_among (live policy earlier) (option_and_then (λ (x : Asked). action_of x.request) (if granted then Some a else None))
+
+    by : (b : Bool) → is_granted o.verdict ≡ b → (if b then ends else sums_of []) ≡ sums_of (ended_where b)
+    by true granted =
+        counted
+        ∙ ap sums_of (officers_alone (role_in policy.users a.user) a.request (live policy earlier) (fits policy earlier a (left_by a o) e (is_granted_by o.verdict granted)))
+    by false granted = refl
