@@ -28,13 +28,12 @@ use Rattle.gx_history.specs.Requests.{asked, is_granted}
 use Rattle.gx_history_laws.proofs.NextOrders.{executions_next}
 use Rattle.gx_history_laws.proofs.Pushing.{each_after_next}
 use Rattle.gx_overview.specs.Accounts.{capped_count}
-use Rattle.gx_overview.proofs.Passing.{each_folded, map_same, map_twice}
 use Rattle.gx_activity.specs.declared.activity.ActivityRow.{ActivityRow}
 use Rattle.gx_activity.specs.declared.activity.OrderRequests.{OrderRequests}
 use Rattle.gx_activity.specs.declared.deeds.Deed.{Deed}
 use Rattle.gx_activity.specs.declared.deeds.Deed.TheVariants as deeds
 use Rattle.gx_activity.specs.Activity.{expired_of, is_asked, is_cancel, is_denied, is_enter, is_replace, orders_of, orders_said, trades_for}
-use Rattle.gx_activity.specs.Noting.{deed_of, deeds_in, one_more, row_done, rows_after, so_far}
+use Rattle.gx_activity.specs.Noting.{deed_of, deeds_in, one_more, row_done, so_far}
 
 count_capped : (n : ℕ) → capped_count (capped_count n + 1) ≡ capped_count (n + 1)
 count_capped n = omega arith
@@ -59,7 +58,7 @@ none_asked : (enters replaces cancels : ℕ) → stopped (enters + 0) (replaces 
 none_asked enters replaces cancels = λ i. the_requests (no_more enters i) (no_more replaces i) (no_more cancels i)
 
 -- one after the other, in one row
-abbrev done_in : ActivityRow → List (AccountName × Deed) → ActivityRow
+abbrev pub done_in : ActivityRow → List (AccountName × Deed) → ActivityRow
 done_in row done = fold (λ (x : ActivityRow) (d : AccountName × Deed). row_done d.0 d.1 x) row done
 
 -- of an account, where so many of each were counted and these orders are known
@@ -252,7 +251,7 @@ module _ (policy : PolicyData) (records : List RecordData) (r : RecordData) (acc
       said entry = option_and_then (order_numbered (orders policy entry.0)) (says entry.1.verdict)
 
 -- the row of an account, once one more record is noted
-row_next : (policy : PolicyData) (records : List RecordData) (r : RecordData) (a : Account) → so_far policy (records ++ r ∷ []) a ≡ done_in (so_far policy records a) (deeds_in policy (orders policy records) r.step r.verdict)
+pub row_next : (policy : PolicyData) (records : List RecordData) (r : RecordData) (a : Account) → so_far policy (records ++ r ∷ []) a ≡ done_in (so_far policy records a) (deeds_in policy (orders policy records) r.step r.verdict)
 row_next policy records r a =
     (λ i. the_row a.name
     (stopped (asks is_granted is_enter i) (asks is_granted is_replace i) (asks is_granted is_cancel i))
@@ -266,14 +265,3 @@ row_next policy records r a =
 
     asks : (became : Verdict → Bool) (kind : Request → Bool) → count_by (is_asked policy a.name became kind) (records ++ r ∷ []) ≡ so_many became kind + cond (is_asked policy a.name became kind r) 1 0
     asks became kind = asked_next policy records r a.name became kind
-
--- all rows
-pub rows_next : (policy : PolicyData) (records : List RecordData) (r : RecordData) (accounts : List Account)
-    → rows_after (map (so_far policy records) accounts) (deeds_in policy (orders policy records) r.step r.verdict) ≡ map (so_far policy (records ++ r ∷ [])) accounts
-rows_next policy records r accounts =
-    each_folded (λ (d : AccountName × Deed). row_done d.0 d.1) told (map (so_far policy records) accounts)
-    ∙ map_twice (so_far policy records) (λ (row : ActivityRow). done_in row told) accounts
-    ∙ map_same (λ (a : Account). done_in (so_far policy records a) told) (so_far policy (records ++ r ∷ [])) (λ a. sym (row_next policy records r a)) accounts
-  where
-    told : List (AccountName × Deed)
-    told = deeds_in policy (orders policy records) r.step r.verdict

@@ -1,4 +1,5 @@
 pub mod Counting
+pub mod Rowing
 pub mod Knowing
 pub mod Standing
 pub mod Tables

@@ -21,10 +21,10 @@ use Rattle.gx_history.specs.Executions.{Execution, executions, executions_of, si
 use Rattle.gx_history.specs.Orders.{Order, order_numbered, orders}
 use Rattle.gx_history.specs.Requests.{is_granted}
 use Rattle.gx_overview.specs.Accounts.{capped_count}
-use Rattle.gx_overview.proofs.Passing.{map_same, written_back}
+use Rattle.gx_overview.proofs.Passing.{map_same}
 use Rattle.gx_activity.specs.declared.activity.ActivityRow.{ActivityRow}
-use Rattle.gx_activity.specs.Activity.{activity_row, expired_of, is_asked, is_cancel, is_denied, is_enter, is_replace, no_activity, orders_of, orders_said, requests_of}
-use Rattle.gx_activity.specs.Noting.{capped_requests, so_far}
+use Rattle.gx_activity.specs.Activity.{activity_row, expired_of, is_asked, is_cancel, is_denied, is_enter, is_replace, orders_of, orders_said, requests_of}
+use Rattle.gx_activity.specs.Noting.{capped_requests, row_in, so_far}
 use Rattle.gx_activity.proofs.Counting.{the_requests, the_row}
 
 pub fits : (n : ℕ) → n < 2 ^ 64 → capped_count n ≡ n
@@ -103,10 +103,7 @@ module _ (policy : PolicyData) (records : List RecordData) (n : ℕ) (is : n ≡
   all_fit : (a : Account) → so_far policy records a ≡ activity_row policy records a
   all_fit a = λ i. the_row a.name (asked_fit a.name is_granted i) (asked_fit a.name is_denied i) (fills_fit a.name i) (said_fit a.name rested_of i) (said_fit a.name expired_of i)
 
-  -- as they are written over those before any record
-  pub rows_stand : (items new : List ActivityRow) (len : ℕ) → items ≡ map no_activity policy.accounts → new ≡ map (so_far policy records) policy.accounts → len ≡ length items
-      → take len (new ++ drop (length new) items) ≡ map (activity_row policy records) policy.accounts
-  rows_stand items new len first noted whole =
-      let many : length new ≡ length items =
-      ap length noted ∙ length-map policy.accounts (so_far policy records) ∙ sym (length-map policy.accounts no_activity) ∙ ap length (sym first) in
-      written_back new items len many whole ∙ noted ∙ map_same (so_far policy records) (activity_row policy records) all_fit policy.accounts
+  -- each row is that of its account
+  pub rows_stand : (entries : List (AccountName × ActivityRow)) → ((a : Account) → row_in entries a.name ≡ so_far policy records a)
+      → map (λ (a : Account). row_in entries a.name) policy.accounts ≡ map (activity_row policy records) policy.accounts
+  rows_stand entries noted = map_same (λ (a : Account). row_in entries a.name) (activity_row policy records) (λ a. noted a ∙ all_fit a) policy.accounts

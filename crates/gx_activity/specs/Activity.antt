@@ -89,9 +89,9 @@ abbrev pub activity_row : PolicyData → List RecordData → Account → Activit
 activity_row policy records a = activity_of policy records a.name
 
 -- before any record
-abbrev pub no_activity : Account → ActivityRow
-no_activity a = record {
-  account = a.name;
+abbrev pub idle : AccountName → ActivityRow
+idle account = record {
+  account = account;
   granted = record { enters = 0; replaces = 0; cancels = 0 };
   denied = record { enters = 0; replaces = 0; cancels = 0 };
   fills = 0;

@@ -1,6 +1,8 @@
 -- What one more record changes in the rows of the accounts.
-use Rattle.std.specs.Prelude.{◌≡◌, ℕ, ◌+◌, Bool, List, [], ◌++◌, map, fold, Option, option_to_list, if◌then◌else◌}
+use Rattle.std.specs.Prelude.{◌≡◌, ℕ, ◌+◌, Bool, List, [], ◌++◌, map, fold, Option, option_to_list, unwrap_or, if◌then◌else◌}
 use Rattle.std.specs.Option.{option_map_or}
+use Rattle.std.specs.Map.{lookup}
+use Rattle.indexmap.specs.IndexMap.{insert_entry}
 use Rattle.gx_units.specs.Names.{same_account}
 use Rattle.gx_units.specs.declared.names.AccountName.{AccountName}
 use Rattle.gx_policy.specs.declared.policy.Account.{Account}
@@ -22,7 +24,7 @@ use Rattle.gx_activity.specs.declared.activity.ActivityRow.{ActivityRow}
 use Rattle.gx_activity.specs.declared.activity.OrderRequests.{OrderRequests}
 use Rattle.gx_activity.specs.declared.deeds.Deed.{Deed}
 use Rattle.gx_activity.specs.declared.deeds.Deed.TheVariants as deeds
-use Rattle.gx_activity.specs.Activity.{activity_of, is_cancel, is_enter, is_replace}
+use Rattle.gx_activity.specs.Activity.{activity_of, idle, is_cancel, is_enter, is_replace}
 
 -- with one more, where this is so
 abbrev pub one_more : Bool → ℕ → ℕ
@@ -48,13 +50,21 @@ row_with deeds.Expired row = record { account = row.account; granted = row.grant
 abbrev pub row_done : AccountName → Deed → ActivityRow → ActivityRow
 row_done account deed row = if same_account row.account account then row_with deed row else row
 
--- the rows, once this is done by the account, or by none
-abbrev pub rows_done : List ActivityRow → Option AccountName → Deed → List ActivityRow
-rows_done rows account deed = option_map_or (λ (name : AccountName). map (row_done name deed) rows) account rows
+-- the row of the account, that of one that did nothing where there is none
+abbrev pub row_in : List (AccountName × ActivityRow) → AccountName → ActivityRow
+row_in entries account = unwrap_or (lookup (same_account account) entries) (idle account)
 
--- the rows, once this is done to an order of this owner, or to none
-abbrev pub rows_of_number : List ActivityRow → Option Owner → Deed → List ActivityRow
-rows_of_number rows owner deed = option_map_or (λ (o : Owner). map (row_done o.account deed) rows) owner rows
+-- the rows by their accounts, once this is done by the account
+abbrev pub entries_done : AccountName → Deed → List (AccountName × ActivityRow) → List (AccountName × ActivityRow)
+entries_done account deed entries = insert_entry same_account entries account (row_with deed (row_in entries account))
+
+-- and once it is done by the account, or by none
+abbrev pub entries_told : List (AccountName × ActivityRow) → Option AccountName → Deed → List (AccountName × ActivityRow)
+entries_told entries account deed = option_map_or (λ (name : AccountName). entries_done name deed entries) account entries
+
+-- and once it is done to an order of this owner, or to none
+abbrev pub entries_of_number : List (AccountName × ActivityRow) → Option Owner → Deed → List (AccountName × ActivityRow)
+entries_of_number entries owner deed = option_map_or (λ (o : Owner). entries_done o.account deed entries) owner entries
 
 -- the request of a user of the account, granted or denied
 abbrev pub deed_asked : PolicyData → (Request → Deed) → Step → List (AccountName × Deed)
@@ -73,17 +83,17 @@ deeds_in policy known step (verdicts.Filled f) = deed_of known deeds.Filled f.ta
 deeds_in policy known step (verdicts.Rested number) = deed_of known deeds.Rested number
 deeds_in policy known step (verdicts.Expired number) = deed_of known deeds.Expired number
 
--- the rows, once all this is done
-abbrev pub rows_after : List ActivityRow → List (AccountName × Deed) → List ActivityRow
-rows_after rows done = fold (λ (rs : List ActivityRow) (d : AccountName × Deed). map (row_done d.0 d.1) rs) rows done
+-- the rows by their accounts, once this is done
+abbrev pub entries_after : List (AccountName × ActivityRow) → AccountName × Deed → List (AccountName × ActivityRow)
+entries_after entries d = entries_done d.0 d.1 entries
 
 -- the record's order is known too, and what it tells is counted
-pub record AreNoted (policy : PolicyData) (r : RecordData) (known : List Order) (owners : Owners) (before after : List ActivityRow) : Type 0 where
+pub record AreNoted (policy : PolicyData) (r : RecordData) (known : List Order) (owners : Owners) (before after : List (AccountName × ActivityRow)) : Type 0 where
   pub knows : KnowOrders owners (known ++ orders_added policy known r)
-  pub rows : after ≡ rows_after before (deeds_in policy known r.step r.verdict)
+  pub rows : after ≡ fold entries_after before (deeds_in policy known r.step r.verdict)
 
 -- of any orders that were known
-abbrev pub NoteRecord : PolicyData → RecordData → Owners → Owners → List ActivityRow → List ActivityRow → Type 0
+abbrev pub NoteRecord : PolicyData → RecordData → Owners → Owners → List (AccountName × ActivityRow) → List (AccountName × ActivityRow) → Type 0
 NoteRecord policy r old new before after = (known : List Order) → KnowOrders old known → AreNoted policy r known new before after
 
 -- the counts, where each stops at 64 bits

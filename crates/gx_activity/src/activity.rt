@@ -2,16 +2,20 @@
 
 ghost use Rattle.std.specs.Prelude.{◌≡◌, map, nat_eq, IfOk, OnOk};
 ghost use Rattle.std.specs.Map.{lookup};
-ghost use Rattle.gx_activity.specs.Activity.{activity_row, no_activity};
-ghost use Rattle.gx_activity.specs.Noting.{requests_with, row_done, rows_done, rows_of_number};
-ghost use Rattle.gx_activity.specs.Noting.{so_far, NoteRecord};
+ghost use Rattle.gx_activity.specs.Activity.{activity_row, idle};
+ghost use Rattle.gx_activity.specs.Noting.{entries_done, entries_of_number, entries_told};
+ghost use Rattle.gx_activity.specs.Noting.{requests_with, row_in, row_with, so_far, NoteRecord};
+ghost use Rattle.gx_policy.specs.declared.policy.Account.{Account};
+ghost use Rattle.gx_overview.specs.Traders.{KnowTraders};
 
 use crate::deeds::Deed;
 use gx_history::record::{Fill, Record, Request, Step, Verdict};
-use gx_overview::owners::{Owners, account_of};
+use gx_overview::owners::Owners;
+use gx_overview::traders::Traders;
 use gx_policy::{Account, Policy};
 use gx_records::ShowsRecords;
 use gx_units::{AccountName, OutOfMemory, UserName};
+use indexmap::IndexMap;
 use std::alloc::Global;
 
 /// How many requests of each kind there were.
@@ -60,13 +64,24 @@ impl OrderRequests {
 }
 
 impl ActivityRow {
-    /// Counts what was done, if the account that did it is the row's.
-    fn note(&mut self, account: AccountName, deed: &Deed)
-        ensures { self.new ≡ row_done account deed.now self.old }
+    /// Before any record.
+    fn new(account: AccountName) -> ActivityRow
+        ensures { result ≡ idle account }
     {
-        if self.account != account {
-            return;
+        ActivityRow {
+            account,
+            granted: NONE,
+            denied: NONE,
+            fills: 0,
+            rested: 0,
+            expired: 0,
         }
+    }
+
+    /// Counts what the row's account did.
+    fn note(&mut self, deed: &Deed)
+        ensures { self.new ≡ row_with deed.now self.old }
+    {
         match deed {
             Deed::Granted(request) => self.granted = self.granted.with(request),
             Deed::Denied(request) => self.denied = self.denied.with(request),
@@ -77,117 +92,134 @@ impl ActivityRow {
     }
 }
 
-fn note_account(rows: &mut [ActivityRow], account: AccountName, deed: &Deed)
-    ensures { rows.new ≡ map (row_done account deed.now) rows.old }
+/// The row of the account, that of one that did nothing where there is none.
+fn row_in(table: &IndexMap<AccountName, ActivityRow>, account: AccountName) -> ActivityRow
+    ensures { result ≡ row_in table.now.entries account }
 {
-    for row in rows.iter_mut() {
-        row.note(account, deed);
+    match table.get(&account) {
+        Some(row) => *row,
+        None => ActivityRow::new(account),
     }
 }
 
-fn note_if_known(rows: &mut [ActivityRow], account: Option<AccountName>, deed: &Deed)
-    ensures { rows.new ≡ rows_done rows.old account deed.now }
+fn note_account(
+    table: &mut IndexMap<AccountName, ActivityRow>,
+    account: AccountName,
+    deed: &Deed,
+) -> Result<(), OutOfMemory>
+    ensures done { OnOk result
+        (table.new.entries ≡ entries_done account deed.now table.old.entries) }
 {
-    if let Some(account) = account {
-        note_account(rows, account, deed);
+    let mut row = row_in(table, account);
+    row.note(deed);
+    table.insert(account, row)?;
+    Ok(())
+}
+
+fn note_if_known(
+    table: &mut IndexMap<AccountName, ActivityRow>,
+    account: Option<AccountName>,
+    deed: &Deed,
+) -> Result<(), OutOfMemory>
+    ensures done { OnOk result
+        (table.new.entries ≡ entries_told table.old.entries account deed.now) }
+{
+    match account {
+        Some(account) => note_account(table, account, deed),
+        None => Ok(()),
     }
 }
 
 /// Notes what was done to the order of this number, in the row of its account.
-fn note_order(rows: &mut [ActivityRow], owners: &Owners, number: u64, deed: &Deed)
-    ensures { rows.new ≡ rows_of_number rows.old
-        (lookup (nat_eq number) owners.now.by_number.entries) deed.now }
+fn note_order(
+    table: &mut IndexMap<AccountName, ActivityRow>,
+    owners: &Owners,
+    number: u64,
+    deed: &Deed,
+) -> Result<(), OutOfMemory>
+    ensures done { OnOk result (table.new.entries ≡ entries_of_number table.old.entries
+        (lookup (nat_eq number) owners.now.by_number.entries) deed.now) }
 {
-    if let Some(owner) = owners.numbered(number) {
-        note_account(rows, owner.account, deed);
+    match owners.numbered(number) {
+        Some(owner) => note_account(table, owner.account, deed),
+        None => Ok(()),
     }
 }
 
 /// Notes both sides of a fill.
-fn note_fill(rows: &mut [ActivityRow], owners: &Owners, fill: &Fill)
-    ensures { rows.new ≡ rows_of_number
-        (rows_of_number rows.old
+fn note_fill(
+    table: &mut IndexMap<AccountName, ActivityRow>,
+    owners: &Owners,
+    fill: &Fill,
+) -> Result<(), OutOfMemory>
+    ensures done { OnOk result (table.new.entries ≡ entries_of_number
+        (entries_of_number table.old.entries
         (lookup (nat_eq fill.now.taker) owners.now.by_number.entries) Deed.Filled)
-        (lookup (nat_eq fill.now.maker) owners.now.by_number.entries) Deed.Filled }
+        (lookup (nat_eq fill.now.maker) owners.now.by_number.entries) Deed.Filled) }
 {
-    note_order(rows, owners, fill.taker, &Deed::Filled);
-    note_order(rows, owners, fill.maker, &Deed::Filled);
+    note_order(table, owners, fill.taker, &Deed::Filled)?;
+    note_order(table, owners, fill.maker, &Deed::Filled)
 }
 
 fn note_record(
-    rows: &mut [ActivityRow],
+    table: &mut IndexMap<AccountName, ActivityRow>,
     owners: &mut Owners,
     policy: &Policy,
+    traders: &Traders,
     left: &Record,
 ) -> Result<(), OutOfMemory>
-    ensures noted { OnOk result
-        (NoteRecord policy.now left.now owners.old owners.new rows.old rows.new) }
+    requires traders { KnowTraders policy.now traders.now }
+    ensures noted { OnOk result (NoteRecord policy.now left.now
+        owners.old owners.new table.old.entries table.new.entries) }
 {
     let shown = left.content();
     match (&shown.verdict, &shown.step) {
         (Verdict::Granted, Step::Asked(asked)) => {
-            let account = account_of(policy, asked.user);
-            note_if_known(rows, account, &Deed::Granted(asked.request));
-            owners.note(policy, &shown, asked)
+            let account = traders.account_of(policy, asked.user);
+            note_if_known(table, account, &Deed::Granted(asked.request))?;
+            owners.note(policy, traders, &shown, asked)
         }
         (Verdict::Denied(_), Step::Asked(asked)) => {
-            let account = account_of(policy, asked.user);
-            note_if_known(rows, account, &Deed::Denied(asked.request));
-            Ok(())
+            let account = traders.account_of(policy, asked.user);
+            note_if_known(table, account, &Deed::Denied(asked.request))
         }
-        (Verdict::Filled(fill), _) => {
-            note_fill(rows, owners, fill);
-            Ok(())
-        }
-        (Verdict::Rested(number), _) => {
-            note_order(rows, owners, *number, &Deed::Rested);
-            Ok(())
-        }
-        (Verdict::Expired(number), _) => {
-            note_order(rows, owners, *number, &Deed::Expired);
-            Ok(())
-        }
+        (Verdict::Filled(fill), _) => note_fill(table, owners, fill),
+        (Verdict::Rested(number), _) => note_order(table, owners, *number, &Deed::Rested),
+        (Verdict::Expired(number), _) => note_order(table, owners, *number, &Deed::Expired),
         _ => Ok(()),
     }
 }
 
-/// Notes what these records tell in the rows of the policy's accounts.
+/// Notes what these records tell, in rows by their accounts: a record costs the same however many accounts there are.
 fn note_records(
     alloc: Global,
-    rows: &mut [ActivityRow],
     policy: &Policy,
     records: &[Record],
-) -> Result<(), OutOfMemory>
-    requires first { rows.old ≡ map no_activity policy.now.accounts }
-    ensures noted { OnOk result
-        (rows.new ≡ map (so_far policy.now records.now) policy.now.accounts) }
+) -> Result<IndexMap<AccountName, ActivityRow>, OutOfMemory>
+    ensures noted { IfOk result (λ table. (a : Account)
+        → row_in table.entries a.name ≡ so_far policy.now records.now a) }
 {
+    let traders = Traders::of(alloc, policy)?;
+    let mut table = IndexMap::new(alloc);
     let mut owners = Owners::new(alloc);
     for record in records {
-        note_record(rows, &mut owners, policy, record)?;
+        note_record(&mut table, &mut owners, policy, &traders, record)?;
     }
-    Ok(())
+    Ok(table)
 }
 
-fn first_row(account: &Account) -> ActivityRow
-    ensures { result ≡ no_activity account.now }
-{
-    ActivityRow {
-        account: account.name,
-        granted: NONE,
-        denied: NONE,
-        fills: 0,
-        rested: 0,
-        expired: 0,
-    }
-}
-
-fn first_rows(alloc: Global, accounts: &[Account]) -> Result<Vec<ActivityRow>, OutOfMemory>
-    ensures { IfOk result (λ rows. rows.items ≡ map no_activity accounts.now) }
+/// The rows of these accounts.
+fn rows_of(
+    alloc: Global,
+    table: &IndexMap<AccountName, ActivityRow>,
+    accounts: &[Account],
+) -> Result<Vec<ActivityRow>, OutOfMemory>
+    ensures { IfOk result (λ rows. rows.items
+        ≡ map (λ (a : Account). row_in table.now.entries a.name) accounts.now) }
 {
     let mut rows = Vec::new(alloc);
     for account in accounts {
-        rows.push(first_row(account))?;
+        rows.push(row_in(table, account.name))?;
     }
     Ok(rows)
 }
@@ -209,7 +241,7 @@ pub fn activity_rows<G: ShowsRecords>(
     // That the records are fewer than 2^63, so that no count stops.
     gate.length();
     let policy = gate.policy();
-    let mut rows = first_rows(alloc, policy.accounts())?;
-    note_records(alloc, &mut rows, policy, gate.shown_records())?;
+    let table = note_records(alloc, policy, gate.shown_records())?;
+    let rows = rows_of(alloc, &table, policy.accounts())?;
     Ok(rows)
 }

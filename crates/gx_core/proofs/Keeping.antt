@@ -18,9 +18,8 @@ use Rattle.gx_history_laws.proofs.Numbers.{number_left}
 use Rattle.gx_history_laws.proofs.Runs.{step_left}
 use Rattle.gx_keepers.specs.declared.keepers.Keepers.{Keepers}
 use Rattle.gx_keepers.specs.Keepers.{AreInForce, KeepPlaces, Takes}
-use Rattle.gx_keepers.specs.Matching.{TakesMatch}
-use Rattle.gx_history.specs.declared.live_order.LiveOrder.{LiveOrder}
-use Rattle.gx_orders.specs.LiveOrders.{first_waiting}
+use Rattle.gx_history.specs.declared.moves.Move.{Move}
+use Rattle.gx_history.specs.World.{move_of, world}
 use Rattle.gx_places.specs.Places.{has_kept_places, is_kill_or_logout, most_record_places, record_places}
 use Rattle.gx_places.proofs.Asked.{kept_records_take_places, so_many_record_places_are_enough}
 use Rattle.gx_core.specs.Kept.{ArePlaces, HavePlaces, IsKept, IsWhole}
@@ -132,26 +131,20 @@ asked_has_place policy history a r was made k kept left finds = by (has_kept_pla
     by false is = omega (arith, finds.own is)
 
 -- what the keepers are carried on by, where the places were made
-pub takes_asked : (policy : PolicyData) (history records : List RecordData) (a : Asked) (r entry : RecordData) (was made : ℕ) (k : Keepers) → IsWhole policy history was k → records ≡ history → entry ≡ r
-    → next policy history (steps.Asked a) ≡ Some r → FindsPlace policy history a r.verdict was made → Takes policy records a entry k
-takes_asked policy history records a r entry was made k kept same is left finds =
-    subst (λ (rs : List RecordData). Takes policy rs a entry k) (sym same)
-    (subst (λ (e : RecordData). Takes policy history a e k) (sym is)
-    (record { legal = kept.kept.legal; fits = asked_fits policy history a r was made left finds; left = left; in_force = kept.kept.in_force }))
-
-pub takes_match : (policy : PolicyData) (history records : List RecordData) (handed : ℕ) (first : LiveOrder) (r entry : RecordData) (was : ℕ) (k : Keepers) → IsWhole policy history was k → records ≡ history → entry ≡ r
-    → next policy history (steps.Matching handed) ≡ Some r → length history < day_limit → first_waiting k.orders.live ≡ Some first → TakesMatch policy records first entry k
-takes_match policy history records handed first r entry was k kept same is left room waits =
-    subst (λ (rs : List RecordData). TakesMatch policy rs first entry k) (sym same)
-    (subst (λ (e : RecordData). TakesMatch policy history first e k) (sym is)
+pub takes : (policy : PolicyData) (history records : List RecordData) (step : Step) (m : Move) (r entry : RecordData) (was : ℕ) (k : Keepers) → IsWhole policy history was k → records ≡ history → entry ≡ r
+    → next policy history step ≡ Some r → m ≡ move_of policy (world policy history) r → FitsDay r → Takes policy records m entry k
+takes policy history records step m r entry was k kept same is left moves fits =
+    subst (λ (rs : List RecordData). Takes policy rs m entry k) (sym same)
+    (subst (λ (e : RecordData). Takes policy history m e k) (sym is)
     (record {
-      legal = kept.kept.legal;
-      fits = omega (arith, room, number_left policy history (steps.Matching handed) r left);
-      handed = handed;
-      left = left;
-      comes_first = waits;
+      does = record { legal = kept.kept.legal; is_next = ap (next policy history) (step_left policy history step r left) ∙ left; moves = sym moves };
+      fits = fits;
       in_force = kept.kept.in_force;
     }))
+
+-- a matching step's record fits the day, where there is room
+pub match_fits : (policy : PolicyData) (history : List RecordData) (handed : ℕ) (r : RecordData) → next policy history (steps.Matching handed) ≡ Some r → length history < day_limit → FitsDay r
+match_fits policy history handed r left room = record { fits = inl (omega (arith, room, number_left policy history (steps.Matching handed) r left)) }
 
 pub told_then : (policy : PolicyData) (history records : List RecordData) (was : ℕ) (k : Keepers) → IsWhole policy history was k → records ≡ history → KeepPlaces policy records k.streams
 told_then policy history records was k kept same = subst (λ (rs : List RecordData). KeepPlaces policy rs k.streams) (sym same) (places_of policy history was k kept).told

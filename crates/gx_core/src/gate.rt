@@ -6,6 +6,7 @@ ghost use Rattle.gx_history.specs.Streams.{stream};
 ghost use Rattle.gx_history.specs.Verdicts.{last_moment};
 
 use crate::login::{login_answered, login_asked};
+use crate::moves::matched_move;
 use crate::places::{first_history, keep_for, keep_one};
 use crate::pulling::pull;
 use gx_answers::{AccessGate, LoginAnswer, Outcome, Pulled, StepFault, record_of, record_of_match};
@@ -15,7 +16,7 @@ use gx_history::slices::slice;
 use gx_keepers::apply::carry_on;
 use gx_keepers::keepers::Keepers;
 use gx_keepers::matching::carry_match;
-use gx_keepers::next_record::{NextMatch, NextRecord};
+use gx_keepers::next_record::NextRecord;
 use gx_policy::Policy;
 use gx_records::ShowsRecords;
 use gx_units::{AccountName, Moment, OutOfMemory, Password, SessionName, UserName};
@@ -78,7 +79,8 @@ impl AccessGate for Gate {
     }
 
     fn step(&mut self, a: Asked) -> Result<Outcome, StepFault> {
-        let outcome = self.outcome_of(&a);
+        let judged = self.judge(&a);
+        let outcome = judged.outcome;
         let entry = record_of(&a, outcome);
         let record = Record::new(entry);
         keep_for(&mut self.history, &self.policy, &a, outcome.verdict)?;
@@ -87,9 +89,10 @@ impl AccessGate for Gate {
             NextRecord {
                 policy: &self.policy,
                 history: &self.history,
-                asked: &a,
+                moves: &judged.moves,
                 left: &entry,
             },
+            &a,
         )?;
         self.history.push_reserved(record);
         Ok(outcome)
@@ -102,13 +105,14 @@ impl AccessGate for Gate {
         let outcome = self.match_outcome(&first, handed);
         let entry = record_of_match(handed, outcome);
         let record = Record::new(entry);
+        let moves = matched_move(outcome.verdict);
         keep_one(&mut self.history, &self.policy)?;
         carry_match(
             &mut self.keepers,
-            NextMatch {
+            NextRecord {
                 policy: &self.policy,
                 history: &self.history,
-                first: &first,
+                moves: &moves,
                 left: &entry,
             },
         )?;

@@ -8,21 +8,30 @@ ghost use Rattle.gx_history.specs.Showing.{answers, is_askable, is_showable};
 ghost use Rattle.gx_history.specs.Verdicts.{moment_of, next, verdict};
 ghost use Rattle.gx_people.specs.Entitled.{holds_in_role};
 ghost use Rattle.gx_answers.specs.Gates.{left_by};
+ghost use Rattle.gx_core.specs.Moves.{done_by};
 ghost use Rattle.gx_core.specs.Known.{accounts_held, change_asked, has_used, is_available_after, names_known, order_asked, power_held, role_asking};
 ghost use Rattle.gx_answers.specs.Steps.{next_of, verdict_of};
 ghost use Rattle.gx_answers.specs.Told.{stream_of};
 
 use crate::gate::Gate;
-use gx_answers::{AccessGate, Outcome};
+use gx_answers::{AccessGate, Outcome, record_of};
 use gx_decide::decide;
 use gx_desk::Action;
 use gx_history::facts::Facts;
 use gx_history::live_order::LiveOrder;
+use gx_history::moves::Move;
 use gx_history::record::{Asked, Request, Verdict};
 use gx_keepers::listed::{account_named, fits_firm};
 use gx_orders::request_tokens::{named_token, new_token};
 use gx_people::power::Power;
 use gx_units::{AccountName, Moment, UserName};
+
+/// What a request comes to: the outcome of its step, and what its record does.
+#[derive(Drop)]
+pub(crate) struct Judged {
+    pub(crate) outcome: Outcome,
+    pub(crate) moves: Move,
+}
 
 fn is_on_line(on: Option<u16>, line: u16) -> bool
     ensures { result ≡ is_on_line on line }
@@ -108,7 +117,9 @@ impl Gate {
     /// What the rules ask of the records, for a request at this moment.
     #[tactic(auto, unfolding(gx_history::specs::Asking::facts))]
     fn facts_of(&self, a: &Asked, moment: Moment) -> Facts
-        ensures { result ≡ facts self.now.policy self.now.records a.now moment }
+        ensures told { result ≡ facts self.now.policy self.now.records a.now moment }
+        ensures account { result.account ≡ account_of self.now.policy a.now.user }
+        ensures named { result.named ≡ order_asked self.now a.now }
     {
         let account = self.account_of(a.user);
         let on = self.on(a.user);
@@ -134,33 +145,40 @@ impl Gate {
         }
     }
 
-    /// The verdict on a request, at the moment of its record: denied by the first rule of the written
+    /// The verdict on a request, at the moment of its record, by what the rules ask: denied by the first rule of the written
     /// order that forbids it, and else granted.
-    fn judge(&self, a: &Asked, moment: Moment) -> Verdict
+    fn verdict(&self, a: &Asked, moment: Moment, known: &Facts) -> Verdict
         requires moment { moment ≡ moment_of self.now.records (steps.Asked a.now) }
+        requires known { known.now ≡ facts self.now.policy self.now.records a.now moment }
         ensures verdict { result ≡ verdict_of self.now a.now }
         ensures shown { IsTrue (answers a.now.request result) }
     {
         // that the policy is sound, which `shown` rests on
         let _ = self.policy.rules();
-        let known = self.facts_of(a, moment);
         let keepers = &self.keepers;
-        decide(&keepers.people, &keepers.rules, &keepers.ledger, &known, a)
+        decide(&keepers.people, &keepers.rules, &keepers.ledger, known, a)
     }
 
-    /// The number, the moment and the verdict of the record that the request leaves.
+    /// The number, the moment and the verdict of the record that the request leaves, and what this does.
     #[tactic(auto, using(gx_history_laws::proofs::Granting::next_in_parts))]
-    pub(crate) fn outcome_of(&self, a: &Asked) -> Outcome
+    pub(crate) fn judge(&self, a: &Asked) -> Judged
         requires askable { IsTrue (is_askable a.now) }
-        ensures next { next_of self.now a.now ≡ Some (left_by a.now result) }
-        ensures verdict { result.verdict ≡ verdict_of self.now a.now }
-        ensures shown { IsTrue (is_showable (left_by a.now result)) }
+        ensures next { next_of self.now a.now ≡ Some (left_by a.now result.outcome) }
+        ensures verdict { result.outcome.verdict ≡ verdict_of self.now a.now }
+        ensures shown { IsTrue (is_showable (left_by a.now result.outcome)) }
+        ensures does { result.moves ≡ done_by self.now (left_by a.now result.outcome) }
     {
         let moment = a.handed.max(self.last_moment());
-        Outcome {
+        let known = self.facts_of(a, moment);
+        let outcome = Outcome {
             number: self.length() + 1,
             moment,
-            verdict: self.judge(a, moment),
+            verdict: self.verdict(a, moment, &known),
+        };
+        let left = record_of(a, outcome);
+        Judged {
+            outcome,
+            moves: self.asked_move(a, &left, known.account, known.named),
         }
     }
 }

@@ -1,6 +1,5 @@
 -- What one more record changes.
-use Rattle.std.proofs.Common.{◌≡◌, Bool, true, false, List, [], ◌∷◌, ◌++◌, map, refl, ◌∙◌, ap, cond, ℕ}
-use Rattle.std.specs.Option.{option_map_or}
+use Rattle.std.proofs.Common.{◌≡◌, Bool, List, [], ◌∷◌, ◌++◌, map, refl, ◌∙◌, ap, cond, ℕ}
 use Rattle.std.specs.Prelude.{Option, Some, None}
 use Rattle.gx_units.specs.Names.{same_account, same_user}
 use Rattle.gx_units.specs.declared.names.AccountName.{AccountName}
@@ -12,30 +11,19 @@ use Rattle.gx_policy.specs.declared.policy.Account.{Account}
 use Rattle.gx_policy.specs.declared.policy.Lifters.{Lifters}
 use Rattle.gx_policy.specs.declared.policy.PolicyData.{PolicyData}
 use Rattle.gx_policy.specs.declared.policy.User.{User}
-use Rattle.gx_history.specs.declared.record.Asked.{Asked}
+use Rattle.gx_history.specs.declared.moves.Move.{Move}
+use Rattle.gx_history.specs.declared.moves.Move.TheVariants.{Nothing, Denies, PutsOn, Adds, Sizes, Replaces, Commands, Fills, Rests, Expires}
 use Rattle.gx_history.specs.declared.record.RecordData.{RecordData}
-use Rattle.gx_history.specs.declared.record.Request.{Request}
-use Rattle.gx_history.specs.declared.record.Request.TheVariants as requests
-use Rattle.gx_history.specs.declared.record.Step.{Step}
-use Rattle.gx_history.specs.declared.record.Step.TheVariants as steps
-use Rattle.gx_history.specs.declared.record.Verdict.TheVariants as verdicts
 use Rattle.gx_history.specs.InForce.{kill_in_force, line_of, kill_after}
-use Rattle.gx_history.specs.Requests.{asked, is_granted}
-use Rattle.gx_history_laws.proofs.Adding.{granted_is}
+use Rattle.gx_history.specs.World.{World, world, commanded, move_of, moved}
 use Rattle.gx_history_laws.proofs.KillsNext.{kill_in_force_none}
 use Rattle.gx_history_laws.proofs.Keeping.{map_same}
-use Rattle.gx_policy.specs.People.{account_of}
-use Rattle.gx_history.specs.declared.live_order.LiveOrder.{LiveOrder}
-use Rattle.gx_history.specs.declared.record.Verdict.{Verdict}
-use Rattle.gx_history.specs.LiveOrders.{replacement_order}
-use Rattle.gx_history.specs.Live.{live_under}
-use Rattle.gx_history.specs.Turns.{new_order}
-use Rattle.gx_history.specs.World.{World, world, Adds, Nothing, Replaces, Sizes, commanded, move_asked, move_by, move_of, moved}
 use Rattle.gx_history_laws.proofs.Moves.{InForce, in_force_next}
+use Rattle.gx_history_laws.proofs.Names.{same_account_flip, same_user_flip}
 use Rattle.gx_history_laws.proofs.NextInForce.{is_closed_none, last_moment_next, line_of_none}
 use Rattle.gx_day.specs.DayData.{AccountKill, DayData, UserLine, at_moment, marked, put_on}
-use Rattle.gx_day.specs.InForce.{day_asked, day_commanded, day_in_force, day_with, fresh_day, kill_now, line_now, off_line, unkilled}
-use Rattle.gx_history_laws.proofs.Names.{same_account_flip, same_user_flip}
+use Rattle.gx_day.specs.InForce.{day_commanded, day_in_force, day_moved, fresh_day, kill_now, line_now, off_line, unkilled}
+use Rattle.gx_day.specs.Laws.{DaysGoOn}
 
 -- two days are the same where their parts are
 same_day : (lifters : Lifters) {lines lines' : List UserLine} {kills kills' : List AccountKill} {closed closed' : Bool} {moment moment' : ℕ} → lines ≡ lines' → kills ≡ kills' → closed ≡ closed' → moment ≡ moment'
@@ -82,27 +70,17 @@ day_commanded_is policy r officer c w (actions.Kill account) = λ i. record { li
 day_commanded_is policy r officer c w (actions.Lift account) = λ i. record { lifters = policy.lifters; lines = map (line_at w) policy.users; kills = marked_at policy w account (Some officer) policy.accounts i; closed = w.closed; moment = w.moment }
 day_commanded_is policy r officer c w other = refl
 
-day_asked_is : (policy : PolicyData) (r : RecordData) (a : Asked) (w : World) (q : Request) → day_of policy (moved policy r (move_asked policy w r a q) w) ≡ day_asked a q (day_of policy w)
-day_asked_is policy r a w (requests.Login m) = λ i. record { lifters = policy.lifters; lines = put_at w a.user (Some a.line) policy.users i; kills = map (kill_at w) policy.accounts; closed = w.closed; moment = w.moment }
-day_asked_is policy r a w requests.Logout = λ i. record { lifters = policy.lifters; lines = put_at w a.user None policy.users i; kills = map (kill_at w) policy.accounts; closed = w.closed; moment = w.moment }
-day_asked_is policy r a w (requests.Command c) = day_commanded_is policy r a.user c w c.action
-day_asked_is policy r a w (requests.Enter m) = elim (account_of policy a.user) as (λ (x : Option AccountName). day_of policy (moved policy r (option_map_or (λ (account : AccountName). Adds (new_order policy r a.user account m)) x Nothing) w) ≡ day_of policy w) [ None ↦ refl | Some account ↦ refl ]
-day_asked_is policy r a w (requests.Replace m) = elim (live_under w.live a.user m.existing_token) as (λ (x : Option LiveOrder). day_of policy (moved policy r (option_map_or (λ (old : LiveOrder). Replaces old (replacement_order r m old)) x Nothing) w) ≡ day_of policy w) [ None ↦ refl | Some old ↦ refl ]
-day_asked_is policy r a w (requests.Cancel m) = elim (live_under w.live a.user m.token) as (λ (x : Option LiveOrder). day_of policy (moved policy r (option_map_or (λ (cut : LiveOrder). Sizes cut m.shares) x Nothing) w) ≡ day_of policy w) [ None ↦ refl | Some cut ↦ refl ]
-day_asked_is policy r a w (requests.Unreadable m) = refl
-
--- the day after what was granted, if anything was
-abbrev day_granted : Option Asked → DayData → DayData
-day_granted found day = option_map_or (λ (a : Asked). day_asked a a.request day) found day
-
-day_by : (policy : PolicyData) (r : RecordData) (w : World) (v : Verdict) (s : Step) → day_of policy (moved policy r (move_by policy w r v s) w) ≡ day_granted (cond (is_granted v) (asked s) None) (day_of policy w)
-day_by policy r w verdicts.Granted (steps.Asked a) = day_asked_is policy r a w a.request
-day_by policy r w verdicts.Granted (steps.Matching handed) = refl
-day_by policy r w (verdicts.Denied rule) (steps.Asked a) = refl
-day_by policy r w (verdicts.Denied rule) (steps.Matching handed) = refl
-day_by policy r w (verdicts.Filled f) s = refl
-day_by policy r w (verdicts.Rested number) s = refl
-day_by policy r w (verdicts.Expired number) s = refl
+day_moved_is : (policy : PolicyData) (r : RecordData) (m : Move) (w : World) → day_of policy (moved policy r m w) ≡ day_moved m (day_of policy w)
+day_moved_is policy r Nothing w = refl
+day_moved_is policy r (Denies a rule) w = refl
+day_moved_is policy r (PutsOn user line) w = λ i. record { lifters = policy.lifters; lines = put_at w user line policy.users i; kills = map (kill_at w) policy.accounts; closed = w.closed; moment = w.moment }
+day_moved_is policy r (Adds new) w = refl
+day_moved_is policy r (Sizes cut size) w = refl
+day_moved_is policy r (Replaces old new) w = refl
+day_moved_is policy r (Commands officer c) w = day_commanded_is policy r officer c w c.action
+day_moved_is policy r (Fills f) w = refl
+day_moved_is policy r (Rests number) w = refl
+day_moved_is policy r (Expires number) w = refl
 
 -- one more record: all that is in force is moved, and so the day
 lines_are : (after : List RecordData) (then : World) (users : List User) → ((user : UserName) → line_of after user ≡ then.lines user) → map (line_now after) users ≡ map (line_at then) users
@@ -113,47 +91,11 @@ kills_are : (policy : PolicyData) (after : List RecordData) (then : World) (acco
 kills_are policy after then [] h = refl
 kills_are policy after then (a ∷ accounts) h = λ i. (record { account = a.name; kill = h a.name i }) ∷ kills_are policy after then accounts h i
 
-pub day_next : (policy : PolicyData) (history : List RecordData) (r : RecordData) → day_in_force policy (history ++ r ∷ []) ≡ day_with r (day_in_force policy history)
+pub day_next : DaysGoOn
 unfolding day_in_force
 day_next policy history r =
     let w : World = world policy history in
     let then : World = moved policy r (move_of policy w r) w in
     let f : InForce policy (history ++ r ∷ []) then = in_force_next policy history r in
     (λ i. record { lifters = policy.lifters; lines = lines_are (history ++ r ∷ []) then policy.users f.lines i; kills = kills_are policy (history ++ r ∷ []) then policy.accounts f.kills i; closed = f.closed i; moment = last_moment_next history r i })
-    ∙ ap (at_moment r.moment) (day_by policy r w r.verdict r.step)
-
--- a granted request
-pub granted_goes_on : (policy : PolicyData) (history : List RecordData) (r : RecordData) (a : Asked) (q : Request)
-    → r.verdict ≡ verdicts.Granted → r.step ≡ steps.Asked a → a.request ≡ q
-    → day_in_force policy (history ++ r ∷ []) ≡ at_moment r.moment (day_asked a q (day_in_force policy history))
-granted_goes_on policy history r a q grants asks is =
-    day_next policy history r
-    ∙ ap (λ (found : Option Asked). at_moment r.moment (day_granted found (day_in_force policy history))) (granted_is r a asks grants)
-    ∙ ap (λ (request : Request). at_moment r.moment (day_asked a request (day_in_force policy history))) is
-
--- a granted command
-pub commanded_goes_on : (policy : PolicyData) (history : List RecordData) (r : RecordData) (a : Asked) (c : Command) (action : Action)
-    → r.verdict ≡ verdicts.Granted → r.step ≡ steps.Asked a → a.request ≡ requests.Command c → c.action ≡ action
-    → day_in_force policy (history ++ r ∷ []) ≡ at_moment r.moment (day_commanded a.user action (day_in_force policy history))
-commanded_goes_on policy history r a c action grants asks is acts =
-    granted_goes_on policy history r a (requests.Command c) grants asks is
-    ∙ ap (λ (done : Action). at_moment r.moment (day_commanded a.user done (day_in_force policy history))) acts
-
--- a record that grants nothing
-pub ungranted_goes_on : (policy : PolicyData) (history : List RecordData) (r : RecordData) → is_granted r.verdict ≡ false
-    → day_in_force policy (history ++ r ∷ []) ≡ at_moment r.moment (day_in_force policy history)
-ungranted_goes_on policy history r ungranted =
-    day_next policy history r
-    ∙ ap (λ (b : Bool). at_moment r.moment (day_granted (cond b (asked r.step) None) (day_in_force policy history))) ungranted
-
--- a record of a matching step
-pub matched_goes_on : (policy : PolicyData) (history : List RecordData) (r : RecordData) (handed : ℕ) → r.step ≡ steps.Matching handed
-    → day_in_force policy (history ++ r ∷ []) ≡ at_moment r.moment (day_in_force policy history)
-matched_goes_on policy history r handed matches =
-    day_next policy history r
-    ∙ ap (λ (s : Step). at_moment r.moment (day_granted (cond (is_granted r.verdict) (asked s) None) (day_in_force policy history))) matches
-    ∙ by (is_granted r.verdict)
-  where
-    by : (b : Bool) → at_moment r.moment (day_granted (cond b None None) (day_in_force policy history)) ≡ at_moment r.moment (day_in_force policy history)
-    by true = refl
-    by false = refl
+    ∙ ap (at_moment r.moment) (day_moved_is policy r (move_of policy w r) w)

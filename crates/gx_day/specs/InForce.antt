@@ -1,5 +1,4 @@
 -- What the records say of a day, and what one more of them changes.
-use Rattle.std.specs.Option.{option_map_or}
 use Rattle.std.specs.Prelude.{List, map, false, Some, None}
 use Rattle.gx_units.specs.declared.names.UserName.{UserName}
 use Rattle.gx_desk.specs.declared.Action.{Action}
@@ -7,14 +6,12 @@ use Rattle.gx_desk.specs.declared.Action.TheVariants as actions
 use Rattle.gx_policy.specs.declared.policy.Account.{Account}
 use Rattle.gx_policy.specs.declared.policy.PolicyData.{PolicyData}
 use Rattle.gx_policy.specs.declared.policy.User.{User}
-use Rattle.gx_history.specs.declared.record.Asked.{Asked}
+use Rattle.gx_history.specs.declared.moves.Move.{Move}
+use Rattle.gx_history.specs.declared.moves.Move.TheVariants.{Commands, PutsOn}
 use Rattle.gx_history.specs.declared.record.RecordData.{RecordData}
-use Rattle.gx_history.specs.declared.record.Request.{Request}
-use Rattle.gx_history.specs.declared.record.Request.TheVariants as requests
 use Rattle.gx_history.specs.InForce.{is_closed, kill_in_force, line_of}
-use Rattle.gx_history.specs.Requests.{granted}
 use Rattle.gx_history.specs.Verdicts.{last_moment}
-use Rattle.gx_day.specs.DayData.{AccountKill, DayData, UserLine, at_moment, closed_day, with_line, with_mark}
+use Rattle.gx_day.specs.DayData.{AccountKill, DayData, UserLine, closed_day, with_line, with_mark}
 
 -- the user on no line
 abbrev pub off_line : User → UserLine
@@ -61,13 +58,8 @@ day_commanded officer (actions.Lift account) day = with_mark account (Some offic
 day_commanded officer actions.CloseDay day = closed_day day
 day_commanded officer other day = day
 
--- the day after the request was granted
-abbrev pub day_asked : Asked → Request → DayData → DayData
-day_asked a (requests.Login m) day = with_line a.user (Some a.line) day
-day_asked a requests.Logout day = with_line a.user None day
-day_asked a (requests.Command c) day = day_commanded a.user c.action day
-day_asked a other day = day
-
--- the day after one more record: changed by what it grants, and at its moment
-abbrev pub day_with : RecordData → DayData → DayData
-day_with r day = at_moment r.moment (option_map_or (λ (a : Asked). day_asked a a.request day) (granted r) day)
+-- the day, once a record has done this
+abbrev pub day_moved : Move → DayData → DayData
+day_moved (PutsOn user line) day = with_line user line day
+day_moved (Commands officer c) day = day_commanded officer c.action day
+day_moved other day = day

@@ -4,10 +4,12 @@ ghost use Rattle.std.specs.Option.{option_map_or};
 ghost use Rattle.std.specs.Prelude.{◌≡◌, IfOk, Some, None, false, not, option_map};
 ghost use Rattle.gx_policy.specs.declared.policy.Lifters.TheVariants.{Two};
 ghost use Rattle.gx_history.specs.InForce.{has_lifted, is_untouched, kill_after};
-ghost use Rattle.gx_day.specs.DayData.{at_moment, closed_day, kill_in, killed_in, line_in, with_line, with_mark};
-ghost use Rattle.gx_day.specs.InForce.{fresh_day, fresh_kills, fresh_lines};
+ghost use Rattle.gx_day.specs.DayData.{at_moment, kill_in, killed_in, line_in, with_line, with_mark};
+ghost use Rattle.gx_day.specs.InForce.{day_commanded, day_moved, fresh_day, fresh_kills, fresh_lines};
 ghost use Rattle.gx_day.specs.View.{kills_of, lifted_by, lines_of};
 
+use gx_desk::Action;
+use gx_history::moves::Move;
 use gx_policy::{Lifters, Policy};
 use gx_units::{AccountName, Moment, OutOfMemory, UserName};
 use indexmap::IndexMap;
@@ -201,48 +203,32 @@ impl Day {
         *place = marked(lifters, mark, *place);
     }
 
-    /// Puts the user on the line. A user who is not known changes nothing. Takes no memory.
-    pub fn log_in(&mut self, user: UserName, line: u16)
-        ensures { self.new ≡ with_line user (Some line) self.old }
+    /// Kills an account, counts the officer among those who have lifted it, or closes the day.
+    fn command(&mut self, officer: UserName, action: &Action)
+        ensures { self.new ≡ day_commanded officer action.now self.old }
     {
-        self.put_on(user, Some(line));
+        match *action {
+            Action::Kill(account) => self.mark(account, None),
+            Action::Lift(account) => self.mark(account, Some(officer)),
+            Action::CloseDay => self.closed = true,
+            _ => {}
+        }
     }
 
-    /// Puts the user on no line. A user who is not known changes nothing. Takes no memory.
-    pub fn log_out(&mut self, user: UserName)
-        ensures { self.new ≡ with_line user None self.old }
-    {
-        self.put_on(user, None);
-    }
-
-    /// Kills the account: whoever has lifted it before does not count any more. One that is not known changes
-    /// nothing. Takes no memory.
-    pub fn kill(&mut self, account: AccountName)
-        ensures { self.new ≡ with_mark account None self.old }
-    {
-        self.mark(account, None);
-    }
-
-    /// Counts the officer among those who have lifted the account: it is killed no longer once they are as many as the
-    /// policy asks for. An account that is not known changes nothing. Takes no memory.
-    pub fn lift(&mut self, account: AccountName, officer: UserName)
-        ensures { self.new ≡ with_mark account (Some officer) self.old }
-    {
-        self.mark(account, Some(officer));
-    }
-
-    /// Closes the day. Takes no memory.
-    pub fn close(&mut self)
-        ensures { self.new ≡ closed_day self.old }
-    {
-        self.closed = true;
-    }
-
-    /// Sets the moment of the last record, in nanoseconds past midnight. Takes no memory.
-    pub fn set_moment(&mut self, moment: Moment)
-        ensures { self.new ≡ at_moment moment self.old }
+    /// Does to the day what a record does, and sets its moment, in nanoseconds past midnight. A Login or Logout puts its
+    /// user on a line or on none. A Kill kills its account: whoever has lifted it before does not count any more. A Lift
+    /// counts its officer among those who have lifted the account, which is killed no longer once they are as many as the
+    /// policy asks for. A Close Day closes it. A name that is not known changes nothing, and nor does any other record.
+    /// Takes no memory.
+    pub fn apply(&mut self, m: &Move, moment: Moment)
+        ensures { self.new ≡ at_moment moment (day_moved m.now self.old) }
     {
         self.moment = moment;
+        match m {
+            Move::PutsOn(user, line) => self.put_on(*user, *line),
+            Move::Commands(officer, c) => self.command(*officer, &c.action),
+            _ => {}
+        }
     }
 
     /// Lets it go. Its drop is proved here once, and not in each crate that owns one.

@@ -31,7 +31,8 @@ use Rattle.gx_history.specs.Streams.{expired_of}
 use Rattle.gx_history.specs.Turns as turns
 use Rattle.gx_history.specs.Turns.{becomes, new_order}
 use Rattle.gx_history.specs.Verdicts.{IsLegal, next}
-use Rattle.gx_history.specs.World.{World, world, Nothing, Denies, Adds, Replaces, Sizes, commanded, move_asked, move_by, move_denied, move_granted, moved, stepped, turn_in, tell_each, turned_world}
+use Rattle.gx_history.specs.declared.moves.Move.TheVariants.{Nothing, Denies, Adds, Replaces, Sizes}
+use Rattle.gx_history.specs.World.{World, world, commanded, move_asked, move_by, move_denied, move_granted, moved, stepped, turn_in, tell_each, turned_world}
 use Rattle.gx_history_laws.proofs.Runs.{step_left}
 use Rattle.gx_effects.specs.Kinds.{counted, recorded, CancelsLeaveFewer, ReplacesComeLast, FillsTakeFromTwo, RestsMoveOne, ExpiriesEndOne, DenialsTellWhoAsked, LoginsPutOn, LogoutsPutOff, EntersComeLast, KillsLeaveTheOthers, LiftsBringNoneBack, MatchesKeepInForce, SetLimitsChangeOneRule, RestrictsChangeOneRule, UnrestrictsChangeOneRule, GrantsChangeOneSight, RevokesChangeOneSight, ClosesLeaveNone}
 use Rattle.gx_effects.proofs.Denials.{IsDenial, denial_adds_nothing, denial_ends_none}

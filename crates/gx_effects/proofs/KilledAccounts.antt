@@ -23,7 +23,9 @@ use Rattle.gx_history.specs.Orders.{orders}
 use Rattle.gx_history.specs.Turns as turns
 use Rattle.gx_history.specs.Turns.{Turn, becomes, new_in, turned}
 use Rattle.gx_history.specs.Verdicts.{IsLegal}
-use Rattle.gx_history.specs.World.{World, world, Move, Nothing, Denies, PutsOn, Adds, Sizes, Replaces, Commands, Fills, Rests, Expires, commanded, move_of, moved}
+use Rattle.gx_history.specs.declared.moves.Move.{Move}
+use Rattle.gx_history.specs.declared.moves.Move.TheVariants.{Nothing, Denies, PutsOn, Adds, Sizes, Replaces, Commands, Fills, Rests, Expires}
+use Rattle.gx_history.specs.World.{World, world, commanded, move_of, moved}
 use Rattle.gx_history_laws.proofs.Granting.{legal_keeps}
 use Rattle.gx_history_laws.proofs.Names.{account_is}
 use Rattle.gx_history_laws.proofs.NextReports.{legal_next, legal_none}

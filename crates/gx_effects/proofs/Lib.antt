@@ -32,4 +32,5 @@ pub mod Accounts
 pub mod Lifting
 pub mod Resting
 pub mod Moving
+pub mod Doing
 pub mod ByKind

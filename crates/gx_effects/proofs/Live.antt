@@ -33,7 +33,7 @@ use Rattle.gx_history.specs.Orders.{Order, ends, ends_account, is_dead, orders, 
 use Rattle.gx_history.specs.Requests.{is_judged, granted}
 use Rattle.gx_history.specs.Turns.{Turn, Keeps, Adds, Sizes, Replaces, EndsAll, Fills, Rests, Ends, becomes, new_in, new_order, turned, while_open}
 use Rattle.gx_history.specs.Verdicts.{IsLegal, next}
-use Rattle.gx_history.specs.World as moves
+use Rattle.gx_history.specs.declared.moves.Move.TheVariants as moves
 use Rattle.gx_history.specs.World.{LiveGoesOn, move_asked, turn_by, turn_in, world}
 use Rattle.gx_history_laws.proofs.Ends.{sooner}
 use Rattle.gx_history_laws.proofs.Entering.{HasAccount, entered_has_account, entered_has_shares}

@@ -1,7 +1,7 @@
 -- Each record may move the world as it does.
-use Rattle.std.proofs.Common.{◌≡◌, ℕ, ◌-◌, ◌<◌, true, false, List, refl, ◌∙◌, ap, sym, arith}
+use Rattle.std.proofs.Common.{◌≡◌, ℕ, ◌-◌, ◌<◌, Bool, true, false, List, refl, ◌∙◌, ap, sym, arith}
 use Rattle.std.proofs.Math.Path.{subst}
-use Rattle.std.specs.Prelude.{Option, Some, ◌==◌}
+use Rattle.std.specs.Prelude.{Option, Some, ◌==◌, ◌&&◌}
 use Rattle.std.specs.Option.{option_map_or}
 use Rattle.std.specs.List.{AllByRecursion}
 use Rattle.std.proofs.lemmas.Bool.{leb-false, lt-ltb, ltb-true}
@@ -12,7 +12,7 @@ use Rattle.gx_units.specs.Names.{same_token, same_user}
 use Rattle.gx_ouch.specs.declared.inbound.CancelOrder.{CancelOrder}
 use Rattle.gx_ouch.specs.declared.inbound.ReplaceOrder.{ReplaceOrder}
 use Rattle.gx_policy.specs.declared.policy.PolicyData.{PolicyData}
-use Rattle.gx_policy.specs.declared.rule_name.RuleName.TheVariants.{G3, I3}
+use Rattle.gx_policy.specs.declared.rule_name.RuleName.TheVariants.{G3, I1, I3}
 use Rattle.gx_policy.specs.Lists.{where_true}
 use Rattle.gx_history.specs.declared.live_order.LiveOrder.{LiveOrder}
 use Rattle.gx_history.specs.declared.record.Asked.{Asked}
@@ -23,17 +23,19 @@ use Rattle.gx_history.specs.declared.record.Step.{Step}
 use Rattle.gx_history.specs.declared.record.Step.TheVariants as steps
 use Rattle.gx_history.specs.declared.record.Verdict.{Verdict}
 use Rattle.gx_history.specs.declared.record.Verdict.TheVariants as verdicts
+use Rattle.gx_history.specs.Asking.{facts}
 use Rattle.gx_history.specs.Live.{live, live_under}
 use Rattle.gx_history.specs.LiveOrders.{is_under, replacement_order}
 use Rattle.gx_history.specs.MayMove.{MayMove, MayReplace, MaySize, MovesAreAllowed}
-use Rattle.gx_history.specs.Orders.{Order, ends, orders, size_set, total}
-use Rattle.gx_history.specs.Requests.{is_judged, is_order, is_unreadable}
+use Rattle.gx_history.specs.Orders.{Order, ends, is_token_used, orders, size_set, total}
+use Rattle.gx_history.specs.Requests.{is_judged, is_order, is_unreadable, new_token}
 use Rattle.gx_history.specs.Rules.{forbids, takes_nothing}
 use Rattle.gx_history.specs.Turns.{new_order}
 use Rattle.gx_history.specs.Verdicts.{IsLegal, facts_now, next}
-use Rattle.gx_history.specs.World.{world, Nothing, Adds, Sizes, Replaces, move_asked, move_by}
+use Rattle.gx_history.specs.declared.moves.Move.TheVariants.{Nothing, Adds, Sizes, Replaces}
+use Rattle.gx_history.specs.World.{world, move_asked, move_by}
 use Rattle.gx_history_laws.proofs.Adding.{found_passes, token_is, user_is}
-use Rattle.gx_history_laws.proofs.Entering.{HasAccount, entered_has_account}
+use Rattle.gx_history_laws.proofs.Entering.{HasAccount, entered_has_account, entered_has_shares}
 use Rattle.gx_history_laws.proofs.Granting.{asked_is_judged, is_no_bar}
 use Rattle.gx_history_laws.proofs.Judging.{both}
 use Rattle.gx_history_laws.proofs.Numbers.{all_weaker, number_left}
@@ -47,6 +49,32 @@ use Rattle.gx_effects.proofs.NamedOrders.{IsEarlier, Names, all_earlier, named_i
 use Rattle.gx_effects.proofs.Naming.{FindsOne, IsToldApart, finds_one, is_under_swapped}
 use Rattle.gx_effects.proofs.OrderRequests.{Grants, ends_by, it_grants}
 use Rattle.gx_effects.proofs.Replacing.{more_than_done, size_of}
+
+orders_have_tokens : (q : Request) (token : Token) → new_token q ≡ Some token → is_order q ≡ true
+orders_have_tokens (requests.Login m) token h = cc
+orders_have_tokens requests.Logout token h = cc
+orders_have_tokens (requests.Unreadable m) token h = cc
+orders_have_tokens (requests.Enter m) token h = refl
+orders_have_tokens (requests.Replace m) token h = refl
+orders_have_tokens (requests.Cancel m) token h = cc
+orders_have_tokens (requests.Command c) token h = cc
+
+-- what the rule on used tokens says
+pub token_fact : (policy : PolicyData) (history : List RecordData) (a : Asked) (token : Token) → new_token a.request ≡ Some token
+    → forbids I1 (facts_now policy history a) a.request ≡ is_token_used history a.user token
+unfolding facts
+token_fact policy history a token under =
+    ap (λ (b : Bool). b && option_map_or (is_token_used history a.user) (new_token a.request) false) (orders_have_tokens a.request token under)
+    ∙ ap (λ (t : Option Token). option_map_or (is_token_used history a.user) t false) under
+
+-- the token of a granted request is not used before
+token_unused : (policy : PolicyData) (history : List RecordData) (a : Asked) (r : RecordData) (token : Token) → next policy history (steps.Asked a) ≡ Some r → r.verdict ≡ verdicts.Granted
+    → new_token a.request ≡ Some token → is_token_used history a.user token ≡ false
+token_unused policy history a r token left granted under = sym (token_fact policy history a token under) ∙ is_no_bar policy history a r left granted I1
+
+-- an order that is found under a user's token is his
+pub his_own : (user : UserName) (token : Token) (os : List LiveOrder) (o : LiveOrder) → live_under os user token ≡ Some o → o.user ≡ user
+his_own user token os o found = user_is o.user user (both (same_user o.user user) (same_token o.token token) (found_passes (is_under user token) os o found)).0
 
 -- an order that is found under a user's token is under its own user's own token
 is_named : (policy : PolicyData) (history : List RecordData) (user : UserName) (token : Token) (o : LiveOrder) → live_under (live policy history) user token ≡ Some o
@@ -98,6 +126,14 @@ may_replace policy history a r m old legal left asks granted found =
     let one : FindsOne policy history a.user m.existing_token old = finds_one policy history a.user m.existing_token old legal found in
     record {
       is_named = is_named policy history a.user m.existing_token old found;
+      is_new = record {
+        has_number = refl;
+        is_open = more_than_done policy history a r m old left granted asks found;
+        waits = refl;
+        is_unused = ap (λ (user : UserName). is_token_used history user m.replacement_token) (his_own a.user m.existing_token (live policy history) old found)
+            ∙ token_unused policy history a r m.replacement_token left granted (ap new_token asks);
+      };
+      same_user = refl;
       same_account = refl;
       some_open = more_than_done policy history a r m old left granted asks found;
       alone = all_weaker (IsOther r a.user m.existing_token one.known.order) (λ (x : Order). ends x r ≡ (x.number == old.number))
@@ -114,7 +150,16 @@ by_grant policy history a r legal left granted (requests.Unreadable m) asks =
 by_grant policy history a r legal left granted (requests.Enter m) asks =
     let his : HasAccount _ = entered_has_account policy history a r m left granted asks in
     subst (λ (found : Option AccountName). MayMove policy (world policy history) r (option_map_or (λ (account : AccountName). Adds (new_order policy r a.user account m)) found Nothing)) (sym his.1)
-    (record { is_his = his.1; not_killed = granted_is_not_killed policy history a r his.0 left granted (ap is_order asks) his.1 })
+    (record {
+      is_new = record {
+        has_number = refl;
+        is_open = ltb-true 0 m.shares (entered_has_shares policy history a r m left granted asks);
+        waits = refl;
+        is_unused = token_unused policy history a r m.token left granted (ap new_token asks);
+      };
+      is_his = his.1;
+      not_killed = granted_is_not_killed policy history a r his.0 left granted (ap is_order asks) his.1;
+    })
 by_grant policy history a r legal left granted (requests.Replace m) asks =
     let named : Names policy history a.user m.existing_token = names_live policy history a r (requests.Replace m) m.existing_token left granted asks refl refl in
     subst (λ (found : Option LiveOrder). MayMove policy (world policy history) r (option_map_or (λ (old : LiveOrder). Replaces old (replacement_order r m old)) found Nothing)) (sym named.1)

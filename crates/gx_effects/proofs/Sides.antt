@@ -32,8 +32,9 @@ use Rattle.gx_history.specs.Orders.{ends_account}
 use Rattle.gx_history.specs.Requests.{is_judged}
 use Rattle.gx_history.specs.Turns.{Turn, Keeps, Adds, Sizes, Replaces, EndsAll, Fills, Rests, Ends, becomes, new_in, new_order, side_turned, turned, waiting_turned, while_open}
 use Rattle.gx_history.specs.Verdicts.{IsLegal, next}
-use Rattle.gx_history.specs.World as moves
-use Rattle.gx_history.specs.World.{Move, SidesGoOn, WaitingGoesOn, World, move_asked, turn_by, turn_in, turn_of, world}
+use Rattle.gx_history.specs.declared.moves.Move.TheVariants as moves
+use Rattle.gx_history.specs.declared.moves.Move.{Move}
+use Rattle.gx_history.specs.World.{SidesGoOn, WaitingGoesOn, World, move_asked, turn_by, turn_in, turn_of, world}
 use Rattle.gx_history_laws.proofs.Granting.{asked_is_judged}
 use Rattle.gx_history_laws.proofs.NextOrders.{rested_next}
 use Rattle.gx_history_laws.proofs.Numbers.{all_weaker, number_left}

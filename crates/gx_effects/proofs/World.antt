@@ -40,7 +40,9 @@ use Rattle.gx_history.specs.Streams.{accepted, answer, canceled_of, day_end, cop
 use Rattle.gx_history.specs.Turns as turns
 use Rattle.gx_history.specs.Turns.{Turn, new_order, side_turned, turned, waiting_turned}
 use Rattle.gx_history.specs.Verdicts.{IsLegal}
-use Rattle.gx_history.specs.World.{World, world, Move, Nothing, Denies, PutsOn, Adds, Sizes, Replaces, Commands, Fills, Rests, Expires, commanded, move_asked, move_by, move_of, moved, stepped, turn_in, turn_of, WorldGoesOn, WorldsAreRuns}
+use Rattle.gx_history.specs.declared.moves.Move.{Move}
+use Rattle.gx_history.specs.declared.moves.Move.TheVariants.{Nothing, Denies, PutsOn, Adds, Sizes, Replaces, Commands, Fills, Rests, Expires}
+use Rattle.gx_history.specs.World.{World, world, commanded, move_asked, move_by, move_of, moved, stepped, turn_in, turn_of, WorldGoesOn, WorldsAreRuns}
 use Rattle.gx_history_laws.proofs.Adding.{found_passes, user_is}
 use Rattle.gx_history_laws.proofs.Granting.{legal_keeps}
 use Rattle.gx_history_laws.proofs.Judging.{both}

@@ -34,7 +34,7 @@ use Rattle.gx_policy.specs.People.{account_of}
 use Rattle.gx_history.specs.Requests.{is_order}
 use Rattle.gx_history.specs.Rules.{new_open, proposed}
 use Rattle.gx_history.specs.Turns.{Turn, Adds, Replaces, becomes, new_in, new_order}
-use Rattle.gx_history.specs.World as moves
+use Rattle.gx_history.specs.declared.moves.Move.TheVariants as moves
 use Rattle.gx_history.specs.World.{move_asked, turn_by, turn_in, world}
 use Rattle.gx_history.specs.Verdicts.{Follows, IsLegal, facts_now, next}
 use Rattle.gx_history_laws.proofs.Adding.{AddsNone, AddsOne, found_passes, user_is, what_is_added}

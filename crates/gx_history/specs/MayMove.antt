@@ -15,14 +15,24 @@ use Rattle.gx_history.specs.Matching.{crosses, fill_with, is_immediate, meets_no
 use Rattle.gx_history.specs.Orders.{Order, ends, size_set}
 use Rattle.gx_history.specs.Requests.{asked}
 use Rattle.gx_history.specs.Verdicts.{IsLegal, next}
-use Rattle.gx_history.specs.World.{World, Move, Nothing, Denies, PutsOn, Adds, Sizes, Replaces, Commands, Fills, Rests, Expires, move_of, world}
+use Rattle.gx_history.specs.declared.moves.Move.{Move}
+use Rattle.gx_history.specs.declared.moves.Move.TheVariants.{Nothing, Denies, PutsOn, Adds, Sizes, Replaces, Commands, Fills, Rests, Expires}
+use Rattle.gx_history.specs.World.{World, move_of, world}
 
 -- those that rest on the other side of the order's stock, the best first
 abbrev pub opposite : World → LiveOrder → List LiveOrder
 opposite w o = w.resting o.terms.stock (not (is_buy_order o))
 
--- an order is added for its user's account, which is not killed
-pub record MayAdd (policy : PolicyData) (w : World) (new : LiveOrder) : Type 0 where
+-- an order is new: it has the record's number and waits with shares open, and its user has not used its token before
+pub record IsNew (w : World) (r : RecordData) (new : LiveOrder) : Type 0 where
+  pub has_number : new.number ≡ r.number
+  pub is_open : new.done < new.total
+  pub waits : IsTrue new.waits
+  pub is_unused : IsFalse (w.tokens new.user new.token)
+
+-- an order is added that is new, for its user's account, which is not killed
+pub record MayAdd (policy : PolicyData) (w : World) (r : RecordData) (new : LiveOrder) : Type 0 where
+  pub is_new : IsNew w r new
   pub is_his : account_of policy new.user ≡ Some new.account
   pub not_killed : IsFalse (is_some (w.kills new.account))
 
@@ -32,9 +42,11 @@ pub record MaySize (w : World) (r : RecordData) (cut : LiveOrder) (size : ℕ) :
   pub is_less : size - cut.done < shares_open cut
   pub alone : AllByRecursion (λ (o : Order). size_set o r ≡ where_true (o.number == cut.number) size) w.orders
 
--- an order is replaced that is its user's live one under its token; the new one is for the same account and has shares open, and of all the day's orders the old one alone ends
+-- an order is replaced that is its user's live one under its token; the new one is for the same user and account, and of all the day's orders the old one alone ends
 pub record MayReplace (w : World) (r : RecordData) (old new : LiveOrder) : Type 0 where
   pub is_named : live_under w.live old.user old.token ≡ Some old
+  pub is_new : IsNew w r new
+  pub same_user : new.user ≡ old.user
   pub same_account : new.account ≡ old.account
   pub some_open : old.done < new.total
   pub alone : AllByRecursion (λ (o : Order). ends o r ≡ (o.number == old.number)) w.orders
@@ -76,7 +88,7 @@ abbrev pub MayMove : PolicyData → World → RecordData → Move → Type 0
 MayMove policy w r Nothing = ⊥
 MayMove policy w r (Denies a rule) = Unit {0}
 MayMove policy w r (PutsOn user line) = Unit {0}
-MayMove policy w r (Adds new) = MayAdd policy w new
+MayMove policy w r (Adds new) = MayAdd policy w r new
 MayMove policy w r (Sizes cut size) = MaySize w r cut size
 MayMove policy w r (Replaces old new) = MayReplace w r old new
 MayMove policy w r (Commands officer c) = IsTrue (names_known_by policy w.rules c.action)

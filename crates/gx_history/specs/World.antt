@@ -1,4 +1,6 @@
 -- All that a record can change, as one value, and what each record makes of it.
+use Rattle.gx_history.specs.declared.moves.Move.{Move}
+use Rattle.gx_history.specs.declared.moves.Move.TheVariants.{Nothing, Denies, PutsOn, Adds, Sizes, Replaces, Commands, Fills, Rests, Expires}
 use Rattle.std.specs.Option.{option_map_or}
 use Rattle.std.specs.Prelude.{◌≡◌, ℕ, ◌+◌, ◌-◌, Bool, true, false, ◌&&◌, ◌||◌, is_some, length, List, [], ◌∷◌, ◌++◌, map, fold, Option, Some, None, if◌then◌else◌}
 use Rattle.std.specs.List.{flat_map}
@@ -21,7 +23,6 @@ use Rattle.gx_policy.specs.declared.rule_name.RuleName.{RuleName}
 use Rattle.gx_policy.specs.People.{account_of, is_reader, role_in}
 use Rattle.gx_history.specs.declared.live_order.LiveOrder.{LiveOrder}
 use Rattle.gx_history.specs.declared.record.Asked.{Asked}
-use Rattle.gx_history.specs.declared.record.Fill.{Fill}
 use Rattle.gx_history.specs.declared.record.RecordData.{RecordData}
 use Rattle.gx_history.specs.declared.record.Request.{Request}
 use Rattle.gx_history.specs.declared.record.Request.TheVariants as requests
@@ -77,20 +78,6 @@ world policy history = record {
   sight = is_entitled policy history;
   streams = stream policy history;
 }
-
--- what a record does: nothing, or it denies a request, puts a user on a line or on none, adds an order, gives one another size, puts one in the place of another,
--- grants a command, fills two, puts the one of a number to rest, or ends it
-pub data Move : Type 0 where
-  Nothing : Move
-  Denies : Asked → RuleName → Move
-  PutsOn : UserName → Option ℕ → Move
-  Adds : LiveOrder → Move
-  Sizes : LiveOrder → ℕ → Move
-  Replaces : LiveOrder → LiveOrder → Move
-  Commands : UserName → Command → Move
-  Fills : Fill → Move
-  Rests : ℕ → Move
-  Expires : ℕ → Move
 
 -- what a granted request does
 abbrev pub move_asked : PolicyData → World → RecordData → Asked → Request → Move
@@ -207,15 +194,25 @@ moved policy r (Fills f) w = record (turned_world (turns.Fills f) w) {
 moved policy r (Rests number) w = turned_world (turns.Rests number) w
 moved policy r (Expires number) w = record (turned_world (turns.Ends number) w) { streams = tell_each r (expired_of w.live number) w.streams }
 
--- the world after one more record: moved by what it does, with the orders that it makes, the fills, the token that it uses, its number and its moment
-abbrev pub stepped : PolicyData → World → RecordData → World
-stepped policy w r = record (moved policy r (move_of policy w r) w) {
+-- the world after one more record that does so: moved by that, with the orders that it makes, the fills, the token that it uses, its number and its moment
+abbrev pub stepped_by : PolicyData → World → RecordData → Move → World
+stepped_by policy w r m = record (moved policy r m w) {
   count = w.count + 1;
   moment = r.moment;
   orders = orders_with policy w.orders r;
   executions = w.executions ++ sides_in w.orders r.verdict;
   tokens = λ user token. w.tokens user token || record_uses user token r;
 }
+
+-- the world after one more record
+abbrev pub stepped : PolicyData → World → RecordData → World
+stepped policy w r = stepped_by policy w r (move_of policy w r)
+
+-- the record is next after a legal day, and this is what it does
+pub record Does (policy : PolicyData) (history : List RecordData) (r : RecordData) (m : Move) : Type 0 where
+  pub legal : IsLegal policy history
+  pub is_next : next policy history r.step ≡ Some r
+  pub moves : move_of policy (world policy history) r ≡ m
 
 -- one more record turns the live orders by what it does, and so those that wait
 abbrev pub LiveGoesOn : Type 0

@@ -26,7 +26,9 @@ use Rattle.gx_history.specs.Live.{live_under}
 use Rattle.gx_history.specs.LiveOrders.{replacement_order}
 use Rattle.gx_history.specs.Requests.{action_of, asked, is_granted, granted, granted_mark}
 use Rattle.gx_history.specs.Turns.{new_order}
-use Rattle.gx_history.specs.World.{World, world, Move, Nothing, PutsOn, Adds, Sizes, Replaces, Commands, commanded, move_asked, move_by, move_of, moved}
+use Rattle.gx_history.specs.declared.moves.Move.{Move}
+use Rattle.gx_history.specs.declared.moves.Move.TheVariants.{Nothing, PutsOn, Adds, Sizes, Replaces, Commands}
+use Rattle.gx_history.specs.World.{World, world, commanded, move_asked, move_by, move_of, moved}
 use Rattle.gx_history_laws.proofs.Keeping.{others_not}
 use Rattle.gx_history_laws.proofs.KillsNext.{kill_in_force_next}
 use Rattle.gx_history_laws.proofs.NextInForce.{is_closed_next, is_entitled_next, line_of_next, rules_in_force_next, rules_with}

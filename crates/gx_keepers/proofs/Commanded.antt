@@ -15,40 +15,35 @@ use Rattle.gx_desk.specs.declared.Command.{Command}
 use Rattle.gx_policy.specs.declared.policy.FileRule.{FileRule}
 use Rattle.gx_policy.specs.declared.policy.PolicyData.{PolicyData}
 use Rattle.gx_policy.specs.declared.policy.User.{User}
-use Rattle.gx_history.specs.declared.record.Asked.{Asked}
+use Rattle.gx_history.specs.declared.moves.Move.{Move}
+use Rattle.gx_history.specs.declared.moves.Move.TheVariants as moves
 use Rattle.gx_history.specs.declared.record.RecordData.{RecordData}
-use Rattle.gx_history.specs.declared.record.Request.TheVariants as requests
 use Rattle.gx_history.specs.declared.record.Step.TheVariants as steps
-use Rattle.gx_history.specs.declared.record.Verdict.TheVariants as verdicts
 use Rattle.gx_history.specs.declared.report.Report.{Report}
 use Rattle.gx_history.specs.Asking.{knows_limit, knows_names, rule_in_force}
 use Rattle.gx_history.specs.InForce.{changed, limit_of, rules_in_force}
 use Rattle.gx_policy.specs.Lists.{are_distinct}
 use Rattle.gx_policy.specs.People.{account_named, is_trader, role_in, user_in}
 use Rattle.gx_history.specs.Readers.{reader_in}
-use Rattle.gx_history.specs.Requests.{action_of}
 use Rattle.gx_policy.specs.Soundness.{is_sound}
 use Rattle.gx_history.specs.Streams.{answer, day_end, granted_code, lift_code, reported, reports_of, stream, to_user, ended_of}
-use Rattle.gx_history.specs.Verdicts.{IsLegal, next}
+use Rattle.gx_history.specs.Verdicts.{next}
 use Rattle.gx_history_laws.proofs.Adding.{user_is, user_is_itself}
 use Rattle.gx_history_laws.proofs.Judging.{both}
 use Rattle.gx_history_laws.proofs.Names.{same_user_flip, users_differ}
 use Rattle.gx_history_laws.proofs.NextReports.{stream_next}
-use Rattle.gx_history_laws.proofs.Runs.{step_left}
-use Rattle.gx_effects.proofs.Commanding.{GrantsCommand, grants_the_command, told_by_command}
+use Rattle.gx_effects.proofs.Commanding.{grants_the_command, told_by_command}
+use Rattle.gx_effects.proofs.Doing.{IsCommanded, command_does, may_do}
 use Rattle.gx_day.specs.DayData.{DayData, at_moment}
-use Rattle.gx_day.specs.InForce.{day_commanded, day_in_force}
-use Rattle.gx_day.proofs.Answering.{command_is_known, known_kill_is_kept}
-use Rattle.gx_day.proofs.Going.{commanded_goes_on}
+use Rattle.gx_day.specs.InForce.{day_commanded, day_in_force, day_moved}
+use Rattle.gx_day.proofs.Going.{day_next}
+use Rattle.gx_day.proofs.Answering.{known_kill_is_kept}
 use Rattle.gx_history.specs.declared.live_order.LiveOrder.{LiveOrder}
 use Rattle.gx_history.specs.Live.{live}
-use Rattle.gx_orders.specs.Changes.{is_lasting, keeps_orders, with_live}
-use Rattle.gx_orders.specs.InForce.{orders_in_force}
+use Rattle.gx_orders.specs.Changes.{is_lasting, live_left, with_live}
 use Rattle.gx_orders.specs.LiveOrders.{OrdersData}
-use Rattle.gx_orders.proofs.Turned.{closes_end, kills_end, others_keep}
 use Rattle.gx_book.specs.Books.{StockOrders}
 use Rattle.gx_market.specs.Changes.{ended_by}
-use Rattle.gx_market.proofs.ByKind as booked
 use Rattle.gx_people.specs.Entitled.{given, has_room, people_in_force}
 use Rattle.gx_people.proofs.Room.{readers_have_room}
 use Rattle.gx_streams.specs.Kept.{UserList, places_in}
@@ -59,11 +54,11 @@ use Rattle.gx_streams.proofs.Places.{owed_taken}
 use Rattle.gx_streams.proofs.Telling.{GoesOn, all_owed_shown, more_told}
 use Rattle.gx_ledger.specs.Following.{ClosesAll}
 use Rattle.gx_keepers.specs.declared.keepers.Keepers.{Keepers}
-use Rattle.gx_keepers.specs.Ends.{HaveOwedPlaces, code_by, is_ended, live_left, owed_by_answer, owed_by_close, owed_by_command, owed_by_day_end, owed_by_day_ends, owed_by_end, owed_by_ends, trades, day_end_message}
-use Rattle.gx_keepers.specs.Keepers.{AreInForceBut, AreSentTo, HavePlaces, Takes}
+use Rattle.gx_keepers.specs.Ends.{HaveOwedPlaces, code_by, is_ended, owed_by_answer, owed_by_close, owed_by_command, owed_by_day_end, owed_by_day_ends, owed_by_end, owed_by_ends, trades, day_end_message}
+use Rattle.gx_keepers.specs.Keepers.{AreCarriedOn, AreSentTo, HavePlaces, Takes}
 use Rattle.gx_keepers.specs.Ledgers.{ended_orders}
 use Rattle.gx_keepers.specs.Settings.{HasRoom, HasSetting, sent_on}
-use Rattle.gx_keepers.proofs.Carrying.{by_grant}
+use Rattle.gx_keepers.proofs.Carrying.{goes_on}
 use Rattle.gx_keepers.proofs.Figuring.{command_figured, none_end}
 use Rattle.gx_keepers.proofs.Sending.{owed_masks, sent_after, sent_told, shown_by_told}
 
@@ -162,59 +157,47 @@ answer_is r officer user c code =
 
 -- ---- what is told of a granted command
 
-grants : (policy : PolicyData) (history : List RecordData) (a : Asked) (r : RecordData) (c : Command) (k : Keepers)
-    → Takes policy history a r k → r.verdict ≡ verdicts.Granted → a.request ≡ requests.Command c → GrantsCommand r a c.action
-grants policy history a r c k t granted asks = grants_the_command policy history a r c c.action t.left asks refl granted
-
 -- the code of its answer, by the records
 abbrev pub code_left : PolicyData → List RecordData → RecordData → Command → AnswerCode
 code_left policy history r c = granted_code policy (history ++ r ∷ []) c.action
 
 -- what its record owes
-pub command_owes : (policy : PolicyData) (history : List RecordData) (a : Asked) (r : RecordData) (c : Command) (k : Keepers) (user : UserName)
-    → Takes policy history a r k → r.verdict ≡ verdicts.Granted → a.request ≡ requests.Command c
-    → reports_of policy user (history, r) ≡ map (reported r) (ended_of (live policy history) c.action user ++ day_end policy c.action user ++ to_user a.user user (answer r c (code_left policy history r c)))
-command_owes policy history a r c k user t granted asks =
+pub command_owes : (policy : PolicyData) (history : List RecordData) (r : RecordData) (officer : UserName) (c : Command) (k : Keepers) (user : UserName) → Takes policy history (moves.Commands officer c) r k
+    → reports_of policy user (history, r) ≡ map (reported r) (ended_of (live policy history) c.action user ++ day_end policy c.action user ++ to_user officer user (answer r c (code_left policy history r c)))
+command_owes policy history r officer c k user t =
+    let is : IsCommanded r.verdict r.step officer c = command_does policy history r officer c t.does in
+    let left : next policy history (steps.Asked is.asked) ≡ Some r = ap (next policy history) (sym is.asks) ∙ t.does.is_next in
     append_cancel_left (stream policy history user) _ _
-    (sym (stream_next policy history r user) ∙ told_by_command policy history r a c c.action user (grants policy history a r c k t granted asks) asks refl)
+    (sym (stream_next policy history r user) ∙ told_by_command policy history r is.asked c c.action user (grants_the_command policy history is.asked r c c.action left is.commands refl is.granted) is.commands refl)
+    ∙ ap (λ (who : UserName). map (reported r) (ended_of (live policy history) c.action user ++ day_end policy c.action user ++ to_user who user (answer r c (code_left policy history r c)))) is.is_his
 
 -- as the keepers tell it
-owed_now : (policy : PolicyData) (history : List RecordData) (a : Asked) (r : RecordData) (c : Command) (k : Keepers) (user : UserName)
-    → Takes policy history a r k → r.verdict ≡ verdicts.Granted → a.request ≡ requests.Command c → is_sound policy ≡ true
-    → reports_of policy user (history, r) ≡ owed_to (owed_by_command policy r a.user c (code_left policy history r c) k.orders.live) user
-owed_now policy history a r c k user t granted asks sound =
+owed_now : (policy : PolicyData) (history : List RecordData) (r : RecordData) (officer : UserName) (c : Command) (k : Keepers) (user : UserName)
+    → Takes policy history (moves.Commands officer c) r k → is_sound policy ≡ true
+    → reports_of policy user (history, r) ≡ owed_to (owed_by_command policy r officer c (code_left policy history r c) k.orders.live) user
+owed_now policy history r officer c k user t sound =
     let ends : List (UserName × Report) = owed_by_ends c.action r.moment (live policy history) in
     let close : List (UserName × Report) = owed_by_close c.action r.moment policy.users in
-    let done : List (UserName × Report) = owed_by_answer r a.user c (code_left policy history r c) ∷ [] in
+    let done : List (UserName × Report) = owed_by_answer r officer c (code_left policy history r c) ∷ [] in
     let told : map (reported r) (ended_of (live policy history) c.action user) ≡ owed_to ends user =
     ended_are_owed (live policy history) r c.action user ∙ ap (λ (os : List (UserName × Report)). owed_to os user) (ends_are r c.action (live policy history)) in
-    command_owes policy history a r c k user t granted asks
-    ∙ map-append (reported r) (ended_of (live policy history) c.action user ++ day_end policy c.action user) (to_user a.user user (answer r c (code_left policy history r c)))
-    ∙ ap (λ (rs : List Report). rs ++ map (reported r) (to_user a.user user (answer r c (code_left policy history r c)))) (map-append (reported r) (ended_of (live policy history) c.action user) (day_end policy c.action user))
-    ∙ append_assoc (map (reported r) (ended_of (live policy history) c.action user)) (map (reported r) (day_end policy c.action user)) (map (reported r) (to_user a.user user (answer r c (code_left policy history r c))))
-    ∙ ap (λ (rs : List Report). rs ++ (map (reported r) (day_end policy c.action user) ++ map (reported r) (to_user a.user user (answer r c (code_left policy history r c))))) told
-    ∙ ap (λ (rs : List Report). owed_to ends user ++ (rs ++ map (reported r) (to_user a.user user (answer r c (code_left policy history r c))))) (sym (close_is policy r c.action user sound))
-    ∙ ap (λ (rs : List Report). owed_to ends user ++ (owed_to close user ++ rs)) (sym (answer_is r a.user user c (code_left policy history r c)))
+    command_owes policy history r officer c k user t
+    ∙ map-append (reported r) (ended_of (live policy history) c.action user ++ day_end policy c.action user) (to_user officer user (answer r c (code_left policy history r c)))
+    ∙ ap (λ (rs : List Report). rs ++ map (reported r) (to_user officer user (answer r c (code_left policy history r c)))) (map-append (reported r) (ended_of (live policy history) c.action user) (day_end policy c.action user))
+    ∙ append_assoc (map (reported r) (ended_of (live policy history) c.action user)) (map (reported r) (day_end policy c.action user)) (map (reported r) (to_user officer user (answer r c (code_left policy history r c))))
+    ∙ ap (λ (rs : List Report). rs ++ (map (reported r) (day_end policy c.action user) ++ map (reported r) (to_user officer user (answer r c (code_left policy history r c))))) told
+    ∙ ap (λ (rs : List Report). owed_to ends user ++ (rs ++ map (reported r) (to_user officer user (answer r c (code_left policy history r c))))) (sym (close_is policy r c.action user sound))
+    ∙ ap (λ (rs : List Report). owed_to ends user ++ (owed_to close user ++ rs)) (sym (answer_is r officer user c (code_left policy history r c)))
     ∙ ap (λ (rs : List Report). owed_to ends user ++ rs) (sym (owed_both user close done))
     ∙ sym (owed_both user ends (close ++ done))
-    ∙ ap (λ (orders : OrdersData). owed_to (owed_by_command policy r a.user c (code_left policy history r c) orders.live) user) (sym t.in_force.orders)
+    ∙ ap (λ (orders : OrdersData). owed_to (owed_by_command policy r officer c (code_left policy history r c) orders.live) user) (sym t.in_force.orders)
 
 -- each user is told what is owed to him
-command_tells : (policy : PolicyData) (history : List RecordData) (a : Asked) (r : RecordData) (c : Command) (k : Keepers)
-    → Takes policy history a r k → r.verdict ≡ verdicts.Granted → a.request ≡ requests.Command c → is_sound policy ≡ true
-    → GoesOn policy history (history ++ r ∷ []) (owed_to (owed_by_command policy r a.user c (code_left policy history r c) k.orders.live))
-command_tells policy history a r c k t granted asks sound user =
-    stream_next policy history r user ∙ ap (λ (rs : List Report). stream policy history user ++ rs) (owed_now policy history a r c k user t granted asks sound)
-
-same_code : (day : DayData) (moment : ℕ) (action : Action) → code_by (at_moment moment day) action ≡ code_by day action
-same_code day moment (actions.Kill account) = refl
-same_code day moment (actions.Lift account) = refl
-same_code day moment actions.CloseDay = refl
-same_code day moment (actions.SetLimit rule limit) = refl
-same_code day moment (actions.Restrict rule stock) = refl
-same_code day moment (actions.Unrestrict rule stock) = refl
-same_code day moment (actions.Grant reader account) = refl
-same_code day moment (actions.Revoke reader account) = refl
+command_tells : (policy : PolicyData) (history : List RecordData) (r : RecordData) (officer : UserName) (c : Command) (k : Keepers)
+    → Takes policy history (moves.Commands officer c) r k → is_sound policy ≡ true
+    → GoesOn policy history (history ++ r ∷ []) (owed_to (owed_by_command policy r officer c (code_left policy history r c) k.orders.live))
+command_tells policy history r officer c k t sound user =
+    stream_next policy history r user ∙ ap (λ (rs : List Report). stream policy history user ++ rs) (owed_now policy history r officer c k user t sound)
 
 code_kept : (policy : PolicyData) (history now : List RecordData) (action : Action) → knows_names policy history action ≡ true → code_by (day_in_force policy now) action ≡ granted_code policy now action
 code_kept policy history now (actions.Kill account) known = refl
@@ -227,27 +210,26 @@ code_kept policy history now (actions.Grant reader account) known = refl
 code_kept policy history now (actions.Revoke reader account) known = refl
 
 -- the day that the command leaves tells the code of its answer
-pub code_is_left : (policy : PolicyData) (history : List RecordData) (a : Asked) (r : RecordData) (c : Command) (k : Keepers) (day : DayData) (code : AnswerCode)
-    → Takes policy history a r k → r.verdict ≡ verdicts.Granted → a.request ≡ requests.Command c → day ≡ day_commanded a.user c.action k.day → code ≡ code_by day c.action
-    → code ≡ code_left policy history r c
-code_is_left policy history a r c k day code t granted asks day_is code_is =
+pub code_is_left : (policy : PolicyData) (history : List RecordData) (r : RecordData) (officer : UserName) (c : Command) (k : Keepers) (day : DayData) (code : AnswerCode) → Takes policy history (moves.Commands officer c) r k
+    → day ≡ at_moment r.moment (day_commanded officer c.action k.day) → code ≡ code_by day c.action → code ≡ code_left policy history r c
+code_is_left policy history r officer c k day code t day_is code_is =
     code_is
-    ∙ ap (λ (d : DayData). code_by d c.action) (day_is ∙ ap (day_commanded a.user c.action) t.in_force.day)
-    ∙ sym (same_code (day_commanded a.user c.action (day_in_force policy history)) r.moment c.action)
-    ∙ sym (ap (λ (d : DayData). code_by d c.action) (commanded_goes_on policy history r a c c.action granted (step_left policy history (steps.Asked a) r t.left) asks refl))
-    ∙ code_kept policy history (history ++ r ∷ []) c.action (command_is_known policy history a r c t.left granted asks)
+    ∙ ap (λ (d : DayData). code_by d c.action)
+    (day_is ∙ ap (λ (d : DayData). at_moment r.moment (day_commanded officer c.action d)) t.in_force.day
+    ∙ sym (day_next policy history r ∙ ap (λ (x : Move). at_moment r.moment (day_moved x (day_in_force policy history))) t.does.moves))
+    ∙ code_kept policy history (history ++ r ∷ []) c.action (may_do policy history r (moves.Commands officer c) t.does)
 
 -- and has a place for it
-pub command_places : (policy : PolicyData) (history : List RecordData) (a : Asked) (r : RecordData) (c : Command) (k : Keepers) (streams : AllStreams) (now : List User) (day : DayData) (code : AnswerCode)
-    → day ≡ day_commanded a.user c.action k.day → code ≡ code_by day c.action → streams ≡ sent_on policy k.people now k.streams c.action
-    → Takes policy history a r k → HavePlaces policy history r k.streams → r.verdict ≡ verdicts.Granted → a.request ≡ requests.Command c → is_sound policy ≡ true
-    → HaveOwedPlaces (owed_by_command policy r a.user c code k.orders.live) streams
-command_places policy history a r c k streams now day code day_is code_is sent_is t places granted asks sound user =
-    subst (λ (x : AnswerCode). length (owed_to (owed_by_command policy r a.user c x k.orders.live) user) ≤ places_in streams.told user)
-    (sym (code_is_left policy history a r c k day code t granted asks day_is code_is)) (
-    subst (λ (told : List (UserList Report)). length (owed_to (owed_by_command policy r a.user c (code_left policy history r c) k.orders.live) user) ≤ places_in told user)
+pub command_places : (policy : PolicyData) (history : List RecordData) (r : RecordData) (officer : UserName) (c : Command) (k : Keepers) (streams : AllStreams) (now : List User) (day : DayData) (code : AnswerCode)
+    → day ≡ at_moment r.moment (day_commanded officer c.action k.day) → code ≡ code_by day c.action → streams ≡ sent_on policy k.people now k.streams c.action
+    → Takes policy history (moves.Commands officer c) r k → HavePlaces policy history r k.streams → is_sound policy ≡ true
+    → HaveOwedPlaces (owed_by_command policy r officer c code k.orders.live) streams
+command_places policy history r officer c k streams now day code day_is code_is sent_is t places sound user =
+    subst (λ (x : AnswerCode). length (owed_to (owed_by_command policy r officer c x k.orders.live) user) ≤ places_in streams.told user)
+    (sym (code_is_left policy history r officer c k day code t day_is code_is)) (
+    subst (λ (told : List (UserList Report)). length (owed_to (owed_by_command policy r officer c (code_left policy history r c) k.orders.live) user) ≤ places_in told user)
     (sym (ap (λ (s : AllStreams). s.told) sent_is ∙ sent_told policy k.people now k.streams c.action))
-    (subst (λ (reports : List Report). length reports ≤ places_in k.streams.told user) (owed_now policy history a r c k user t granted asks sound) (places user)))
+    (subst (λ (reports : List Report). length reports ≤ places_in k.streams.told user) (owed_now policy history r officer c k user t sound) (places user)))
 
 -- ---- telling in turn
 
@@ -324,38 +306,22 @@ none_ends_by_default (actions.Revoke reader account) orders book no_kill no_clos
 
 -- ---- a granted command
 
-orders_left : (policy : PolicyData) (history : List RecordData) (a : Asked) (r : RecordData) (c : Command) → IsLegal policy history → next policy history (steps.Asked a) ≡ Some r
-    → r.verdict ≡ verdicts.Granted → a.request ≡ requests.Command c → (action : Action) → c.action ≡ action
-    → orders_in_force policy (history ++ r ∷ []) ≡ with_live (live_left action (live policy history)) (orders_in_force policy history)
-orders_left policy history a r c legal left granted asks (actions.Kill account) is =
-    kills_end policy history a r account legal left (ap action_of asks ∙ ap (λ (x : Action). Some x) is) granted
-orders_left policy history a r c legal left granted asks actions.CloseDay is = closes_end policy history a r legal left (ap action_of asks ∙ ap (λ (x : Action). Some x) is) granted
-orders_left policy history a r c legal left granted asks (actions.Lift account) is = others_keep policy history a r legal left granted (ap keeps_orders asks ∙ ap is_lasting is)
-orders_left policy history a r c legal left granted asks (actions.SetLimit rule limit) is = others_keep policy history a r legal left granted (ap keeps_orders asks ∙ ap is_lasting is)
-orders_left policy history a r c legal left granted asks (actions.Restrict rule stock) is = others_keep policy history a r legal left granted (ap keeps_orders asks ∙ ap is_lasting is)
-orders_left policy history a r c legal left granted asks (actions.Unrestrict rule stock) is = others_keep policy history a r legal left granted (ap keeps_orders asks ∙ ap is_lasting is)
-orders_left policy history a r c legal left granted asks (actions.Grant reader account) is = others_keep policy history a r legal left granted (ap keeps_orders asks ∙ ap is_lasting is)
-orders_left policy history a r c legal left granted asks (actions.Revoke reader account) is = others_keep policy history a r legal left granted (ap keeps_orders asks ∙ ap is_lasting is)
-
-pub command_goes_on : (policy : PolicyData) (history : List RecordData) (a : Asked) (r : RecordData) (c : Command) (code : AnswerCode) (before k : Keepers) (sent : AllStreams)
-    → Takes policy history a r before → r.verdict ≡ verdicts.Granted → a.request ≡ requests.Command c → is_sound policy ≡ true
+pub command_goes_on : (policy : PolicyData) (history : List RecordData) (r : RecordData) (officer : UserName) (c : Command) (code : AnswerCode) (before k : Keepers) (sent : AllStreams)
+    → Takes policy history (moves.Commands officer c) r before → is_sound policy ≡ true
     → k.people ≡ given before.people c.action → sent ≡ sent_on policy before.people k.people before.streams c.action
-    → k.rules ≡ changed before.rules c.action → k.day ≡ day_commanded a.user c.action before.day
+    → k.rules ≡ changed before.rules c.action → k.day ≡ at_moment r.moment (day_moved (moves.Commands officer c) before.day)
     → k.orders ≡ with_live (live_left c.action before.orders.live) before.orders → k.book ≡ ended_by c.action before.book
-    → ClosesAll (ended_orders c.action before.orders.live) before.ledger k.ledger → code ≡ code_by k.day c.action → k.streams ≡ with_all_owed (owed_by_command policy r a.user c code before.orders.live) sent
-    → AreInForceBut policy history r k
-command_goes_on policy history a r c code before k sent t granted asks sound people_are sent_is rules_are day_is orders_are book_is closes code_is told =
-    let owed : List (UserName × Report) = owed_by_command policy r a.user c (code_left policy history r c) before.orders.live in
+    → ClosesAll (ended_orders c.action before.orders.live) before.ledger k.ledger → code ≡ code_by k.day c.action → k.streams ≡ with_all_owed (owed_by_command policy r officer c code before.orders.live) sent
+    → AreCarriedOn policy history r k
+command_goes_on policy history r officer c code before k sent t sound people_are sent_is rules_are day_is orders_are book_is closes code_is told =
+    let owed : List (UserName × Report) = owed_by_command policy r officer c (code_left policy history r c) before.orders.live in
     let streams_are : k.streams ≡ with_all_owed owed sent =
-    told ∙ ap (λ (x : AnswerCode). with_all_owed (owed_by_command policy r a.user c x before.orders.live) sent) (code_is_left policy history a r c before k.day code t granted asks day_is code_is) in
-    by_grant policy history a r before k (requests.Command c) t.in_force granted (step_left policy history (steps.Asked a) r t.left) asks people_are rules_are day_is
-    (orders_are ∙ ap (λ (orders : OrdersData). with_live (live_left c.action orders.live) orders) t.in_force.orders
-    ∙ sym (orders_left policy history a r c t.legal t.left granted asks c.action refl))
-    (book_is ∙ ap (ended_by c.action) t.in_force.book ∙ sym (booked.ends_by policy history a r c.action t.legal t.left granted (ap action_of asks)))
-    (command_figured policy history a r c before k.ledger t granted asks closes)
+    told ∙ ap (λ (x : AnswerCode). with_all_owed (owed_by_command policy r officer c x before.orders.live) sent) (code_is_left policy history r officer c before k.day code t day_is code_is) in
+    goes_on policy history (moves.Commands officer c) r before k t people_are rules_are day_is orders_are book_is
+    (command_figured policy history r officer c before k.ledger t closes)
     (ap shown streams_are ∙ all_owed_shown sent owed
     ∙ ap (each_told (owed_to owed)) (shown_by_told sent before.streams (ap (λ (s : AllStreams). s.told) sent_is ∙ sent_told policy before.people k.people before.streams c.action) ∙ t.in_force.streams)
-    ∙ sym (more_told policy history (history ++ r ∷ []) (owed_to owed) (command_tells policy history a r c before t granted asks sound)))
+    ∙ sym (more_told policy history (history ++ r ∷ []) (owed_to owed) (command_tells policy history r officer c before t sound)))
     (subst (λ (rs : List ReaderMask). AreSentTo policy k.people rs)
     (sym (ap (λ (s : AllStreams). s.readers) streams_are ∙ owed_masks owed sent ∙ ap (λ (s : AllStreams). s.readers) sent_is))
     (sent_after policy before.people k.people before.streams c.action people_are t.in_force.sent))
@@ -375,25 +341,25 @@ knows_setting policy history (actions.Kill account) h = tt
 knows_setting policy history (actions.Lift account) h = tt
 knows_setting policy history actions.CloseDay h = tt
 
-pub has_setting : (policy : PolicyData) (history : List RecordData) (a : Asked) (r : RecordData) (c : Command) (k : Keepers)
-    → Takes policy history a r k → r.verdict ≡ verdicts.Granted → a.request ≡ requests.Command c → HasSetting k.rules c.action
-has_setting policy history a r c k t grants asks =
+pub has_setting : (policy : PolicyData) (history : List RecordData) (r : RecordData) (officer : UserName) (c : Command) (k : Keepers)
+    → Takes policy history (moves.Commands officer c) r k → HasSetting k.rules c.action
+has_setting policy history r officer c k t =
     subst (λ (rules : List FileRule). HasSetting rules c.action) (sym t.in_force.rules)
-    (knows_setting policy history c.action (command_is_known policy history a r c t.left grants asks))
+    (knows_setting policy history c.action (may_do policy history r (moves.Commands officer c) t.does))
 
 -- the reader whom a granted Grant names has room for the account
-pub has_room_for : (policy : PolicyData) (history : List RecordData) (a : Asked) (r : RecordData) (c : Command) (k : Keepers)
-    → Takes policy history a r k → r.verdict ≡ verdicts.Granted → a.request ≡ requests.Command c → is_sound policy ≡ true → HasRoom k.people c.action
-has_room_for policy history a r c k t granted asks sound =
+pub has_room_for : (policy : PolicyData) (history : List RecordData) (r : RecordData) (officer : UserName) (c : Command) (k : Keepers)
+    → Takes policy history (moves.Commands officer c) r k → is_sound policy ≡ true → HasRoom k.people c.action
+has_room_for policy history r officer c k t sound =
     subst (λ (people : List User). HasRoom people c.action) (sym t.in_force.people)
-    (by c.action (command_is_known policy history a r c t.left granted asks))
+    (by c.action (may_do policy history r (moves.Commands officer c) t.does))
   where
     by : (action : Action) → knows_names policy history action ≡ true → HasRoom (people_in_force policy history) action
     by (actions.Grant written account) known = named (reader_in (people_in_force policy history) written)
       where
         named : (found : Option User) → option_map_or (λ (u : User). has_room (people_in_force policy history) u.name account) found true ≡ true
         named None = refl
-        named (Some u) = readers_have_room policy history u.name account sound t.legal (both (is_some (reader_in policy.users written)) (is_some (account_named policy account)) known).1
+        named (Some u) = readers_have_room policy history u.name account sound t.does.legal (both (is_some (reader_in policy.users written)) (is_some (account_named policy account)) known).1
     by (actions.Revoke written account) known = tt
     by (actions.SetLimit rule limit) known = tt
     by (actions.Restrict rule stock) known = tt

@@ -39,7 +39,7 @@ use Rattle.gx_streams.proofs.OnlyKnown.{copies_alone, none_sent, only_known, rea
 use Rattle.gx_streams.proofs.Places.{others_keep, places_kept}
 use Rattle.gx_keepers.specs.declared.keepers.Keepers.{Keepers}
 use Rattle.gx_keepers.proofs.Figuring.{legal_after}
-use Rattle.gx_keepers.specs.Keepers.{AreInForce, AreInForceBut, HasEnough, HasPlaces, HaveAllPlaces, HaveEnough, HaveNoFewer, HavePlaces, KeepPlaces, KnowTheSame, KnowsUsers, Takes, count_of, enough_of}
+use Rattle.gx_keepers.specs.Keepers.{AreInForce, HasEnough, HasPlaces, HaveAllPlaces, HaveEnough, HaveNoFewer, HavePlaces, KeepPlaces, KnowTheSame, KnowsUsers, TakesAsked, count_of, enough_of}
 
 -- places that are kept take none from anybody
 pub more_places : (streams : AllStreams) (user : UserName) (places : ℕ) (other : UserName) → is_told streams user ≡ true
@@ -120,11 +120,6 @@ readers_known policy history k kept user = ap is_some (kept.sent user) ∙ maske
 pub known_told : (policy : PolicyData) (history : List RecordData) (k : Keepers) → AreInForce policy history k → KnowsUsers policy k.streams
 known_told policy history k kept = told_are policy history k.streams kept.streams (readers_known policy history k kept)
 
--- once the day has its moment too
-pub known_told_but : (policy : PolicyData) (history : List RecordData) (r : RecordData) (k : Keepers) → AreInForceBut policy history r k → KnowsUsers policy k.streams
-known_told_but policy history r k kept =
-    told_are policy (history ++ r ∷ []) k.streams kept.streams (λ user. ap is_some (kept.sent user) ∙ masked_if (is_reader (role_in policy.users user)) _)
-
 -- who is told report by report is one of the policy's users
 told_there : (policy : PolicyData) (streams : AllStreams) (user : UserName) → KnowsUsers policy streams → is_told streams user ≡ true → is_some (user_in policy.users user) ≡ true
 told_there policy streams user knows told = (both (is_some (user_in policy.users user)) (not (is_reader (role_in policy.users user))) (sym (knows user) ∙ told)).0
@@ -164,7 +159,7 @@ judged_no_fill (verdicts.Filled f) h = cc
 judged_no_fill (verdicts.Rested number) h = refl
 judged_no_fill (verdicts.Expired number) h = refl
 
-pub asked_no_fill : (policy : PolicyData) (history : List RecordData) (a : Asked) (r : RecordData) (k : Keepers) → Takes policy history a r k → is_fill r.verdict ≡ false
+pub asked_no_fill : (policy : PolicyData) (history : List RecordData) (a : Asked) (r : RecordData) (k : Keepers) → TakesAsked policy history a r k → is_fill r.verdict ≡ false
 asked_no_fill policy history a r k t = judged_no_fill r.verdict (asked_is_judged policy history a r t.left)
 
 -- whoever has all places has one for each report
@@ -184,14 +179,14 @@ all_are_placed policy history r streams knows legal no_fill have user = by (user
 -- ---- a request
 
 -- a granted Kill or Logout finds its places
-pub kept_fit : (policy : PolicyData) (history : List RecordData) (a : Asked) (r : RecordData) (k : Keepers) → Takes policy history a r k → KeepPlaces policy history k.streams
+pub kept_fit : (policy : PolicyData) (history : List RecordData) (a : Asked) (r : RecordData) (k : Keepers) → TakesAsked policy history a r k → KeepPlaces policy history k.streams
     → has_kept_places a.request r.verdict ≡ true → HaveAllPlaces policy history r k.streams
 kept_fit policy history a r k t keep is = record {
   all = λ user known. omega (arith, keep.kept user known, kept_places_are_enough policy history a r user t.legal t.left is);
 }
 
 -- where all have enough, a Lift and a Close Day do
-pub many_fit : (policy : PolicyData) (history : List RecordData) (a : Asked) (r : RecordData) (k : Keepers) (streams : AllStreams) → Takes policy history a r k → KnowTheSame k.streams streams
+pub many_fit : (policy : PolicyData) (history : List RecordData) (a : Asked) (r : RecordData) (k : Keepers) (streams : AllStreams) → TakesAsked policy history a r k → KnowTheSame k.streams streams
     → HaveEnough k.orders.live k.people policy streams policy.users → HaveAllPlaces policy history r streams
 many_fit policy history a r k streams t same all = record {
   all = λ user known.
@@ -203,7 +198,7 @@ many_fit policy history a r k streams t same all = record {
 }
 
 -- and any other request where who asks has enough
-pub asker_fits : (policy : PolicyData) (history : List RecordData) (a : Asked) (r : RecordData) (k : Keepers) (streams : AllStreams) → Takes policy history a r k → Makes policy history k streams
+pub asker_fits : (policy : PolicyData) (history : List RecordData) (a : Asked) (r : RecordData) (k : Keepers) (streams : AllStreams) → TakesAsked policy history a r k → Makes policy history k streams
     → concerns_many a.request r.verdict ≡ false → HasEnough k.orders.live k.people policy streams a.user → HaveAllPlaces policy history r streams
 asker_fits policy history a r k streams t m few has = record { all = λ user. by user (same_user a.user user) refl }
   where
@@ -216,7 +211,7 @@ asker_fits policy history a r k streams t m few has = record { all = λ user. by
         omega (arith, m.kept.kept user (sym (m.known user) ∙ known), m.more user, others_want_no_more policy history a r user t.legal t.left few is)
 
 -- so has a request's record
-pub asked_are_placed : (policy : PolicyData) (history : List RecordData) (a : Asked) (r : RecordData) (k : Keepers) (streams : AllStreams) → Takes policy history a r k → KnowTheSame k.streams streams
+pub asked_are_placed : (policy : PolicyData) (history : List RecordData) (a : Asked) (r : RecordData) (k : Keepers) (streams : AllStreams) → TakesAsked policy history a r k → KnowTheSame k.streams streams
     → HaveAllPlaces policy history r streams → HavePlaces policy history r streams
 asked_are_placed policy history a r k streams t same have =
     all_are_placed policy history r streams (λ user. same user ∙ known_told policy history k t.in_force user)

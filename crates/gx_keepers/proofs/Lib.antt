@@ -1,12 +1,10 @@
 pub mod Beginning
 pub mod Carrying
 pub mod Commanded
-pub mod Cutting
 pub mod Ending
 pub mod Figuring
 pub mod Keepings
 pub mod Matches
-pub mod Replacing
 pub mod Sending
 pub mod Rooms
 pub mod Sure

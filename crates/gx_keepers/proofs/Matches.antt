@@ -1,5 +1,5 @@
 -- What a matching step makes of the keepers.
-use Rattle.std.proofs.Common.{inl, ◌≡◌, ℕ, ◌-◌, ◌<◌, arith, Bool, true, false, not, zero, suc, ◌+◌, cond, get_or, if◌then◌else◌, List, [], ◌∷◌, ◌++◌, refl, ◌∙◌, ap, sym, map}
+use Rattle.std.proofs.Common.{◌≡◌, ℕ, ◌-◌, ◌<◌, arith, Bool, true, false, not, zero, suc, ◌+◌, cond, get_or, if◌then◌else◌, List, [], ◌∷◌, ◌++◌, refl, ◌∙◌, ap, sym, map}
 use Rattle.std.proofs.Math.Path.{subst}
 use Rattle.std.proofs.lemmas.List.{append-nil}
 use Rattle.std.specs.Prelude.{Option, Some, None, is_some, length, find, position, unwrap_or, option_and_then, option_map, option_to_list, ◌&&◌}
@@ -9,7 +9,6 @@ use Rattle.std.proofs.lemmas.List.Quantifiers.{position-Some}
 use Rattle.std.proofs.lemmas.Iterator.Adapters.{position_from-zero}
 use Rattle.gx_units.specs.Names.{same_account}
 use Rattle.gx_units.specs.declared.names.AccountName.{AccountName}
-use Rattle.gx_units.specs.declared.names.UserName.{UserName}
 use Rattle.gx_ouch.specs.declared.letters.CancelReason.TheVariants as cancels
 use Rattle.gx_ouch.specs.declared.letters.Liquidity.{Liquidity}
 use Rattle.gx_ouch.specs.declared.letters.Liquidity.TheVariants as liquidities
@@ -21,47 +20,27 @@ use Rattle.gx_policy.specs.declared.policy.User.{User}
 use Rattle.gx_history.specs.declared.record.Fill.{Fill}
 use Rattle.gx_history.specs.declared.record.RecordData.{RecordData}
 use Rattle.gx_history.specs.declared.record.Step.TheVariants as steps
-use Rattle.gx_history.specs.declared.record.Verdict.{Verdict}
 use Rattle.gx_history.specs.declared.record.Verdict.TheVariants as verdicts
 use Rattle.gx_history.specs.declared.report.Message.{Message}
 use Rattle.gx_history.specs.Book.{is_buy}
 use Rattle.gx_history.specs.Executions.{Execution, sides}
 use Rattle.gx_history.specs.InForce.{is_entitled}
-use Rattle.gx_history.specs.MayMove.{MayExpire}
 use Rattle.gx_policy.specs.People.{account_of, account_of_role, is_reader, role_in, user_in}
-use Rattle.gx_history.specs.Requests.{is_judged}
 use Rattle.gx_policy.specs.Soundness.{is_sound}
-use Rattle.gx_history.specs.Streams.{reported, stream, to_user, canceled_of, expired_of}
-use Rattle.gx_history.specs.Live.{live}
-use Rattle.gx_history.specs.Verdicts.{IsLegal}
-use Rattle.gx_history.specs.World.{World, move_by, moved, world}
+use Rattle.gx_history.specs.Streams.{reported, stream, to_user, canceled_of}
 use Rattle.gx_history_laws.proofs.Masks.{same_mask}
 use Rattle.gx_history_laws.proofs.Names.{account_is, accounts_few}
 use Rattle.gx_history_laws.proofs.Order.{some_same}
 use Rattle.gx_history_laws.proofs.Owners.{IsHisAccounts}
-use Rattle.gx_history_laws.proofs.Runs.{step_left}
 use Rattle.gx_effects.proofs.Accounts.{accounts_are_known}
-use Rattle.gx_effects.proofs.Moving.{may_by}
-use Rattle.gx_effects.proofs.Resting.{first_lives}
 use Rattle.gx_effects.proofs.Orderly.{legal_is_orderly}
-use Rattle.gx_effects.proofs.Ungranted.{match_grants_nothing}
-use Rattle.gx_effects.proofs.World.{world_next}
-use Rattle.gx_effects.proofs.Matches.{not_judged}
 use Rattle.gx_effects.proofs.Fills.{IsFill, both_sides, is_fill, maker_side, sides_are, taker_side}
 use Rattle.gx_effects.proofs.Naming.{IsOfKnown}
 use Rattle.gx_book.specs.Books.{StockOrders, resting_in}
 use Rattle.gx_book.specs.Queue.{IsLatest}
 use Rattle.gx_history.specs.declared.live_order.LiveOrder.{LiveOrder}
 use Rattle.gx_history.specs.LiveOrders.{shares_open}
-use Rattle.gx_orders.specs.Changes.{with_live}
-use Rattle.gx_orders.specs.InForce.{orders_in_force}
 use Rattle.gx_orders.specs.Laws.{CanFill}
-use Rattle.gx_orders.specs.LiveOrders.{OrdersData, at_rest, changed, filled_at, live_numbered, without}
-use Rattle.gx_orders.proofs.Turned.{ends_one, fills_both, rests_one}
-use Rattle.gx_orders.proofs.Matching as matched
-use Rattle.gx_market.specs.BookInForce.{book_in_force}
-use Rattle.gx_market.specs.Changes.{left_with, put_to_rest, resting_of}
-use Rattle.gx_market.proofs.ByKind.{expiries_keep, fills_take, is_first, rests_are_put}
 use Rattle.gx_market.proofs.Latest.{first_is_latest}
 use Rattle.gx_streams.specs.declared.fill.FillSide.{FillSide}
 use Rattle.gx_streams.specs.declared.fill.Party.{Party}
@@ -72,18 +51,31 @@ use Rattle.gx_streams.specs.Kept.{places_in}
 use Rattle.gx_streams.specs.Laws.{TellsOne}
 use Rattle.gx_streams.specs.Sending.{AreSent, IsMadeBy, IsSide, is_fill as makes_fill}
 use Rattle.gx_streams.specs.Streams.{AllStreams, is_told, with_fill}
-use Rattle.gx_streams.specs.Telling.{shown, told_after}
+use Rattle.gx_streams.specs.Telling.{shown}
 use Rattle.gx_streams.proofs.Sending.{sides_are_his, stays_by_fill}
-use Rattle.gx_streams.proofs.Telling.{stays_by_none, stays_by_one}
+use Rattle.gx_streams.proofs.Telling.{stays_by_none}
 use Rattle.gx_people.specs.Entitled.{sees}
 use Rattle.gx_people.proofs.Entitling as entitling
-use Rattle.gx_ledger.specs.StandsFor.{Closes, Fills}
+use Rattle.gx_ledger.specs.StandsFor.{Fills}
+use Rattle.gx_day.specs.DayData.{at_moment}
+use Rattle.gx_day.specs.InForce.{day_moved}
+use Rattle.gx_history.specs.Live.{live, live_numbered}
+use Rattle.gx_history.specs.Requests.{asked}
+use Rattle.gx_history.specs.Verdicts.{next}
+use Rattle.gx_history.specs.World.{Does}
+use Rattle.gx_history.specs.declared.moves.Move.{Move}
+use Rattle.gx_history.specs.declared.moves.Move.TheVariants as moves
+use Rattle.gx_effects.proofs.Doing.{expiry_does, fill_does, matches_at, may_do}
+use Rattle.gx_orders.specs.Changes.{orders_moved}
+use Rattle.gx_orders.specs.Laws.{ComesFirst}
+use Rattle.gx_orders.specs.LiveOrders.{OrdersData, first_waiting}
+use Rattle.gx_orders.proofs.Finding.{finds_orders}
+use Rattle.gx_market.specs.Changes.{left_with, put_to_rest, resting_of}
 use Rattle.gx_keepers.specs.declared.keepers.Keepers.{Keepers}
-use Rattle.gx_keepers.specs.Keepers.{AreInForce, AreInForceBut, HasEnough, HaveAllPlaces, HavePlaces, KnowTheSame, with_told}
-use Rattle.gx_keepers.specs.Ledgers.{StandsForDay}
-use Rattle.gx_keepers.specs.Matching.{TakesMatch, place_of, told_side}
-use Rattle.gx_keepers.proofs.Carrying.{by_no_grant, has_place}
-use Rattle.gx_keepers.proofs.Figuring.{end_figured, fill_figured, legal_after, rest_figured, waits_first}
+use Rattle.gx_keepers.specs.Keepers.{AreCarriedOn, AreInForce, HasEnough, HaveAllPlaces, HavePlaces, KnowTheSame, Takes}
+use Rattle.gx_keepers.specs.Matching.{place_of, told_side}
+use Rattle.gx_keepers.proofs.Carrying.{goes_on, has_place, still_sent, told_by}
+use Rattle.gx_keepers.proofs.Figuring.{fill_figured, held_numbered, legal_after, quiet_figured}
 use Rattle.gx_keepers.proofs.Keepings.{Makes, all_are_placed, known_told, match_fits, one_finds}
 
 his_role : (account : AccountName) (role : Role) → account_of_role role ≡ Some account → role ≡ roles.Trader account
@@ -97,43 +89,21 @@ trader_told : (account : AccountName) (found : Option User) → option_and_then 
 trader_told account None e = let none : false ≡ true = ap is_some e in none
 trader_told account (Some u) e = ap (λ (role : Role). not (is_reader (Some role))) (his_role account u.role e)
 
-pub match_is_legal : (policy : PolicyData) (history : List RecordData) (first : LiveOrder) (r : RecordData) (k : Keepers)
-    → TakesMatch policy history first r k → IsLegal policy (history ++ r ∷ [])
-match_is_legal policy history first r k t = legal_after policy history (steps.Matching t.handed) r t.legal (record { fits = inl t.fits }) t.left
+-- the matching step that is next
+pub record IsMatched (policy : PolicyData) (history : List RecordData) (r : RecordData) : Type 0 where
+  pub handed : ℕ
+  pub left : next policy history (steps.Matching handed) ≡ Some r
 
--- a matching step: people, rules, lines and kills as they were
-by_match : (policy : PolicyData) (history : List RecordData) (first : LiveOrder) (r : RecordData) (before k : Keepers) → TakesMatch policy history first r before
-    → k.people ≡ before.people → k.rules ≡ before.rules → k.day ≡ before.day
-    → k.orders ≡ orders_in_force policy (history ++ r ∷ []) → k.book ≡ book_in_force policy (history ++ r ∷ []) → StandsForDay policy k.ledger (history ++ r ∷ []) → shown k.streams ≡ told_after policy (history ++ r ∷ []) → k.streams.readers ≡ before.streams.readers
-    → AreInForceBut policy history r k
-by_match policy history first r before k t people_are rules_are day_is orders_are book_is figured streams_are readers_are =
-    by_no_grant policy history r before k t.in_force (match_grants_nothing r t.handed (step_left policy history (steps.Matching t.handed) r t.left))
-    people_are rules_are day_is orders_are book_is figured streams_are readers_are
-
--- a matching step fills, puts to rest or ends
-pub no_other_outcome : (policy : PolicyData) (history : List RecordData) (first : LiveOrder) (r : RecordData) (k : Keepers) → TakesMatch policy history first r k
-    → ((f : Fill) → r.verdict ≡ verdicts.Filled f → ⊥) → ((number : ℕ) → r.verdict ≡ verdicts.Rested number → ⊥) → ((number : ℕ) → r.verdict ≡ verdicts.Expired number → ⊥) → ⊥
-no_other_outcome policy history first r k t no_fill no_rest no_end = by r.verdict refl
-  where
-    by : (v : Verdict) → r.verdict ≡ v → ⊥
-    by verdicts.Granted is = let judged : true ≡ false = sym (ap is_judged is) ∙ not_judged policy history t.handed r t.left in cc
-    by (verdicts.Denied rule) is = let judged : true ≡ false = sym (ap is_judged is) ∙ not_judged policy history t.handed r t.left in cc
-    by (verdicts.Filled f) is = no_fill f is
-    by (verdicts.Rested number) is = no_rest number is
-    by (verdicts.Expired number) is = no_end number is
+pub is_matched : (policy : PolicyData) (history : List RecordData) (r : RecordData) (m : Move) → Does policy history r m → asked r.step ≡ None → IsMatched policy history r
+is_matched policy history r m d none =
+    let s : (handed : ℕ) × (r.step ≡ steps.Matching handed) = matches_at r.step none in
+    record { handed = s.0; left = ap (next policy history) (sym s.1) ∙ d.is_next }
 
 -- ---- a fill
 
 -- the fill can be made of the orders that are kept
-pub can_fill : (policy : PolicyData) (history : List RecordData) (first : LiveOrder) (r : RecordData) (k : Keepers) (f : Fill)
-    → TakesMatch policy history first r k → r.verdict ≡ verdicts.Filled f → CanFill k.orders.live f
-can_fill policy history first r k f t fills =
-    subst (λ (d : OrdersData). CanFill d.live f) (sym t.in_force.orders) (matched.fills_fit policy history t.handed r f t.legal t.left fills)
-
--- the order that rested is there
-pub maker_is_there : (policy : PolicyData) (history : List RecordData) (first : LiveOrder) (r : RecordData) (k : Keepers) (f : Fill) (found : Option LiveOrder)
-    → TakesMatch policy history first r k → r.verdict ≡ verdicts.Filled f → found ≡ live_numbered k.orders.live f.maker → is_some found ≡ true
-maker_is_there policy history first r k f found t fills is = ap is_some is ∙ (can_fill policy history first r k f t fills).maker_lives
+pub can_fill : (policy : PolicyData) (history : List RecordData) (r : RecordData) (k : Keepers) (f : Fill) → Takes policy history (moves.Fills f) r k → CanFill k.orders.live f
+can_fill policy history r k f t = subst (λ (d : OrdersData). CanFill d.live f) (sym t.in_force.orders) (finds_orders policy history r (moves.Fills f) t.does)
 
 -- the account of an order of its user stands in the file
 slice_there : (accounts : List Account) (i : ℕ) (d : Account) → i < length accounts → slice_get accounts i ≡ Some (get_or accounts i d)
@@ -190,28 +160,26 @@ side_told policy history r f o lives of liquidity party made sound is his side_i
     reads_not (Some (roles.Reader names)) e = cc
 
 -- both orders of a fill, as they are kept, and whose they are
-pub record FillOrders (policy : PolicyData) (history : List RecordData) (r : RecordData) (f : Fill) (first maker : LiveOrder) : Type 0 where
+pub record FillOrders (policy : PolicyData) (history : List RecordData) (r : RecordData) (f : Fill) (taker maker : LiveOrder) : Type 0 where
   pub is : IsFill policy history r f
-  pub taker_is : first ≡ is.may.taker
+  pub taker_is : taker ≡ is.may.taker
   pub maker_is : maker ≡ is.may.maker
   pub taker_his : account_of policy is.taker_waits.known.of.order.user ≡ Some is.taker_waits.known.of.order.account
   pub maker_his : account_of policy is.maker_rests.known.of.order.user ≡ Some is.maker_rests.known.of.order.account
 
-pub fill_orders : (policy : PolicyData) (history : List RecordData) (first : LiveOrder) (r : RecordData) (k : Keepers) (f : Fill) (maker : LiveOrder)
-    → TakesMatch policy history first r k → r.verdict ≡ verdicts.Filled f → live_numbered k.orders.live f.maker ≡ Some maker
-    → FillOrders policy history r f first maker
-fill_orders policy history first r k f maker t fills found =
-    let fill : IsFill policy history r f = is_fill policy history t.handed r f (legal_is_orderly policy history t.legal) t.left fills in
+pub fill_orders : (policy : PolicyData) (history : List RecordData) (r : RecordData) (k : Keepers) (f : Fill) (taker maker : LiveOrder) → Takes policy history (moves.Fills f) r k
+    → live_numbered k.orders.live f.taker ≡ Some taker → live_numbered k.orders.live f.maker ≡ Some maker → FillOrders policy history r f taker maker
+fill_orders policy history r k f taker maker t takes makes =
+    let m : Move = moves.Fills f in
+    let fills : r.verdict ≡ verdicts.Filled f = fill_does policy history r f t.does in
+    let matches : IsMatched policy history r = is_matched policy history r m t.does (may_do policy history r m t.does).is_match in
+    let fill : IsFill policy history r f = is_fill policy history matches.handed r f (legal_is_orderly policy history t.does.legal) matches.left fills in
     let his : AllByRecursion (λ (e : Execution). IsHisAccounts policy e.order) (both_sides f fill.taker_waits.known.of.order fill.maker_rests.known.of.order) =
     subst (AllByRecursion (λ (e : Execution). IsHisAccounts policy e.order)) (ap (sides policy history) (sym fills) ∙ sides_are policy history r f fill) (sides_are_his policy history f) in
     record {
       is = fill;
-      taker_is = sym (is_first policy history fill.may.taker fill.may.waiting first fill.may.comes_first (waits_first policy history first r k t));
-      maker_is = some_same
-          (sym found
-          ∙ ap (λ (d : OrdersData). live_numbered d.live f.maker) t.in_force.orders
-          ∙ ap (live_numbered (live policy history)) fill.of_maker
-          ∙ fill.maker_rests.known.is_found);
+      taker_is = some_same (sym (held_numbered policy history m r k f.taker taker t takes) ∙ ap (live_numbered (live policy history)) fill.of_taker ∙ fill.taker_waits.known.is_found);
+      maker_is = some_same (sym (held_numbered policy history m r k f.maker maker t makes) ∙ ap (live_numbered (live policy history)) fill.of_maker ∙ fill.maker_rests.known.is_found);
       taker_his = his.0;
       maker_his = (his.1).0;
     }
@@ -223,16 +191,16 @@ owner_told policy history k o lives of side kept_is is his side_is =
     ap (λ (x : FillSide). is_told k.streams x.user) (side_is ∙ ap (told_side policy) (is ∙ sym of.is_it))
     ∙ known_told policy history k kept_is of.order.user ∙ trader_told of.order.account (user_in policy.users of.order.user) his
 
-pub taker_told : (policy : PolicyData) (history : List RecordData) (first : LiveOrder) (r : RecordData) (k : Keepers) (f : Fill) (maker : LiveOrder) (side : FillSide)
-    → TakesMatch policy history first r k → r.verdict ≡ verdicts.Filled f → live_numbered k.orders.live f.maker ≡ Some maker → side ≡ told_side policy first → is_told k.streams side.user ≡ true
-taker_told policy history first r k f maker side t fills found is =
-    let both = fill_orders policy history first r k f maker t fills found in
-    owner_told policy history k first both.is.may.taker both.is.taker_waits.known.of side t.in_force both.taker_is both.taker_his is
+pub taker_told : (policy : PolicyData) (history : List RecordData) (r : RecordData) (k : Keepers) (f : Fill) (taker maker : LiveOrder) (side : FillSide) → Takes policy history (moves.Fills f) r k
+    → live_numbered k.orders.live f.taker ≡ Some taker → live_numbered k.orders.live f.maker ≡ Some maker → side ≡ told_side policy taker → is_told k.streams side.user ≡ true
+taker_told policy history r k f taker maker side t takes makes is =
+    let both = fill_orders policy history r k f taker maker t takes makes in
+    owner_told policy history k taker both.is.may.taker both.is.taker_waits.known.of side t.in_force both.taker_is both.taker_his is
 
-pub maker_told : (policy : PolicyData) (history : List RecordData) (first : LiveOrder) (r : RecordData) (k : Keepers) (f : Fill) (maker : LiveOrder) (side : FillSide)
-    → TakesMatch policy history first r k → r.verdict ≡ verdicts.Filled f → live_numbered k.orders.live f.maker ≡ Some maker → side ≡ told_side policy maker → is_told k.streams side.user ≡ true
-maker_told policy history first r k f maker side t fills found is =
-    let both = fill_orders policy history first r k f maker t fills found in
+pub maker_told : (policy : PolicyData) (history : List RecordData) (r : RecordData) (k : Keepers) (f : Fill) (taker maker : LiveOrder) (side : FillSide) → Takes policy history (moves.Fills f) r k
+    → live_numbered k.orders.live f.taker ≡ Some taker → live_numbered k.orders.live f.maker ≡ Some maker → side ≡ told_side policy maker → is_told k.streams side.user ≡ true
+maker_told policy history r k f taker maker side t takes makes is =
+    let both = fill_orders policy history r k f taker maker t takes makes in
     owner_told policy history k maker both.is.may.maker both.is.maker_rests.known.of side t.in_force both.maker_is both.maker_his is
 
 -- who is sent what among people is who is entitled
@@ -243,74 +211,69 @@ sent_by_records policy history k sound kept_is user =
     (same_mask (sees k.people user) (is_entitled policy history user)
     (λ account. ap (λ (us : List User). sees us user account) kept_is.people ∙ entitling.kept policy history user account sound) policy.accounts)
 
-pub fill_goes_on : (policy : PolicyData) (history : List RecordData) (first : LiveOrder) (r : RecordData) (before k : Keepers) (f : Fill) (maker : LiveOrder) (left : ℕ) (taken kept_side : FillSide) (made : ToldFill)
-    → TakesMatch policy history first r before → r.verdict ≡ verdicts.Filled f → live_numbered before.orders.live f.maker ≡ Some maker
+pub fill_goes_on : (policy : PolicyData) (history : List RecordData) (r : RecordData) (before k : Keepers) (f : Fill) (taker maker : LiveOrder) (left : ℕ) (taken kept_side : FillSide) (made : ToldFill)
+    → Takes policy history (moves.Fills f) r before → live_numbered before.orders.live f.taker ≡ Some taker → live_numbered before.orders.live f.maker ≡ Some maker
     → left ≡ (maker.total - maker.done) - f.shares → is_sound policy ≡ true
-    → taken ≡ told_side policy first → kept_side ≡ told_side policy maker
+    → taken ≡ told_side policy taker → kept_side ≡ told_side policy maker
     → made ≡ record { match_number = r.number; moment = r.moment; shares = f.shares; price = f.price; taker = taken; maker = kept_side }
-    → k.people ≡ before.people → k.rules ≡ before.rules → k.day ≡ before.day
-    → k.orders ≡ with_live (filled_at f.maker f.shares (filled_at f.taker f.shares before.orders.live)) before.orders
-    → k.book ≡ left_with maker left before.book → Fills first maker f.shares f.price before.ledger k.ledger
+    → k.people ≡ before.people → k.rules ≡ before.rules → k.day ≡ at_moment r.moment (day_moved (moves.Fills f) before.day)
+    → k.orders ≡ orders_moved (moves.Fills f) before.orders
+    → k.book ≡ left_with maker left before.book → Fills taker maker f.shares f.price before.ledger k.ledger
     → k.streams ≡ with_fill made before.streams
-    → AreInForceBut policy history r k
-fill_goes_on policy history first r before k f maker left taken kept_side made t fills found left_is sound taken_is kept_is made_is people_are rules_are day_is orders_are book_is carries streams_are =
-    by_match policy history first r before k t people_are rules_are day_is
-    (orders_are ∙ ap (λ (d : OrdersData). with_live (filled_at f.maker f.shares (filled_at f.taker f.shares d.live)) d) t.in_force.orders
-    ∙ sym (fills_both policy history t.handed r f t.legal t.left fills))
-    (book_is ∙ ap (λ (n : ℕ). left_with maker n before.book) left_is ∙ ap (left_with maker ((maker.total - maker.done) - f.shares)) t.in_force.book
-    ∙ sym (fills_take policy history t.handed r f maker t.legal t.left fills (sym (ap (λ (d : OrdersData). live_numbered d.live f.maker) t.in_force.orders) ∙ found)))
-    (fill_figured policy history first r before f maker k.ledger t fills found carries)
+    → AreCarriedOn policy history r k
+fill_goes_on policy history r before k f taker maker left taken kept_side made t takes makes left_is sound taken_is kept_is made_is people_are rules_are day_is orders_are book_is carries streams_are =
+    goes_on policy history (moves.Fills f) r before k t people_are rules_are day_is orders_are
+    (book_is ∙ ap (λ (n : ℕ). left_with maker n before.book) left_is
+    ∙ ap (λ (found : Option LiveOrder). option_map_or (λ (o : LiveOrder). left_with o ((o.total - o.done) - f.shares) before.book) found before.book) (sym makes))
+    (fill_figured policy history r f taker maker before k.ledger t takes makes carries)
     (ap shown streams_are
     ∙ stays_by_fill policy history r before.streams made (accounts_few policy sound) t.in_force.streams (sent_by_records policy history before sound t.in_force) is_made)
-    (ap (λ (s : AllStreams). s.readers) streams_are)
+    (still_sent policy before.people k.people before.streams.readers k.streams.readers people_are (ap (λ (s : AllStreams). s.readers) streams_are) t.in_force.sent)
   where
-    both : FillOrders policy history r f first maker
-    both = fill_orders policy history first r before f maker t fills found
+    both : FillOrders policy history r f taker maker
+    both = fill_orders policy history r before f taker maker t takes makes
 
     is_made : IsMadeBy policy history r made
     is_made = record {
       made = f;
       taker = taker_side f both.is.taker_waits.known.of.order;
       maker = maker_side f both.is.maker_rests.known.of.order;
-      fills = fills;
+      fills = fill_does policy history r f t.does;
       sides_are = sides_are policy history r f both.is;
-      takers = side_told policy history r f first both.is.may.taker both.is.taker_waits.known.of liquidities.Removed parties.Taker made sound both.taker_is both.taker_his
+      takers = side_told policy history r f taker both.is.may.taker both.is.taker_waits.known.of liquidities.Removed parties.Taker made sound both.taker_is both.taker_his
           (ap (λ (x : ToldFill). x.taker) made_is ∙ taken_is) (ap (λ (x : ToldFill). x.match_number) made_is) (ap (λ (x : ToldFill). x.shares) made_is) (ap (λ (x : ToldFill). x.price) made_is) refl;
       makers = side_told policy history r f maker both.is.may.maker both.is.maker_rests.known.of liquidities.Added parties.Maker made sound both.maker_is both.maker_his
           (ap (λ (x : ToldFill). x.maker) made_is ∙ kept_is) (ap (λ (x : ToldFill). x.match_number) made_is) (ap (λ (x : ToldFill). x.shares) made_is) (ap (λ (x : ToldFill). x.price) made_is) refl;
       moment = ap (λ (x : ToldFill). x.moment) made_is;
     }
 
--- what each user is told by a matching step
-told_by : (policy : PolicyData) (history : List RecordData) (first : LiveOrder) (r : RecordData) (k : Keepers) (v : Verdict) (user : UserName) → TakesMatch policy history first r k → r.verdict ≡ v
-    → stream policy (history ++ r ∷ []) user ≡ (moved policy r (move_by policy (world policy history) r v r.step) (world policy history)).streams user
-told_by policy history first r k v user t is =
-    ap (λ (w : World). w.streams user) (world_next policy history (steps.Matching t.handed) r t.legal t.left)
-    ∙ ap (λ (x : Verdict). (moved policy r (move_by policy (world policy history) r x r.step) (world policy history)).streams user) is
-
 -- ---- an order that comes to rest
 
--- its number is above those that rest at its price
-pub comes_last : (policy : PolicyData) (history : List RecordData) (first : LiveOrder) (r : RecordData) (k : Keepers) → TakesMatch policy history first r k
-    → IsLatest (resting_of first) (resting_in k.book first.terms.stock (is_buy first.terms.side))
-comes_last policy history first r k t =
-    subst (λ (b : List StockOrders). IsLatest (resting_of first) (resting_in b first.terms.stock (is_buy first.terms.side))) (sym t.in_force.book)
-    (first_is_latest policy history first t.legal (waits_first policy history first r k t))
+-- the first that waits is the one of the number
+first_found : (policy : PolicyData) (history : List RecordData) (r : RecordData) (k : Keepers) (number : ℕ) (o : LiveOrder) → Takes policy history (moves.Rests number) r k → live_numbered k.orders.live number ≡ Some o
+    → first_waiting (live policy history) ≡ Some o
+first_found policy history r k number o t found =
+    let first : ComesFirst (live policy history) number = finds_orders policy history r (moves.Rests number) t.does in
+    first.waits_first ∙ sym first.is_found ∙ held_numbered policy history (moves.Rests number) r k number o t found
 
-pub rest_goes_on : (policy : PolicyData) (history : List RecordData) (first : LiveOrder) (r : RecordData) (before k : Keepers) (number : ℕ)
-    → TakesMatch policy history first r before → r.verdict ≡ verdicts.Rested number
-    → k.people ≡ before.people → k.rules ≡ before.rules → k.day ≡ before.day
-    → k.orders ≡ with_live (changed at_rest number before.orders.live) before.orders → k.book ≡ put_to_rest first before.book → k.ledger ≡ before.ledger → k.streams ≡ before.streams
-    → AreInForceBut policy history r k
-rest_goes_on policy history first r before k number t rests people_are rules_are day_is orders_are book_is ledger_is streams_are =
-    by_match policy history first r before k t people_are rules_are day_is
-    (orders_are ∙ ap (λ (d : OrdersData). with_live (changed at_rest number d.live) d) t.in_force.orders ∙ sym (rests_one policy history t.handed r number t.legal t.left rests))
-    (book_is ∙ ap (put_to_rest first) t.in_force.book
-    ∙ sym (rests_are_put policy history t.handed r number first t.legal t.left rests (waits_first policy history first r before t)))
-    (rest_figured policy history first r before number k.ledger t rests ledger_is)
-    (ap shown streams_are
-    ∙ stays_by_none policy history (history ++ r ∷ []) before.streams t.in_force.streams (λ user. told_by policy history first r before (verdicts.Rested number) user t rests))
-    (ap (λ (s : AllStreams). s.readers) streams_are)
+-- its number is above those that rest at its price
+pub comes_last : (policy : PolicyData) (history : List RecordData) (r : RecordData) (k : Keepers) (number : ℕ) (o : LiveOrder) → Takes policy history (moves.Rests number) r k → live_numbered k.orders.live number ≡ Some o
+    → IsLatest (resting_of o) (resting_in k.book o.terms.stock (is_buy o.terms.side))
+comes_last policy history r k number o t found =
+    subst (λ (b : List StockOrders). IsLatest (resting_of o) (resting_in b o.terms.stock (is_buy o.terms.side))) (sym t.in_force.book)
+    (first_is_latest policy history o t.does.legal (first_found policy history r k number o t found))
+
+pub rest_goes_on : (policy : PolicyData) (history : List RecordData) (r : RecordData) (before k : Keepers) (number : ℕ) (o : LiveOrder) → Takes policy history (moves.Rests number) r before
+    → live_numbered before.orders.live number ≡ Some o
+    → k.people ≡ before.people → k.rules ≡ before.rules → k.day ≡ at_moment r.moment (day_moved (moves.Rests number) before.day)
+    → k.orders ≡ orders_moved (moves.Rests number) before.orders → k.book ≡ put_to_rest o before.book → k.ledger ≡ before.ledger → k.streams ≡ before.streams
+    → AreCarriedOn policy history r k
+rest_goes_on policy history r before k number o t found people_are rules_are day_is orders_are book_is ledger_is streams_are =
+    goes_on policy history (moves.Rests number) r before k t people_are rules_are day_is orders_are
+    (book_is ∙ ap (λ (x : Option LiveOrder). option_map_or (λ (y : LiveOrder). put_to_rest y before.book) x before.book) (sym found))
+    (quiet_figured policy history (moves.Rests number) r before k.ledger t tt ledger_is)
+    (ap shown streams_are ∙ stays_by_none policy history (history ++ r ∷ []) before.streams t.in_force.streams (λ user. told_by policy history (moves.Rests number) r user t.does))
+    (still_sent policy before.people k.people before.streams.readers k.streams.readers people_are (ap (λ (s : AllStreams). s.readers) streams_are) t.in_force.sent)
 
 -- ---- an order that ends
 
@@ -318,49 +281,29 @@ rest_goes_on policy history first r before k number t rests people_are rules_are
 abbrev pub told_of_end : LiveOrder → List Message
 told_of_end o = canceled_of cancels.ImmediateOrCancel (shares_open o) o
 
-pub end_tells : (policy : PolicyData) (history : List RecordData) (first : LiveOrder) (r : RecordData) (k : Keepers) (number : ℕ)
-    → TakesMatch policy history first r k → r.verdict ≡ verdicts.Expired number → TellsOne policy history (history ++ r ∷ []) r first.user (told_of_end first)
-end_tells policy history first r k number t ends user = told (may_by policy history (steps.Matching t.handed) r (verdicts.Expired number) t.legal t.left ends)
-  where
-    told : MayExpire (world policy history) r number → stream policy (history ++ r ∷ []) user ≡ stream policy history user ++ map (reported r) (to_user first.user user (told_of_end first))
-    told is =
-        told_by policy history first r k (verdicts.Expired number) user t ends
-        ∙ ap (λ (n : ℕ). stream policy history user ++ map (reported r) (expired_of (live policy history) n user)) is.has_number
-        ∙ ap (λ (found : Option LiveOrder). stream policy history user ++ map (reported r) (flat_map (λ (o : LiveOrder). to_user o.user user (told_of_end o)) (option_to_list found)))
-        (first_lives policy history is.first is.waiting t.legal is.comes_first).0.found
-        ∙ ap (λ (ms : List Message). stream policy history user ++ map (reported r) ms) (append-nil (to_user is.first.user user (told_of_end is.first)))
-        ∙ ap (λ (x : LiveOrder). stream policy history user ++ map (reported r) (to_user x.user user (told_of_end x))) (is_first policy history is.first is.waiting first is.comes_first (waits_first policy history first r k t))
+pub end_tells : (policy : PolicyData) (history : List RecordData) (r : RecordData) (k : Keepers) (o : LiveOrder) → Takes policy history (moves.Expires o.number) r k → live_numbered k.orders.live o.number ≡ Some o
+    → TellsOne policy history (history ++ r ∷ []) r o.user (told_of_end o)
+end_tells policy history r k o t found user =
+    told_by policy history (moves.Expires o.number) r user t.does
+    ∙ ap (λ (x : Option LiveOrder). stream policy history user ++ map (reported r) (flat_map (λ (y : LiveOrder). to_user y.user user (told_of_end y)) (option_to_list x)))
+    (held_numbered policy history (moves.Expires o.number) r k o.number o t found)
+    ∙ ap (λ (ms : List Message). stream policy history user ++ map (reported r) ms) (append-nil (to_user o.user user (told_of_end o)))
 
-pub end_has_place : (policy : PolicyData) (history : List RecordData) (first : LiveOrder) (r : RecordData) (k : Keepers) (number : ℕ)
-    → TakesMatch policy history first r k → HavePlaces policy history r k.streams → r.verdict ≡ verdicts.Expired number → 0 < places_in k.streams.told first.user
-end_has_place policy history first r k number t places ends =
-    has_place policy history r k.streams first.user _ places (end_tells policy history first r k number t ends)
-
-pub end_goes_on : (policy : PolicyData) (history : List RecordData) (first : LiveOrder) (r : RecordData) (before k : Keepers) (number : ℕ) (message : Message)
-    → TakesMatch policy history first r before → r.verdict ≡ verdicts.Expired number → message ∷ [] ≡ told_of_end first
-    → k.people ≡ before.people → k.rules ≡ before.rules → k.day ≡ before.day
-    → k.orders ≡ with_live (without number before.orders.live) before.orders → k.book ≡ before.book → Closes first before.ledger k.ledger → k.streams ≡ with_told first.user r.moment (Some message) before.streams
-    → AreInForceBut policy history r k
-end_goes_on policy history first r before k number message t ends is people_are rules_are day_is orders_are book_is closes streams_are =
-    by_match policy history first r before k t people_are rules_are day_is
-    (orders_are ∙ ap (λ (d : OrdersData). with_live (without number d.live) d) t.in_force.orders ∙ sym (ends_one policy history t.handed r number t.legal t.left ends))
-    (book_is ∙ t.in_force.book ∙ sym (expiries_keep policy history t.handed r number t.legal t.left ends))
-    (end_figured policy history first r before number k.ledger t ends closes)
-    (ap shown streams_are
-    ∙ stays_by_one policy history (history ++ r ∷ []) r before.streams first.user message t.in_force.streams
-    (subst (TellsOne policy history (history ++ r ∷ []) r first.user) (sym is) (end_tells policy history first r before number t ends)))
-    (ap (λ (s : AllStreams). s.readers) streams_are)
+pub end_has_place : (policy : PolicyData) (history : List RecordData) (r : RecordData) (k : Keepers) (o : LiveOrder) → Takes policy history (moves.Expires o.number) r k → live_numbered k.orders.live o.number ≡ Some o
+    → HavePlaces policy history r k.streams → 0 < places_in k.streams.told o.user
+end_has_place policy history r k o t found places = has_place policy history r k.streams o.user _ places (end_tells policy history r k o t found)
 
 -- its user has his place
-pub end_fits : (policy : PolicyData) (history : List RecordData) (first : LiveOrder) (r : RecordData) (k : Keepers) (number : ℕ) (streams : AllStreams)
-    → TakesMatch policy history first r k → r.verdict ≡ verdicts.Expired number → Makes policy history k streams → HasEnough k.orders.live k.people policy streams first.user
-    → HaveAllPlaces policy history r streams
-end_fits policy history first r k number streams t ends m has =
-    match_fits policy history t.handed r k streams t.legal t.left m
-    (one_finds policy history r k streams first.user _ (end_tells policy history first r k number t ends) has)
+pub end_fits : (policy : PolicyData) (history : List RecordData) (r : RecordData) (k : Keepers) (o : LiveOrder) (streams : AllStreams) → Takes policy history (moves.Expires o.number) r k → live_numbered k.orders.live o.number ≡ Some o
+    → Makes policy history k streams → HasEnough k.orders.live k.people policy streams o.user → HaveAllPlaces policy history r streams
+end_fits policy history r k o streams t found makes has =
+    let matches : IsMatched policy history r = is_matched policy history r (moves.Expires o.number) t.does (may_do policy history r (moves.Expires o.number) t.does).is_match in
+    match_fits policy history matches.handed r k streams t.does.legal matches.left makes
+    (one_finds policy history r k streams o.user _ (end_tells policy history r k o t found) has)
 
 -- whoever has all places has one for each report
-pub end_is_placed : (policy : PolicyData) (history : List RecordData) (first : LiveOrder) (r : RecordData) (k : Keepers) (number : ℕ) (streams : AllStreams)
-    → TakesMatch policy history first r k → r.verdict ≡ verdicts.Expired number → KnowTheSame k.streams streams → HaveAllPlaces policy history r streams → HavePlaces policy history r streams
-end_is_placed policy history first r k number streams t ends same have =
-    all_are_placed policy history r streams (λ user. same user ∙ known_told policy history k t.in_force user) (match_is_legal policy history first r k t) (ap makes_fill ends) have
+pub end_is_placed : (policy : PolicyData) (history : List RecordData) (r : RecordData) (k : Keepers) (o : LiveOrder) (streams : AllStreams) → Takes policy history (moves.Expires o.number) r k
+    → KnowTheSame k.streams streams → HaveAllPlaces policy history r streams → HavePlaces policy history r streams
+end_is_placed policy history r k o streams t same have =
+    all_are_placed policy history r streams (λ user. same user ∙ known_told policy history k t.in_force user)
+    (legal_after policy history r.step r t.does.legal t.fits t.does.is_next) (ap makes_fill (expiry_does policy history r o.number t.does)) have

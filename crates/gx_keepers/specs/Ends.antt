@@ -21,7 +21,6 @@ use Rattle.gx_policy.specs.People.{is_trader}
 use Rattle.gx_history.specs.Streams.{lift_code}
 use Rattle.gx_day.specs.DayData.{DayData, killed_in}
 use Rattle.gx_history.specs.declared.live_order.LiveOrder.{LiveOrder}
-use Rattle.gx_orders.specs.LiveOrders.{of_others}
 use Rattle.gx_streams.specs.Kept.{places_in}
 use Rattle.gx_streams.specs.Streams.{AllStreams}
 use Rattle.gx_streams.specs.Telling.{owed_for, owed_to, with_all_owed}
@@ -30,12 +29,6 @@ use Rattle.gx_keepers.specs.declared.next_record.NextRecord.{NextRecord}
 -- the command ends the order
 abbrev pub is_ended : Action → LiveOrder → Bool
 is_ended action o = ends_account o.account action
-
--- the orders that it leaves, in their places
-abbrev pub live_left : Action → List LiveOrder → List LiveOrder
-live_left (actions.Kill account) live = of_others account live
-live_left actions.CloseDay live = []
-live_left other live = live
 
 -- the report that the order has ended, for its user
 abbrev pub owed_by_end : ℕ → LiveOrder → UserName × Report
@@ -85,8 +78,8 @@ owed_by_command policy r officer c code live =
     owed_by_ends c.action r.moment live ++ (owed_by_close c.action r.moment policy.users ++ owed_by_answer r officer c code ∷ [])
 
 -- where this is the next record
-abbrev pub owed_by_next : NextRecord → Command → AnswerCode → List LiveOrder → List (UserName × Report)
-owed_by_next n c code live = owed_by_command n.policy.now n.left.now n.asked.now.user c code live
+abbrev pub owed_by_next : NextRecord → UserName → Command → AnswerCode → List LiveOrder → List (UserName × Report)
+owed_by_next n officer c code live = owed_by_command n.policy.now n.left.now officer c code live
 
 -- each user has a place for each report that is for him
 abbrev pub HaveOwedPlaces : List (UserName × Report) → AllStreams → Type 0
@@ -105,5 +98,5 @@ abbrev pub told_of_close : Action → ℕ → List User → AllStreams → AllSt
 told_of_close action moment users streams = with_all_owed (owed_by_close action moment users) streams
 
 -- all that the next record owes told
-abbrev pub told_by_next : NextRecord → Command → AnswerCode → List LiveOrder → AllStreams → AllStreams
-told_by_next n c code live streams = with_all_owed (owed_by_next n c code live) streams
+abbrev pub told_by_next : NextRecord → UserName → Command → AnswerCode → List LiveOrder → AllStreams → AllStreams
+told_by_next n officer c code live streams = with_all_owed (owed_by_next n officer c code live) streams

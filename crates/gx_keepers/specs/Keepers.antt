@@ -3,6 +3,7 @@ use Rattle.std.specs.Prelude.{◌≡◌, ℕ, ◌+◌, ◌≤◌, IsTrue, List, 
 use Rattle.std.specs.List.{filter, AllByRecursion}
 use Rattle.gx_units.specs.declared.names.UserName.{UserName}
 use Rattle.gx_policy.specs.declared.policy.User.{User}
+use Rattle.gx_history.specs.declared.moves.Move.{Move}
 use Rattle.gx_history.specs.declared.record.Asked.{Asked}
 use Rattle.gx_history.specs.declared.record.Step.TheVariants as steps
 use Rattle.gx_history.specs.declared.report.Message.{Message}
@@ -12,8 +13,9 @@ use Rattle.gx_policy.specs.declared.policy.PolicyData.{PolicyData}
 use Rattle.gx_history.specs.declared.record.RecordData.{RecordData}
 use Rattle.gx_history.specs.InForce.{rules_in_force}
 use Rattle.gx_history.specs.Streams.{reports_of}
+use Rattle.gx_history.specs.Requests.{asked}
 use Rattle.gx_history.specs.Verdicts.{FitsDay, IsLegal, next}
-use Rattle.gx_day.specs.DayData.{at_moment}
+use Rattle.gx_history.specs.World.{Does}
 use Rattle.gx_day.specs.InForce.{day_in_force}
 use Rattle.gx_orders.specs.InForce.{orders_in_force}
 use Rattle.gx_people.specs.Entitled.{people_in_force, sees}
@@ -50,17 +52,6 @@ pub record AreInForce (policy : PolicyData) (history : List RecordData) (k : Kee
 -- and after one more record
 abbrev pub AreCarriedOn : PolicyData → List RecordData → RecordData → Keepers → Type 0
 AreCarriedOn policy history r k = AreInForce policy (history ++ r ∷ []) k
-
--- they do, once the day has its moment
-pub record AreInForceBut (policy : PolicyData) (history : List RecordData) (r : RecordData) (k : Keepers) : Type 0 where
-  pub people : k.people ≡ people_in_force policy (history ++ r ∷ [])
-  pub rules : k.rules ≡ rules_in_force policy (history ++ r ∷ [])
-  pub day : at_moment r.moment k.day ≡ day_in_force policy (history ++ r ∷ [])
-  pub orders : k.orders ≡ orders_in_force policy (history ++ r ∷ [])
-  pub book : k.book ≡ book_in_force policy (history ++ r ∷ [])
-  pub ledger : StandsForDay policy k.ledger (history ++ r ∷ [])
-  pub streams : shown k.streams ≡ told_after policy (history ++ r ∷ [])
-  pub sent : AreSentTo policy k.people k.streams.readers
 
 -- the users who are told report by report are the policy's, but for its readers
 abbrev pub KnowsUsers : PolicyData → AllStreams → Type 0
@@ -123,8 +114,14 @@ with_told user moment (Some message) streams = on_told user (with_kept_last (rec
 abbrev pub HavePlaces : PolicyData → List RecordData → RecordData → AllStreams → Type 0
 HavePlaces policy history r streams = (user : UserName) → length (reports_of policy user (history, r)) ≤ places_in streams.told user
 
--- after a legal day, with what is in force, the request leaves the record
-pub record Takes (policy : PolicyData) (history : List RecordData) (a : Asked) (r : RecordData) (k : Keepers) : Type 0 where
+-- after a legal day with what is in force, the record is next, and does so
+pub record Takes (policy : PolicyData) (history : List RecordData) (m : Move) (r : RecordData) (k : Keepers) : Type 0 where
+  pub does : Does policy history r m
+  pub fits : FitsDay r
+  pub in_force : AreInForce policy history k
+
+-- the request leaves it
+pub record TakesAsked (policy : PolicyData) (history : List RecordData) (a : Asked) (r : RecordData) (k : Keepers) : Type 0 where
   pub legal : IsLegal policy history
   pub fits : FitsDay r
   pub left : next policy history (steps.Asked a) ≡ Some r
@@ -132,7 +129,15 @@ pub record Takes (policy : PolicyData) (history : List RecordData) (a : Asked) (
 
 -- the record is next, after a legal day with what is in force
 abbrev pub IsNext : NextRecord → Keepers → Type 0
-IsNext n k = Takes n.policy.now n.history.now.records n.asked.now n.left.now k
+IsNext n k = Takes n.policy.now n.history.now.records n.moves.now n.left.now k
+
+-- it is the request's
+abbrev pub IsOf : Asked → NextRecord → Type 0
+IsOf a n = n.left.now.step ≡ steps.Asked a
+
+-- it is a matching step's
+abbrev pub IsMatch : NextRecord → Type 0
+IsMatch n = asked n.left.now.step ≡ None
 
 -- the record has its places
 abbrev pub IsPlaced : NextRecord → Keepers → Type 0
@@ -146,10 +151,6 @@ AreBefore n k = AreInForce n.policy.now n.history.now.records k
 abbrev pub AreAfter : NextRecord → Keepers → Type 0
 AreAfter n k = AreCarriedOn n.policy.now n.history.now.records n.left.now k
 
--- and after it, once the day has its moment
-abbrev pub AreAfterBut : NextRecord → Keepers → Type 0
-AreAfterBut n k = AreInForceBut n.policy.now n.history.now.records n.left.now k
-
 -- it has those that are kept behind it too
 abbrev pub IsPlacedWhole : NextRecord → Keepers → Type 0
 IsPlacedWhole n k = HaveAllPlaces n.policy.now n.history.now.records n.left.now k.streams
@@ -162,6 +163,6 @@ KeepPlacesBefore n k = KeepPlaces n.policy.now n.history.now.records k.streams
 abbrev pub KeepPlacesAfter : NextRecord → Keepers → Type 0
 KeepPlacesAfter n k = KeepPlaces n.policy.now (n.history.now.records ++ n.left.now ∷ []) k.streams
 
--- the record is a granted Kill or Logout
-abbrev pub IsSure : NextRecord → Type 0
-IsSure n = IsTrue (has_kept_places n.asked.now.request n.left.now.verdict)
+-- the request is a granted Kill or Logout
+abbrev pub IsSure : Asked → NextRecord → Type 0
+IsSure a n = IsTrue (has_kept_places a.request n.left.now.verdict)

@@ -1,116 +1,72 @@
-//! What each kind of record does to the keepers.
+//! What each kind of request does to the keepers.
 //!
 //! Each function begins with the one call that can be refused, if it makes one; nothing has changed
 //! then. What follows takes no memory: the places for reports were kept before.
 
 ghost use Rattle.std.specs.Prelude.{◌≡◌, IsOk, OnOk, OnErr};
-ghost use Rattle.gx_history.specs.declared.record.Request.TheVariants as requests;
-ghost use Rattle.gx_history.specs.declared.record.Verdict.TheVariants as verdicts;
-ghost use Rattle.gx_history.specs.Turns.{new_order};
+ghost use Rattle.gx_history.specs.declared.moves.Move.TheVariants as moves;
 ghost use Rattle.gx_market.specs.Changes.{cut_from};
-ghost use Rattle.gx_keepers.specs.Keepers.{AreAfter, AreAfterBut, AreBefore, IsNext};
-ghost use Rattle.gx_keepers.specs.Keepers.{IsPlaced, IsSure, KeepPlacesAfter};
-ghost use Rattle.gx_keepers.specs.Keepers.{KeepPlacesBefore, KeepRoom};
+ghost use Rattle.gx_keepers.specs.Keepers.{AreAfter, AreBefore, IsNext, IsOf, IsPlaced, IsSure};
+ghost use Rattle.gx_keepers.specs.Keepers.{KeepPlacesAfter, KeepPlacesBefore, KeepRoom};
 
 use crate::commands::apply_command;
 use crate::keepers::Keepers;
-use crate::listed::firm_of;
 use crate::next_record::NextRecord;
 use crate::places::keep_places;
 use crate::reports::{accepted, canceled, replaced, reports_of_denial, tell};
 use gx_history::live_order::LiveOrder;
-use gx_history::record::{Asked, RecordData, Request, Verdict};
+use gx_history::moves::Move;
+use gx_history::record::Asked;
 use gx_market::standing::{leave, take_out};
-use gx_ouch::{CancelOrder, CancelReason, EnterOrder, OrderTerms, ReplaceOrder};
-use gx_policy::{Policy, RuleName};
-use gx_units::{AccountName, Moment, OutOfMemory, UserName};
+use gx_ouch::CancelReason;
+use gx_policy::RuleName;
+use gx_units::OutOfMemory;
 
 /// A denial: it uses the token and is told to who asked, where its rule is one whose denials are
 /// answered.
 fn apply_denial(
     keepers: &mut Keepers,
     next: NextRecord<'_>,
+    a: &Asked,
     rule: RuleName,
 ) -> Result<(), OutOfMemory>
     requires takes { IsNext next keepers.old }
     requires places { IsPlaced next keepers.old }
-    requires denied { next.left.now.verdict ≡ verdicts.Denied rule }
-    ensures ok { OnOk result (AreAfterBut next.entry keepers.new) }
+    requires denies { next.moves.now ≡ moves.Denies a.now rule }
+    ensures ok { OnOk result (AreAfter next.entry keepers.new) }
     ensures err { OnErr result (AreBefore next.entry keepers.new) }
     ensures room { KeepRoom keepers.old.streams keepers.new.streams }
 {
-    keepers.orders.deny(next.asked, rule)?;
-    let message = reports_of_denial(next.policy, next.left, rule, &next.asked.request);
-    tell(
-        &mut keepers.streams,
-        next.asked.user,
-        next.left.moment,
-        message,
-    );
+    keepers.orders.deny(a, rule)?;
+    let message = reports_of_denial(next.policy, next.left, rule, &a.request);
+    tell(&mut keepers.streams, a.user, next.left.moment, message);
+    keepers.day.apply(next.moves, next.left.moment);
     Ok(())
 }
 
-/// The order of an Enter that the record grants.
-fn order_of(
-    policy: &Policy,
-    entry: &RecordData,
-    user: UserName,
-    account: AccountName,
-    m: &EnterOrder,
-) -> LiveOrder
-    ensures { result ≡ new_order policy.now entry.now user account m.now }
-{
-    LiveOrder {
-        number: entry.number,
-        user,
-        account,
-        token: m.token,
-        terms: OrderTerms {
-            side: m.side,
-            shares: m.shares,
-            stock: m.stock,
-            price: m.price,
-            time_in_force: m.time_in_force,
-            firm: firm_of(policy, account, m.firm),
-            display: m.display,
-            capacity: m.capacity,
-            intermarket_sweep: m.intermarket_sweep,
-            minimum_quantity: m.minimum_quantity,
-            cross_type: m.cross_type,
-        },
-        total: m.shares,
-        done: 0,
-        waits: true,
-    }
-}
-
-/// A granted Enter: its order is the last of those that wait, the ledger counts it, and its user is
-/// told.
+/// An Enter: its order is the last of those that wait, the ledger counts it, and its user is told.
 fn apply_enter(
     keepers: &mut Keepers,
     next: NextRecord<'_>,
-    m: &EnterOrder,
+    new: &LiveOrder,
 ) -> Result<(), OutOfMemory>
     requires takes { IsNext next keepers.old }
     requires places { IsPlaced next keepers.old }
-    requires granted { next.left.now.verdict ≡ verdicts.Granted }
-    requires enters { next.asked.now.request ≡ requests.Enter m.now }
-    ensures ok { OnOk result (AreAfterBut next.entry keepers.new) }
+    requires adds { next.moves.now ≡ moves.Adds new.now }
+    ensures ok { OnOk result (AreAfter next.entry keepers.new) }
     ensures err { OnErr result (AreBefore next.entry keepers.new) }
     ensures room { KeepRoom keepers.old.streams keepers.new.streams }
 {
-    let Some(account) = keepers.people.account_of(next.asked.user) else {
-        unreachable!();
-    };
-    let order = order_of(next.policy, next.left, next.asked.user, account, m);
-    keepers.orders.enter(order)?;
-    keepers.ledger.accept(&order, next.left.moment, false);
+    keepers.orders.enter(*new)?;
+    keepers.ledger.accept(new, next.left.moment, false);
+    let message = accepted(new);
     tell(
         &mut keepers.streams,
-        next.asked.user,
+        new.user,
         next.left.moment,
-        Some(accepted(&order)),
+        Some(message),
     );
+    keepers.day.apply(next.moves, next.left.moment);
     Ok(())
 }
 
@@ -123,139 +79,104 @@ fn cut_from(order: &LiveOrder, total: u32) -> u32
         .saturating_sub(total.saturating_sub(order.done))
 }
 
-/// A granted Cancel: its order has another size, the ledger so many shares less of it, and its user
-/// is told. An order with nothing open is gone, out of the book too.
-fn apply_cancel(keepers: &mut Keepers, next: NextRecord<'_>, m: &CancelOrder)
+/// A Cancel: its order has another size, the ledger so many shares less of it, and its user is told.
+/// An order with nothing open is gone, out of the book too.
+fn apply_cancel(keepers: &mut Keepers, next: NextRecord<'_>, cut: &LiveOrder, size: u32)
     requires takes { IsNext next keepers.old }
     requires places { IsPlaced next keepers.old }
-    requires granted { next.left.now.verdict ≡ verdicts.Granted }
-    requires cancels { next.asked.now.request ≡ requests.Cancel m.now }
-    ensures after { AreAfterBut next.entry keepers.new }
+    requires sizes { next.moves.now ≡ moves.Sizes cut.now size }
+    ensures after { AreAfter next.entry keepers.new }
     ensures room { KeepRoom keepers.old.streams keepers.new.streams }
 {
-    let user = next.asked.user;
-    let Some(order) = keepers.orders.under(user, m.token) else {
-        unreachable!();
-    };
-    let fewer = cut_from(&order, m.shares);
-    keepers.orders.cut(order.number, m.shares);
-    leave(
-        &mut keepers.book,
-        &order,
-        m.shares.saturating_sub(order.done),
+    let fewer = cut_from(cut, size);
+    keepers.orders.cut(cut.number, size);
+    leave(&mut keepers.book, cut, size.saturating_sub(cut.done));
+    keepers.ledger.cut(cut, fewer);
+    let message = canceled(cut, fewer, CancelReason::UserRequested);
+    tell(
+        &mut keepers.streams,
+        cut.user,
+        next.left.moment,
+        Some(message),
     );
-    keepers.ledger.cut(&order, fewer);
-    let message = canceled(&order, fewer, CancelReason::UserRequested);
-    tell(&mut keepers.streams, user, next.left.moment, Some(message));
+    keepers.day.apply(next.moves, next.left.moment);
 }
 
-/// A granted Replace: its order is the last of those that wait, the one before it has ended, the
-/// ledger counts the one in place of the other, and its user is told.
+/// A Replace: its order is the last of those that wait, the one before it has ended, the ledger
+/// counts the one in place of the other, and its user is told.
 fn apply_replace(
     keepers: &mut Keepers,
     next: NextRecord<'_>,
-    m: &ReplaceOrder,
+    old: &LiveOrder,
+    new: &LiveOrder,
 ) -> Result<(), OutOfMemory>
     requires takes { IsNext next keepers.old }
     requires places { IsPlaced next keepers.old }
-    requires granted { next.left.now.verdict ≡ verdicts.Granted }
-    requires replaces { next.asked.now.request ≡ requests.Replace m.now }
-    ensures ok { OnOk result (AreAfterBut next.entry keepers.new) }
+    requires replaces { next.moves.now ≡ moves.Replaces old.now new.now }
+    ensures ok { OnOk result (AreAfter next.entry keepers.new) }
     ensures err { OnErr result (AreBefore next.entry keepers.new) }
     ensures room { KeepRoom keepers.old.streams keepers.new.streams }
 {
-    let user = next.asked.user;
-    let Some(old) = keepers.orders.under(user, m.existing_token) else {
-        unreachable!();
-    };
-    let new = old.replaced_by(next.left, m);
-    keepers.orders.enter(new)?;
+    keepers.orders.enter(*new)?;
     keepers.orders.end(old.number);
-    take_out(&mut keepers.book, &old);
-    keepers.ledger.close(&old);
-    keepers.ledger.accept(&new, next.left.moment, true);
-    let message = replaced(&old, &new);
-    tell(&mut keepers.streams, user, next.left.moment, Some(message));
+    take_out(&mut keepers.book, old);
+    keepers.ledger.close(old);
+    keepers.ledger.accept(new, next.left.moment, true);
+    let message = replaced(old, new);
+    tell(
+        &mut keepers.streams,
+        old.user,
+        next.left.moment,
+        Some(message),
+    );
+    keepers.day.apply(next.moves, next.left.moment);
     Ok(())
 }
 
-/// A granted request.
-fn apply_grant(keepers: &mut Keepers, next: NextRecord<'_>) -> Result<(), OutOfMemory>
+/// What the record of a request does; an `OutOfMemory` comes before anything has changed.
+fn apply_asked(keepers: &mut Keepers, next: NextRecord<'_>, a: &Asked) -> Result<(), OutOfMemory>
     requires takes { IsNext next keepers.old }
-    requires places { IsPlaced next keepers.old }
-    requires granted { next.left.now.verdict ≡ verdicts.Granted }
-    ensures ok { OnOk result (AreAfterBut next.entry keepers.new) }
-    ensures err { OnErr result (AreBefore next.entry keepers.new) }
-    ensures room { KeepRoom keepers.old.streams keepers.new.streams }
-    ensures sure { IsSure next.entry → IsOk result }
-{
-    let a = next.asked;
-    match &a.request {
-        Request::Login(_) => {
-            keepers.day.log_in(a.user, a.line);
-            Ok(())
-        }
-        Request::Logout => {
-            keepers.day.log_out(a.user);
-            Ok(())
-        }
-        Request::Enter(m) => apply_enter(keepers, next, m),
-        Request::Replace(m) => apply_replace(keepers, next, m),
-        Request::Cancel(m) => {
-            apply_cancel(keepers, next, m);
-            Ok(())
-        }
-        Request::Command(c) => apply_command(keepers, next, c),
-        _ => unreachable!(),
-    }
-}
-
-/// What the record does, but that the day has its moment.
-fn apply_verdict(keepers: &mut Keepers, next: NextRecord<'_>) -> Result<(), OutOfMemory>
-    requires takes { IsNext next keepers.old }
-    requires places { IsPlaced next keepers.old }
-    ensures ok { OnOk result (AreAfterBut next.entry keepers.new) }
-    ensures err { OnErr result (AreBefore next.entry keepers.new) }
-    ensures room { KeepRoom keepers.old.streams keepers.new.streams }
-    ensures sure { IsSure next.entry → IsOk result }
-{
-    match next.left.verdict {
-        Verdict::Granted => apply_grant(keepers, next),
-        Verdict::Denied(rule) => apply_denial(keepers, next, rule),
-        _ => unreachable!(),
-    }
-}
-
-/// What the record does; an `OutOfMemory` comes before anything has changed.
-fn apply(keepers: &mut Keepers, next: NextRecord<'_>) -> Result<(), OutOfMemory>
-    requires takes { IsNext next keepers.old }
+    requires asks { IsOf a.now next }
     requires places { IsPlaced next keepers.old }
     ensures ok { OnOk result (AreAfter next.entry keepers.new) }
     ensures err { OnErr result (AreBefore next.entry keepers.new) }
     ensures room { KeepRoom keepers.old.streams keepers.new.streams }
-    ensures sure { IsSure next.entry → IsOk result }
+    ensures sure { IsSure a.now next.entry → IsOk result }
 {
-    apply_verdict(keepers, next)?;
-    keepers.day.set_moment(next.left.moment);
-    Ok(())
+    match next.moves {
+        Move::Denies(a, rule) => apply_denial(keepers, next, a, *rule),
+        Move::PutsOn(_, _) => {
+            keepers.day.apply(next.moves, next.left.moment);
+            Ok(())
+        }
+        Move::Adds(new) => apply_enter(keepers, next, new),
+        Move::Sizes(cut, size) => {
+            apply_cancel(keepers, next, cut, *size);
+            Ok(())
+        }
+        Move::Replaces(old, new) => apply_replace(keepers, next, old, new),
+        Move::Commands(officer, c) => apply_command(keepers, next, *officer, c),
+        _ => unreachable!(),
+    }
 }
 
-/// Keeps a place for each report that the record owes, carries the keepers on by the record, and
-/// leaves the places that are kept behind it. A granted Kill or Logout is never refused.
+/// Keeps a place for each report that the record of the request owes, carries the keepers on by the
+/// record, and leaves the places that are kept behind it. A granted Kill or Logout is never refused.
 ///
 /// # Errors
 ///
 /// `OutOfMemory` where a stream, an order, an answered denial or a setting finds no memory; then
 /// they are as they were, but for places that were kept.
-pub fn carry_on(keepers: &mut Keepers, next: NextRecord<'_>) -> Result<(), OutOfMemory>
+pub fn carry_on(keepers: &mut Keepers, next: NextRecord<'_>, a: &Asked) -> Result<(), OutOfMemory>
     requires takes { IsNext next keepers.old }
+    requires asks { IsOf a.now next }
     requires kept { KeepPlacesBefore next keepers.old }
     ensures ok { OnOk result (AreAfter next.entry keepers.new) }
     ensures kept_after { OnOk result (KeepPlacesAfter next.entry keepers.new) }
     ensures err { OnErr result (AreBefore next.entry keepers.new) }
     ensures kept_before { OnErr result (KeepPlacesBefore next.entry keepers.new) }
-    ensures sure { IsSure next.entry → IsOk result }
+    ensures sure { IsSure a.now next.entry → IsOk result }
 {
-    keep_places(keepers, next)?;
-    apply(keepers, next)
+    keep_places(keepers, next, a)?;
+    apply_asked(keepers, next, a)
 }

@@ -1,15 +1,13 @@
 //! What a granted command does to the keepers.
 
-ghost use Rattle.std.specs.Prelude.{◌≡◌, IsOk, OnOk, OnErr};
-ghost use Rattle.gx_day.specs.InForce.{day_commanded};
-ghost use Rattle.gx_history.specs.declared.record.Request.TheVariants as requests;
-ghost use Rattle.gx_history.specs.declared.record.Verdict.TheVariants as verdicts;
+ghost use Rattle.std.specs.Prelude.{◌≡◌, IsFalse, IsOk, OnOk, OnErr};
+ghost use Rattle.gx_history.specs.declared.moves.Move.TheVariants as moves;
 ghost use Rattle.gx_history.specs.Streams.{lift_code};
 ghost use Rattle.gx_keepers.specs.Ends.{code_by, owed_by_close, owed_by_day_ends, owed_by_next};
 ghost use Rattle.gx_keepers.specs.Ends.{told_by_next, told_of_close, told_of_day_end, trades};
 ghost use Rattle.gx_keepers.specs.Ends.{HaveOwedPlaces};
-ghost use Rattle.gx_keepers.specs.Keepers.{AreAfterBut, AreBefore, IsNext, IsPlaced};
-ghost use Rattle.gx_keepers.specs.Keepers.{IsSure, KeepRoom};
+ghost use Rattle.gx_keepers.specs.Keepers.{AreAfter, AreBefore, IsNext, IsPlaced, KeepRoom};
+ghost use Rattle.gx_keepers.specs.Settings.{grows};
 
 use crate::ends::{end_orders, tell_of_ends};
 use crate::keepers::Keepers;
@@ -69,30 +67,20 @@ fn tell_of_command(
     streams: &mut Streams,
     orders: &Orders,
     next: NextRecord<'_>,
+    officer: UserName,
     c: &Command,
     code: AnswerCode,
 )
-    requires { HaveOwedPlaces (owed_by_next next c.now code orders.now.live) streams.old }
-    ensures { streams.new ≡ told_by_next next.entry c.now code orders.now.live streams.old }
+    requires { HaveOwedPlaces
+        (owed_by_next next officer c.now code orders.now.live) streams.old }
+    ensures { streams.new
+        ≡ told_by_next next.entry officer c.now code orders.now.live streams.old }
 {
     let moment = next.left.moment;
     tell_of_ends(streams, orders, &c.action, moment);
     tell_of_close(streams, next.policy, &c.action, moment);
     let answered = answer(next.left, c, code);
-    tell(streams, next.asked.user, moment, Some(answered));
-}
-
-/// Kills an account, counts the officer among those who have lifted it, or closes the day, as the
-/// action says; any other leaves the day.
-fn set_day(day: &mut Day, officer: UserName, action: &Action)
-    ensures { day.new ≡ day_commanded officer action.now day.old }
-{
-    match *action {
-        Action::Kill(account) => day.kill(account),
-        Action::Lift(account) => day.lift(account, officer),
-        Action::CloseDay => day.close(),
-        _ => {}
-    }
+    tell(streams, officer, moment, Some(answered));
 }
 
 /// The code of the answer to a granted action, by the day that it leaves.
@@ -126,16 +114,16 @@ fn lift_code(still_killed: bool) -> AnswerCode
 pub fn apply_command(
     keepers: &mut Keepers,
     next: NextRecord<'_>,
+    officer: UserName,
     c: &Command,
 ) -> Result<(), OutOfMemory>
     requires takes { IsNext next keepers.old }
     requires places { IsPlaced next keepers.old }
-    requires granted { next.left.now.verdict ≡ verdicts.Granted }
-    requires commands { next.asked.now.request ≡ requests.Command c.now }
-    ensures ok { OnOk result (AreAfterBut next.entry keepers.new) }
+    requires commands { next.moves.now ≡ moves.Commands officer c.now }
+    ensures ok { OnOk result (AreAfter next.entry keepers.new) }
     ensures err { OnErr result (AreBefore next.entry keepers.new) }
     ensures room { KeepRoom keepers.old.streams keepers.new.streams }
-    ensures sure { IsSure next.entry → IsOk result }
+    ensures sure { IsFalse (grows c.now.action) → IsOk result }
 {
     // What this ensures: no two users have one name.
     let _ = next.policy.rules();
@@ -146,9 +134,16 @@ pub fn apply_command(
         next.policy,
         &c.action,
     )?;
-    set_day(&mut keepers.day, next.asked.user, &c.action);
+    keepers.day.apply(next.moves, next.left.moment);
     let code = granted_code(&keepers.day, &c.action);
-    tell_of_command(&mut keepers.streams, &keepers.orders, next, c, code);
+    tell_of_command(
+        &mut keepers.streams,
+        &keepers.orders,
+        next,
+        officer,
+        c,
+        code,
+    );
     end_orders(
         &mut keepers.ledger,
         &mut keepers.orders,

@@ -3,8 +3,8 @@
 ghost use Rattle.std.specs.Prelude.{◌≡◌, true, map, MatchOption};
 ghost use Rattle.gx_ledger.specs.Following.{ClosesAll};
 ghost use Rattle.gx_market.specs.Changes.{ended_by};
-ghost use Rattle.gx_orders.specs.Changes.{is_lasting, with_live};
-ghost use Rattle.gx_keepers.specs.Ends.{live_left, owed_by_end, owed_by_ends, told_of_ends, HaveOwedPlaces};
+ghost use Rattle.gx_orders.specs.Changes.{is_lasting, live_left, with_live};
+ghost use Rattle.gx_keepers.specs.Ends.{owed_by_end, owed_by_ends, told_of_ends, HaveOwedPlaces};
 ghost use Rattle.gx_keepers.specs.Ledgers.{ended_orders};
 ghost use Rattle.gx_streams.specs.Telling.{with_all_owed};
 

@@ -1,22 +1,25 @@
 //! What each matching step does to the keepers.
 //!
-//! The one call that can be refused, at a fill and at a rest, comes first; nothing has changed then.
-//! What follows takes no memory: the place for the report of an expiry was kept before.
+//! The one call that can be refused comes first; nothing has changed then. What follows takes no
+//! memory.
 
-ghost use Rattle.std.specs.Prelude.{◌≡◌, OnOk, OnErr};
-ghost use Rattle.gx_history.specs.declared.record.Verdict.TheVariants as verdicts;
-ghost use Rattle.gx_keepers.specs.Matching.{AreAfterMatch, AreAfterMatchBut, AreBeforeMatch};
-ghost use Rattle.gx_keepers.specs.Matching.{told_side, IsMatchPlaced, IsMatchPlacedWhole, IsNextMatch};
-ghost use Rattle.gx_keepers.specs.Matching.{KeepPlacesAfterMatch, KeepPlacesBeforeMatch};
+ghost use Rattle.std.specs.Prelude.{◌≡◌, is_some, IsTrue, OnOk, OnErr, Some};
+ghost use Rattle.gx_history.specs.declared.moves.Move.TheVariants as moves;
+ghost use Rattle.gx_orders.specs.LiveOrders.{live_numbered};
+ghost use Rattle.gx_keepers.specs.Keepers.{AreAfter, AreBefore, IsMatch, IsNext, IsPlaced};
+ghost use Rattle.gx_keepers.specs.Keepers.{IsPlacedWhole, KeepPlacesAfter, KeepPlacesBefore};
+ghost use Rattle.gx_keepers.specs.Matching.{told_side};
 
 use crate::keepers::Keepers;
 use crate::listed::place_of;
-use crate::next_record::NextMatch;
-use crate::places::keep_match_places;
+use crate::next_record::NextRecord;
+use crate::places::keep_for_expiry;
 use crate::reports::{canceled, tell};
 use gx_history::live_order::LiveOrder;
-use gx_history::record::{Fill, Verdict};
+use gx_history::moves::Move;
+use gx_history::record::Fill;
 use gx_market::standing::{leave, put_to_rest};
+use gx_orders::orders::Orders;
 use gx_ouch::CancelReason;
 use gx_policy::Policy;
 use gx_streams::fill::{FillSide, ToldFill};
@@ -35,66 +38,78 @@ fn side_of(policy: &Policy, order: &LiveOrder) -> FillSide
     }
 }
 
+/// The live order of this number.
+fn order_numbered(orders: &Orders, number: u64) -> LiveOrder
+    requires lives { IsTrue (is_some (live_numbered orders.now.live number)) }
+    ensures found { live_numbered orders.now.live number ≡ Some result }
+{
+    let Some(order) = orders.numbered(number) else {
+        unreachable!();
+    };
+    order
+}
+
 /// A fill: both users are told, and each reader of either account; both orders execute its shares,
 /// the one that rested leaves the book where nothing of it is left, and the ledger counts it.
-fn apply_fill(keepers: &mut Keepers, next: NextMatch<'_>, f: Fill) -> Result<(), OutOfMemory>
-    requires takes { IsNextMatch next keepers.old }
-    requires fills { next.left.now.verdict ≡ verdicts.Filled f }
-    requires kept { KeepPlacesBeforeMatch next keepers.old }
-    ensures ok { OnOk result (AreAfterMatchBut next.entry keepers.new) }
-    ensures kept_after { OnOk result (KeepPlacesAfterMatch next.entry keepers.new) }
-    ensures err { OnErr result (AreBeforeMatch next.entry keepers.new) }
-    ensures kept_before { OnErr result (KeepPlacesBeforeMatch next.entry keepers.new) }
+fn apply_fill(keepers: &mut Keepers, next: NextRecord<'_>, f: Fill) -> Result<(), OutOfMemory>
+    requires takes { IsNext next keepers.old }
+    requires fills { next.moves.now ≡ moves.Fills f }
+    requires kept { KeepPlacesBefore next keepers.old }
+    ensures ok { OnOk result (AreAfter next.entry keepers.new) }
+    ensures kept_after { OnOk result (KeepPlacesAfter next.entry keepers.new) }
+    ensures err { OnErr result (AreBefore next.entry keepers.new) }
+    ensures kept_before { OnErr result (KeepPlacesBefore next.entry keepers.new) }
 {
     // What this ensures: each account that someone trades for is in the policy, at most 64 of them.
     let _ = next.policy.rules();
-    let Some(maker) = keepers.orders.numbered(f.maker) else {
-        unreachable!();
-    };
-    let taker = next.first;
+    let taker = order_numbered(&keepers.orders, f.taker);
+    let maker = order_numbered(&keepers.orders, f.maker);
     keepers.streams.append_fill(ToldFill {
         match_number: next.left.number,
         moment: next.left.moment,
         shares: f.shares,
         price: f.price,
-        taker: side_of(next.policy, taker),
+        taker: side_of(next.policy, &taker),
         maker: side_of(next.policy, &maker),
     })?;
     keepers.orders.fill(f.taker, f.shares);
     keepers.orders.fill(f.maker, f.shares);
     let left = maker.open().saturating_sub(f.shares);
     leave(&mut keepers.book, &maker, left);
-    keepers.ledger.fill(taker, &maker, f.shares, f.price);
+    keepers.ledger.fill(&taker, &maker, f.shares, f.price);
+    keepers.day.apply(next.moves, next.left.moment);
     Ok(())
 }
 
 /// An order that meets nothing and comes to rest: it stands in the book, and waits no more.
-fn apply_rest(keepers: &mut Keepers, next: NextMatch<'_>, number: u64) -> Result<(), OutOfMemory>
-    requires takes { IsNextMatch next keepers.old }
-    requires rests { next.left.now.verdict ≡ verdicts.Rested number }
-    requires kept { KeepPlacesBeforeMatch next keepers.old }
-    ensures ok { OnOk result (AreAfterMatchBut next.entry keepers.new) }
-    ensures kept_after { OnOk result (KeepPlacesAfterMatch next.entry keepers.new) }
-    ensures err { OnErr result (AreBeforeMatch next.entry keepers.new) }
-    ensures kept_before { OnErr result (KeepPlacesBeforeMatch next.entry keepers.new) }
+fn apply_rest(keepers: &mut Keepers, next: NextRecord<'_>, number: u64) -> Result<(), OutOfMemory>
+    requires takes { IsNext next keepers.old }
+    requires rests { next.moves.now ≡ moves.Rests number }
+    requires kept { KeepPlacesBefore next keepers.old }
+    ensures ok { OnOk result (AreAfter next.entry keepers.new) }
+    ensures kept_after { OnOk result (KeepPlacesAfter next.entry keepers.new) }
+    ensures err { OnErr result (AreBefore next.entry keepers.new) }
+    ensures kept_before { OnErr result (KeepPlacesBefore next.entry keepers.new) }
 {
-    put_to_rest(&mut keepers.book, next.first)?;
+    let order = order_numbered(&keepers.orders, number);
+    put_to_rest(&mut keepers.book, &order)?;
     keepers.orders.rest(number);
+    keepers.day.apply(next.moves, next.left.moment);
     Ok(())
 }
 
 /// An order that meets nothing and may not rest: it ends, is counted no more, and its user is told
-/// what was open.
-fn apply_expiry(keepers: &mut Keepers, next: NextMatch<'_>, number: u64)
-    requires takes { IsNextMatch next keepers.old }
-    requires places { IsMatchPlaced next keepers.old }
-    requires expires { next.left.now.verdict ≡ verdicts.Expired number }
-    requires whole { IsMatchPlacedWhole next keepers.old }
-    ensures after { AreAfterMatchBut next.entry keepers.new }
-    ensures kept_after { KeepPlacesAfterMatch next.entry keepers.new }
+/// what was open, in a place that was kept.
+fn end_order(keepers: &mut Keepers, next: NextRecord<'_>, order: &LiveOrder)
+    requires takes { IsNext next keepers.old }
+    requires places { IsPlaced next keepers.old }
+    requires expires { next.moves.now ≡ moves.Expires order.now.number }
+    requires lives { live_numbered keepers.old.orders.live order.now.number ≡ Some order.now }
+    requires whole { IsPlacedWhole next keepers.old }
+    ensures after { AreAfter next.entry keepers.new }
+    ensures kept_after { KeepPlacesAfter next.entry keepers.new }
 {
-    keepers.orders.end(number);
-    let order = next.first;
+    keepers.orders.end(order.number);
     keepers.ledger.close(order);
     let message = canceled(order, order.open(), CancelReason::ImmediateOrCancel);
     tell(
@@ -103,61 +118,45 @@ fn apply_expiry(keepers: &mut Keepers, next: NextMatch<'_>, number: u64)
         next.left.moment,
         Some(message),
     );
+    keepers.day.apply(next.moves, next.left.moment);
 }
 
-/// What the step does, but that the day has its moment.
-fn apply_outcome(keepers: &mut Keepers, next: NextMatch<'_>) -> Result<(), OutOfMemory>
-    requires takes { IsNextMatch next keepers.old }
-    requires places { IsMatchPlaced next keepers.old }
-    requires whole { IsMatchPlacedWhole next keepers.old }
-    requires kept { KeepPlacesBeforeMatch next keepers.old }
-    ensures ok { OnOk result (AreAfterMatchBut next.entry keepers.new) }
-    ensures kept_after { OnOk result (KeepPlacesAfterMatch next.entry keepers.new) }
-    ensures err { OnErr result (AreBeforeMatch next.entry keepers.new) }
-    ensures kept_before { OnErr result (KeepPlacesBeforeMatch next.entry keepers.new) }
+/// The end of an order that meets nothing and may not rest, with a place for its report.
+fn apply_expiry(keepers: &mut Keepers, next: NextRecord<'_>, number: u64) -> Result<(), OutOfMemory>
+    requires takes { IsNext next keepers.old }
+    requires expires { next.moves.now ≡ moves.Expires number }
+    requires kept { KeepPlacesBefore next keepers.old }
+    ensures ok { OnOk result (AreAfter next.entry keepers.new) }
+    ensures kept_after { OnOk result (KeepPlacesAfter next.entry keepers.new) }
+    ensures err { OnErr result (AreBefore next.entry keepers.new) }
+    ensures kept_before { OnErr result (KeepPlacesBefore next.entry keepers.new) }
 {
-    match next.left.verdict {
-        Verdict::Filled(f) => apply_fill(keepers, next, f),
-        Verdict::Rested(number) => apply_rest(keepers, next, number),
-        Verdict::Expired(number) => {
-            apply_expiry(keepers, next, number);
-            Ok(())
-        }
-        _ => unreachable!(),
-    }
-}
-
-/// What the step does; an `OutOfMemory` comes before anything has changed.
-fn apply_match(keepers: &mut Keepers, next: NextMatch<'_>) -> Result<(), OutOfMemory>
-    requires takes { IsNextMatch next keepers.old }
-    requires places { IsMatchPlaced next keepers.old }
-    requires whole { IsMatchPlacedWhole next keepers.old }
-    requires kept { KeepPlacesBeforeMatch next keepers.old }
-    ensures ok { OnOk result (AreAfterMatch next.entry keepers.new) }
-    ensures kept_after { OnOk result (KeepPlacesAfterMatch next.entry keepers.new) }
-    ensures err { OnErr result (AreBeforeMatch next.entry keepers.new) }
-    ensures kept_before { OnErr result (KeepPlacesBeforeMatch next.entry keepers.new) }
-{
-    apply_outcome(keepers, next)?;
-    keepers.day.set_moment(next.left.moment);
+    let order = order_numbered(&keepers.orders, number);
+    keep_for_expiry(keepers, next, &order)?;
+    end_order(keepers, next, &order);
     Ok(())
 }
 
-/// Keeps a place for the report of an expiry, carries the keepers on by the step's record, and
-/// leaves the places that are kept behind it.
+/// Carries the keepers on by the record of a matching step, and leaves the places that are kept
+/// behind it.
 ///
 /// # Errors
 ///
 /// `OutOfMemory` where a stream, or the book at a rest, finds no memory; then they are as they
 /// were, but for a place that was kept.
-pub fn carry_match(keepers: &mut Keepers, next: NextMatch<'_>) -> Result<(), OutOfMemory>
-    requires takes { IsNextMatch next keepers.old }
-    requires kept { KeepPlacesBeforeMatch next keepers.old }
-    ensures ok { OnOk result (AreAfterMatch next.entry keepers.new) }
-    ensures kept_after { OnOk result (KeepPlacesAfterMatch next.entry keepers.new) }
-    ensures err { OnErr result (AreBeforeMatch next.entry keepers.new) }
-    ensures kept_before { OnErr result (KeepPlacesBeforeMatch next.entry keepers.new) }
+pub fn carry_match(keepers: &mut Keepers, next: NextRecord<'_>) -> Result<(), OutOfMemory>
+    requires takes { IsNext next keepers.old }
+    requires matches { IsMatch next }
+    requires kept { KeepPlacesBefore next keepers.old }
+    ensures ok { OnOk result (AreAfter next.entry keepers.new) }
+    ensures kept_after { OnOk result (KeepPlacesAfter next.entry keepers.new) }
+    ensures err { OnErr result (AreBefore next.entry keepers.new) }
+    ensures kept_before { OnErr result (KeepPlacesBefore next.entry keepers.new) }
 {
-    keep_match_places(keepers, next)?;
-    apply_match(keepers, next)
+    match next.moves {
+        Move::Fills(f) => apply_fill(keepers, next, *f),
+        Move::Rests(number) => apply_rest(keepers, next, *number),
+        Move::Expires(number) => apply_expiry(keepers, next, *number),
+        _ => unreachable!(),
+    }
 }

@@ -3,18 +3,19 @@
 //! For each user places are kept beforehand: one for the end of each of his live orders, and one for
 //! the answer to each Kill that he may ask for. So a granted Kill, and a granted Logout, make none.
 
-ghost use Rattle.std.specs.Prelude.{◌≡◌, ◌<◌, ◌≤◌, ◌^◌, length, IsOk, OnOk};
+ghost use Rattle.std.specs.Prelude.{◌≡◌, ◌<◌, ◌≤◌, ◌^◌, length, IsOk, OnOk, Some};
+ghost use Rattle.gx_history.specs.declared.moves.Move.TheVariants as moves;
 ghost use Rattle.gx_history.specs.Verdicts.{day_limit};
+ghost use Rattle.gx_orders.specs.LiveOrders.{live_numbered};
 ghost use Rattle.gx_streams.specs.Telling.{shown};
 ghost use Rattle.gx_keepers.specs.Keepers.{enough_of, kills_of, AreBefore, HasEnough};
-ghost use Rattle.gx_keepers.specs.Keepers.{HasPlaces, HaveEnough, HaveNoFewer, IsNext, IsPlaced, IsPlacedWhole};
+ghost use Rattle.gx_keepers.specs.Keepers.{HasPlaces, HaveEnough, HaveNoFewer, IsNext, IsOf, IsPlaced, IsPlacedWhole};
 ghost use Rattle.gx_keepers.specs.Keepers.{IsSure, KeepPlacesBefore, KnowTheSame};
-ghost use Rattle.gx_keepers.specs.Matching.{AreBeforeMatch, IsMatchPlaced, IsMatchPlacedWhole};
-ghost use Rattle.gx_keepers.specs.Matching.{IsNextMatch, KeepPlacesBeforeMatch};
 
 use crate::keepers::Keepers;
-use crate::next_record::{NextMatch, NextRecord};
-use gx_history::record::Verdict;
+use crate::next_record::NextRecord;
+use gx_history::live_order::LiveOrder;
+use gx_history::record::Asked;
 use gx_orders::orders::Orders;
 use gx_people::people::People;
 use gx_places::requests::{concerns_many, has_kept_places};
@@ -98,28 +99,32 @@ pub fn keep_enough_for_all(
     Ok(())
 }
 
-/// Keeps a place for each report that the record owes, and those that are to be kept behind it. A
-/// granted Kill or Logout finds its own.
+/// Keeps a place for each report that the record of the request owes, and those that are to be kept
+/// behind it. A granted Kill or Logout finds its own.
 ///
 /// # Errors
 ///
 /// `OutOfMemory`: some stream could not grow, and nobody was told anything.
-pub fn keep_places(keepers: &mut Keepers, next: NextRecord<'_>) -> Result<(), OutOfMemory>
+pub fn keep_places(
+    keepers: &mut Keepers,
+    next: NextRecord<'_>,
+    a: &Asked,
+) -> Result<(), OutOfMemory>
     requires takes { IsNext next keepers.old }
+    requires asks { IsOf a.now next }
     requires kept { KeepPlacesBefore next keepers.old }
     ensures before { AreBefore next.entry keepers.new }
     ensures kept { KeepPlacesBefore next.entry keepers.new }
     ensures places { OnOk result (IsPlaced next.entry keepers.new) }
     ensures whole { OnOk result (IsPlacedWhole next.entry keepers.new) }
-    ensures sure { IsSure next.entry → IsOk result }
+    ensures sure { IsSure a.now next.entry → IsOk result }
 {
-    let request = &next.asked.request;
     let given = next.left.verdict;
     let policy = next.policy;
-    if has_kept_places(request, given) {
+    if has_kept_places(&a.request, given) {
         return Ok(());
     }
-    if concerns_many(request, given) {
+    if concerns_many(&a.request, given) {
         return keep_enough_for_all(
             &mut keepers.streams,
             &keepers.orders,
@@ -132,32 +137,35 @@ pub fn keep_places(keepers: &mut Keepers, next: NextRecord<'_>) -> Result<(), Ou
         &keepers.orders,
         &keepers.people,
         policy,
-        next.asked.user,
+        a.user,
     )
 }
 
-/// Keeps a place for the report of an order that expires, and those that are to be kept behind it. A
-/// fill makes its own places.
+/// Keeps a place for the report of an order that expires, and those that are to be kept behind it.
 ///
 /// # Errors
 ///
 /// `OutOfMemory`: some stream could not grow, and nobody was told anything.
-pub fn keep_match_places(keepers: &mut Keepers, next: NextMatch<'_>) -> Result<(), OutOfMemory>
-    requires takes { IsNextMatch next keepers.old }
-    requires kept { KeepPlacesBeforeMatch next keepers.old }
-    ensures before { AreBeforeMatch next.entry keepers.new }
-    ensures kept { KeepPlacesBeforeMatch next.entry keepers.new }
-    ensures places { OnOk result (IsMatchPlaced next.entry keepers.new) }
-    ensures whole { OnOk result (IsMatchPlacedWhole next.entry keepers.new) }
+pub fn keep_for_expiry(
+    keepers: &mut Keepers,
+    next: NextRecord<'_>,
+    order: &LiveOrder,
+) -> Result<(), OutOfMemory>
+    requires takes { IsNext next keepers.old }
+    requires expires { next.moves.now ≡ moves.Expires order.now.number }
+    requires lives { live_numbered keepers.old.orders.live order.now.number ≡ Some order.now }
+    requires kept { KeepPlacesBefore next keepers.old }
+    ensures before { AreBefore next.entry keepers.new }
+    ensures same { keepers.new.orders ≡ keepers.old.orders }
+    ensures kept { KeepPlacesBefore next.entry keepers.new }
+    ensures places { OnOk result (IsPlaced next.entry keepers.new) }
+    ensures whole { OnOk result (IsPlacedWhole next.entry keepers.new) }
 {
-    match next.left.verdict {
-        Verdict::Expired(_) => keep_enough(
-            &mut keepers.streams,
-            &keepers.orders,
-            &keepers.people,
-            next.policy,
-            next.first.user,
-        ),
-        _ => Ok(()),
-    }
+    keep_enough(
+        &mut keepers.streams,
+        &keepers.orders,
+        &keepers.people,
+        next.policy,
+        order.user,
+    )
 }

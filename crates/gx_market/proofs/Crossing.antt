@@ -21,7 +21,7 @@ use Rattle.gx_market.specs.Changes.{resting_of}
 use Rattle.gx_market.specs.Laws.{NextIsMet, NextRecordIsMet}
 use Rattle.gx_market.specs.Meeting.{best_against, match_record, met, next_met}
 use Rattle.gx_market.proofs.Booked.{resting_found}
-use Rattle.gx_market.proofs.ByKind.{comes_first, first_is}
+use Rattle.gx_orders.proofs.Finding.{comes_first, first_is}
 use Rattle.gx_effects.proofs.Resting.{first_lives}
 use Rattle.gx_effects.proofs.Known.{RestsThere, all_resting}
 use Rattle.gx_effects.proofs.Orderly.{legal_is_orderly}

@@ -35,7 +35,7 @@ use Rattle.gx_book.specs.declared.resting.Resting.{Resting}
 use Rattle.gx_market.specs.Changes.{resting_of}
 use Rattle.gx_market.specs.Laws.{FirstIsLatest}
 use Rattle.gx_market.proofs.Booked.{resting_found}
-use Rattle.gx_market.proofs.ByKind.{comes_first}
+use Rattle.gx_orders.proofs.Finding.{comes_first}
 
 never : {X : Type 0} {b : Bool} → b ≡ true → b ≡ false → X
 never h k = cc

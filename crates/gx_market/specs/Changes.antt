@@ -1,15 +1,17 @@
 -- What becomes of the book by one more record, in the words of the book's calls.
-use Rattle.std.specs.Prelude.{ℕ, ◌-◌, Bool, true, false, nat_lt, List, if◌then◌else◌}
+use Rattle.std.specs.Option.{option_map_or}
+use Rattle.std.specs.Prelude.{ℕ, ◌-◌, nat_lt, List, if◌then◌else◌}
 use Rattle.gx_desk.specs.declared.Action.{Action}
 use Rattle.gx_desk.specs.declared.Action.TheVariants as actions
-use Rattle.gx_history.specs.declared.record.Request.{Request}
-use Rattle.gx_history.specs.declared.record.Request.TheVariants as requests
+use Rattle.gx_history.specs.declared.live_order.LiveOrder.{LiveOrder}
+use Rattle.gx_history.specs.declared.moves.Move.{Move}
+use Rattle.gx_history.specs.declared.moves.Move.TheVariants.{Sizes, Replaces, Commands, Fills, Rests}
 use Rattle.gx_history.specs.Book.{is_buy}
+use Rattle.gx_history.specs.Live.{live_numbered}
+use Rattle.gx_history.specs.LiveOrders.{shares_open}
 use Rattle.gx_book.specs.declared.resting.Resting.{Resting}
 use Rattle.gx_book.specs.Books.{StockOrders, on_each_side, on_side, with_rested}
 use Rattle.gx_book.specs.Queue.{no_orders, without_account, without_order}
-use Rattle.gx_history.specs.declared.live_order.LiveOrder.{LiveOrder}
-use Rattle.gx_orders.specs.Changes.{is_lasting}
 
 -- what the book holds of a live order that rests
 abbrev pub resting_of : LiveOrder → Resting
@@ -37,11 +39,11 @@ ended_by other book = book
 abbrev pub cut_from : LiveOrder → ℕ → ℕ
 cut_from o total = (o.total - o.done) - (total - o.done)
 
--- a request whose grant changes nothing that rests
-abbrev pub keeps_book : Request → Bool
-keeps_book (requests.Login m) = true
-keeps_book requests.Logout = true
-keeps_book (requests.Unreadable m) = true
-keeps_book (requests.Enter m) = true
-keeps_book (requests.Command c) = is_lasting c.action
-keeps_book other = false
+-- the book, once a record has done this, where these were the live orders
+abbrev pub book_moved : Move → List LiveOrder → List StockOrders → List StockOrders
+book_moved (Sizes cut size) live book = left_with cut (size - cut.done) book
+book_moved (Replaces old new) live book = taken_out old book
+book_moved (Commands officer c) live book = ended_by c.action book
+book_moved (Fills f) live book = option_map_or (λ (maker : LiveOrder). left_with maker (shares_open maker - f.shares) book) (live_numbered live f.maker) book
+book_moved (Rests number) live book = option_map_or (λ (o : LiveOrder). put_to_rest o book) (live_numbered live number) book
+book_moved other live book = book

@@ -1,17 +1,16 @@
 -- Each user's orders are counted after each change.
 use Rattle.std.proofs.Common.{◌≡◌, ℕ, ◌+◌, ◌-◌, ◌≤◌, arith, true, false, not, Bool, cond, List, [], ◌∷◌, ◌++◌, length, refl, ◌∙◌, ap, sym}
-use Rattle.std.specs.Prelude.{Option, Some, None, ◌&&◌, unwrap_or, if◌then◌else◌}
+use Rattle.std.specs.Prelude.{Option, Some, None, unwrap_or, if◌then◌else◌}
 use Rattle.std.specs.List.{filter, find}
 use Rattle.std.specs.Map.{lookup}
-use Rattle.gx_units.specs.Names.{same_account, same_user}
-use Rattle.gx_units.specs.declared.names.AccountName.{AccountName}
+use Rattle.gx_units.specs.Names.{same_user}
 use Rattle.gx_units.specs.declared.names.UserName.{UserName}
 use Rattle.gx_history_laws.proofs.Adding.{user_is}
 use Rattle.gx_history_laws.proofs.Order.{some_same}
 use Rattle.std.proofs.lemmas.Bool.{eqb-true}
 use Rattle.gx_history.specs.declared.live_order.LiveOrder.{LiveOrder}
-use Rattle.gx_orders.specs.LiveOrders.{NumbersRise, changed, has_number, is_of_user, of_account, of_others, without}
-use Rattle.gx_orders.specs.Tables.{counted_of, orders_of, AreCounted, CountsNoMore, CountsOneLess, CountsOneMore}
+use Rattle.gx_orders.specs.LiveOrders.{NumbersRise, changed, has_number, is_of_user, without}
+use Rattle.gx_orders.specs.Tables.{counted_of, orders_of, AreCounted, CountsOneLess, CountsOneMore}
 use Rattle.gx_orders.proofs.Kept.{behind, none_taken}
 
 -- one order more of the user
@@ -98,34 +97,6 @@ none_without n (p ∷ ps) none = at (has_number n p) none (λ later. none_withou
     at true this later = cc
     at false this later = ap (λ (rest : List LiveOrder). p ∷ rest) (later this)
 
--- the orders of other accounts and those of this one make up all
-pub both_parts : (user : UserName) (account : AccountName) (os : List LiveOrder) → orders_of user (of_others account os) + orders_of user (of_account account os) ≡ orders_of user os
-both_parts user account [] = refl
-both_parts user account (o ∷ os) = by (same_account account o.account) (both_parts user account os)
-  where
-    by : (its : Bool) → orders_of user (of_others account os) + orders_of user (of_account account os) ≡ orders_of user os
-        → orders_of user (cond (not its) (o ∷ of_others account os) (of_others account os)) + orders_of user (cond its (o ∷ of_account account os) (of_account account os)) ≡ orders_of user (o ∷ os)
-    by true later = omega (arith, later, orders_first user o os, orders_first user o (of_account account os))
-    by false later = omega (arith, later, orders_first user o os, orders_first user o (of_others account os))
-
--- those before what is left are counted no more
-abbrev pub AreUncounted : (ended left : List LiveOrder) → (before now : List (UserName × ℕ)) → Type 0
-AreUncounted ended left before now = (user : UserName) → counted_of now user - orders_of user left ≡ counted_of before user - orders_of user ended
-
-pub one_uncounted : (ended left rest : List LiveOrder) (o : LiveOrder) (before now new : List (UserName × ℕ)) → left ≡ o ∷ rest
-    → AreUncounted ended left before now → CountsOneLess o.user now new → AreUncounted ended rest before new
-one_uncounted ended left rest o before now new is have less user =
-    by (same_user o.user user) (less user) (ap (orders_of user) is ∙ orders_first user o rest) (have user)
-  where
-    by : (b : Bool) → counted_of new user ≡ counted_of now user - (if b then 1 else 0) → orders_of user left ≡ orders_of user rest + (if b then 1 else 0)
-        → counted_of now user - orders_of user left ≡ counted_of before user - orders_of user ended
-        → counted_of new user - orders_of user rest ≡ counted_of before user - orders_of user ended
-    by true one more h = omega (arith, one, more, h)
-    by false one more h = omega (arith, one, more, h)
-
-pub all_uncounted : (ended left : List LiveOrder) (before now : List (UserName × ℕ)) → left ≡ [] → AreUncounted ended left before now → CountsNoMore ended before now
-all_uncounted ended left before now none have user = omega (arith, have user, ap (λ (os : List LiveOrder). orders_of user os) none)
-
 -- after each call
 pub counted_entered : (o : LiveOrder) (live now : List LiveOrder) (before after : List (UserName × ℕ)) → AreCounted before live → now ≡ live ++ o ∷ [] → CountsOneMore o.user before after → AreCounted after now
 counted_entered o live now before after counted is more user =
@@ -144,11 +115,6 @@ counted_ended n o live now before after rise counted found is less user =
         → orders_of user (without n live) + (if b then 1 else 0) ≡ orders_of user live → counted_of after user ≡ orders_of user (without n live)
     by true one was all = omega (arith, one, was, all)
     by false one was all = omega (arith, one, was, all)
-
-pub counted_of_others : (account : AccountName) (live now : List LiveOrder) (before after : List (UserName × ℕ)) → AreCounted before live → now ≡ of_others account live
-    → CountsNoMore (of_account account live) before after → AreCounted after now
-counted_of_others account live now before after counted is gone user =
-    omega (arith, gone user, counted user, both_parts user account live) ∙ ap (orders_of user) (sym is)
 
 pub counted_same : (live now : List LiveOrder) (before after : List (UserName × ℕ)) → AreCounted before live → now ≡ live → after ≡ before → AreCounted after now
 counted_same live now before after counted is same user = ap (λ (counts : List (UserName × ℕ)). counted_of counts user) same ∙ counted user ∙ ap (orders_of user) (sym is)

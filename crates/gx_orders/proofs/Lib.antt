@@ -3,10 +3,11 @@ pub mod Answering
 pub mod Tying
 pub mod Counted
 pub mod Calls
+pub mod Listing
+pub mod Closing
 pub mod Keeping
 pub mod Staying
 pub mod Tokens
-pub mod Granted
-pub mod Cutting
 pub mod Matching
+pub mod Finding
 pub mod Turned

@@ -6,8 +6,9 @@ use Rattle.std.specs.List.{AllByRecursion}
 use Rattle.std.proofs.lemmas.Bool.{le-ltb, ltb-false, eqb-true, eq-eqb, ne_eqb, lt-ltb}
 use Rattle.gx_history.specs.declared.live_order.LiveOrder.{LiveOrder}
 use Rattle.gx_history.specs.declared.record.Fill.{Fill}
-use Rattle.gx_history.specs.declared.record.Step.TheVariants as steps
-use Rattle.gx_history.specs.declared.record.Verdict.TheVariants as verdicts
+use Rattle.gx_history.specs.declared.record.RecordData.{RecordData}
+use Rattle.gx_policy.specs.declared.policy.PolicyData.{PolicyData}
+use Rattle.gx_history.specs.Verdicts.{IsLegal}
 use Rattle.gx_history.specs.Book.{is_buy}
 use Rattle.gx_history.specs.LiveOrders.{shares_open}
 use Rattle.gx_history.specs.MayMove.{MayFill}
@@ -15,13 +16,12 @@ use Rattle.gx_history.specs.Live.{live}
 use Rattle.gx_history.specs.World.{world}
 use Rattle.gx_history_laws.proofs.Order.{some_same}
 use Rattle.gx_history_laws.proofs.Ends.{live_have_open}
-use Rattle.gx_effects.proofs.Moving.{may_by}
 use Rattle.gx_effects.proofs.NewOrders.{found_is}
 use Rattle.gx_effects.proofs.Resting.{does_not_rest, first_lives}
 use Rattle.gx_effects.proofs.Known.{RestsThere, all_resting}
 use Rattle.gx_effects.proofs.Orderly.{legal_is_orderly}
 use Rattle.gx_orders.specs.LiveOrders.{HasOpen, filled, filled_at, has_number, is_open, open_ones, live_numbered, IsOpen}
-use Rattle.gx_orders.specs.Laws.{CanFill, FillsFit}
+use Rattle.gx_orders.specs.Laws.{CanFill}
 
 -- a fill
 
@@ -103,8 +103,8 @@ found_beside n m shares (p ∷ ps) o other opens found = at (p.number == n) (p.n
 room_of : (shares total done : ℕ) → shares ≤ total - done → done < total → done + shares ≤ total
 room_of shares total done a b = omega arith
 
-pub fills_fit : FillsFit
-fills_fit policy history handed r f legal left fills = fit (may_by policy history (steps.Matching handed) r (verdicts.Filled f) legal left fills)
+pub fills_fit : (policy : PolicyData) (history : List RecordData) (r : RecordData) (f : Fill) → IsLegal policy history → MayFill (world policy history) r f → CanFill (live policy history) f
+fills_fit policy history r f legal may = fit may
   where
     now : List LiveOrder
     now = live policy history

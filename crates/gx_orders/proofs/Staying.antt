@@ -1,30 +1,22 @@
 -- What of the orders that are kept stays after one more record.
-use Rattle.std.proofs.Common.{◌≡◌, ℕ, ◌+◌, ◌<◌, ◌≤◌, Bool, false, List, [], ◌∷◌, ◌++◌, length, ◌∙◌, ap, arith, if◌then◌else◌}
-use Rattle.std.specs.Prelude.{Option, Some, None, option_map, option_to_list}
+use Rattle.std.proofs.Common.{◌≡◌, ℕ, ◌+◌, ◌<◌, ◌≤◌, List, [], ◌∷◌, ◌++◌, length, ◌∙◌, ap, arith}
+use Rattle.std.specs.Prelude.{Option, Some, option_to_list}
 use Rattle.std.specs.List.{AllByRecursion, filter_map}
-use Rattle.std.proofs.lemmas.List.{append-nil}
 use Rattle.gx_policy.specs.declared.policy.PolicyData.{PolicyData}
-use Rattle.gx_history.specs.declared.record.Asked.{Asked}
 use Rattle.gx_history.specs.declared.record.RecordData.{RecordData}
-use Rattle.gx_history.specs.declared.record.Request.{Request}
-use Rattle.gx_history.specs.declared.record.Step.{Step}
-use Rattle.gx_history.specs.declared.record.Verdict.{Verdict}
 use Rattle.gx_history.specs.Executions.{executions}
-use Rattle.gx_history.specs.Orders.{Order, uses_token}
+use Rattle.gx_history.specs.Orders.{Order}
 use Rattle.gx_policy.specs.People.{account_of}
-use Rattle.gx_history.specs.Requests.{asked, new_token}
 use Rattle.gx_history.specs.Verdicts.{IsLegal}
 use Rattle.gx_history_laws.proofs.NextOrders.{orders_none}
 use Rattle.gx_history_laws.proofs.Numbers.{numbers_are_within}
 use Rattle.gx_history_laws.proofs.Owners.{orders_are_their_users}
-use Rattle.gx_effects.proofs.OrderRequests.{Grants}
 use Rattle.gx_effects.proofs.Resting.{of_live}
 use Rattle.gx_history.specs.declared.live_order.LiveOrder.{LiveOrder}
 use Rattle.gx_history.specs.declared.live_order.UserToken.{UserToken}
-use Rattle.gx_history.specs.LiveOrders.{key}
 use Rattle.gx_history.specs.Live.{live, open_now}
 use Rattle.gx_orders.specs.LiveOrders.{OrdersData}
-use Rattle.gx_orders.specs.InForce.{token_asked, token_used_by, used_tokens}
+use Rattle.gx_orders.specs.InForce.{token_used_by, used_tokens}
 use Rattle.gx_orders.specs.Laws.{AccountsAreTheUsers, NoneAtFirst}
 use Rattle.gx_orders.proofs.Keeping.{used_next}
 
@@ -35,22 +27,9 @@ these live used = record { live = live; used = used }
 pub data_is : (a b : OrdersData) → a.live ≡ b.live → a.used ≡ b.used → a ≡ b
 data_is a b e k = ap (λ (live : List LiveOrder). these live a.used) e ∙ ap (λ (used : List UserToken). these b.live used) k
 
--- the token of a granted request
-pub token_granted : (r : RecordData) (a : Asked) (q : Request) → Grants r a q → token_used_by r ≡ option_map (key a.user) (new_token q)
-token_granted r a q g =
-    ap (λ (v : Verdict). if uses_token v then token_asked (asked r.step) else None) g.grants
-    ∙ ap (λ (s : Step). token_asked (asked s)) g.asks
-    ∙ ap (λ (x : Request). option_map (key a.user) (new_token x)) g.is_for
-
 -- the used tokens after a record that uses this one, or none
 pub used_then : (history : List RecordData) (r : RecordData) (found : Option UserToken) → token_used_by r ≡ found → used_tokens (history ++ r ∷ []) ≡ used_tokens history ++ option_to_list found
 used_then history r found is = used_next history r ∙ ap (λ (t : Option UserToken). used_tokens history ++ option_to_list t) is
-
-pub used_stay : (history : List RecordData) (r : RecordData) → token_used_by r ≡ None → used_tokens (history ++ r ∷ []) ≡ used_tokens history
-used_stay history r none = used_then history r None none ∙ append-nil (used_tokens history)
-
-pub no_verdict_uses : (r : RecordData) → uses_token r.verdict ≡ false → token_used_by r ≡ None
-no_verdict_uses r e = ap (λ (b : Bool). if b then token_asked (asked r.step) else None) e
 
 -- their numbers are those of records
 pub live_within : (policy : PolicyData) (history : List RecordData) (number : ℕ) → IsLegal policy history → number ≡ length history + 1

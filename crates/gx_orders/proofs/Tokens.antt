@@ -1,7 +1,6 @@
--- A token that is granted or used up was not used before.
+-- A token that a denial uses was not used before.
 use Rattle.std.proofs.Common.{◌≡◌, ◌+◌, Bool, true, false, cond, List, [], ◌∷◌, ◌++◌, map, length, refl, ◌∙◌, sym, ap, subst, if◌then◌else◌}
-use Rattle.std.specs.Prelude.{Option, Some, None, ◌&&◌, option_map, drop}
-use Rattle.std.specs.Option.{option_map_or}
+use Rattle.std.specs.Prelude.{Option, Some, None, option_map, drop}
 use Rattle.std.specs.List.{find, AllByRecursion}
 use Rattle.gx_units.specs.declared.names.Token.{Token}
 use Rattle.gx_history.specs.declared.facts.Facts.{Facts}
@@ -11,22 +10,21 @@ use Rattle.gx_policy.specs.declared.policy.PolicyData.{PolicyData}
 use Rattle.gx_history.specs.declared.record.Asked.{Asked}
 use Rattle.gx_history.specs.declared.record.RecordData.{RecordData}
 use Rattle.gx_history.specs.declared.record.Request.{Request}
-use Rattle.gx_history.specs.declared.record.Request.TheVariants as requests
 use Rattle.gx_policy.specs.declared.rule_name.RuleName.{RuleName}
 use Rattle.gx_policy.specs.declared.rule_name.RuleName.TheVariants.{L1, L2, L3, G1, G2, G3, I1}
 use Rattle.gx_history.specs.declared.record.Step.TheVariants as steps
 use Rattle.gx_history.specs.declared.record.Verdict.TheVariants as verdicts
-use Rattle.gx_history.specs.Asking.{facts}
 use Rattle.gx_history.specs.Orders.{is_token_used}
-use Rattle.gx_history.specs.Requests.{is_order, new_token}
+use Rattle.gx_history.specs.Requests.{new_token}
 use Rattle.gx_policy.specs.RuleNames.{is_answered_rule, rules_before, rules_behind}
 use Rattle.gx_history.specs.Rules.{Rule, BuiltIn, OfFile, applies, first_forbidding, forbids, name_of, written_order}
 use Rattle.gx_history.specs.Verdicts.{facts_now, moment_of, next, rules_now, verdict, verdict_by}
-use Rattle.gx_history_laws.proofs.Granting.{left_by_request, verdict_left, is_no_bar}
+use Rattle.gx_history_laws.proofs.Granting.{left_by_request, verdict_left}
 use Rattle.gx_history_laws.proofs.Order.{some_same}
 use Rattle.gx_orders.specs.LiveOrders.{is_used}
 use Rattle.gx_orders.specs.InForce.{orders_in_force}
-use Rattle.gx_orders.specs.Laws.{DeniedTokensAreNew}
+use Rattle.gx_effects.proofs.Moving.{token_fact}
+use Rattle.gx_orders.specs.Changes.{denied_token}
 use Rattle.gx_orders.proofs.Keeping.{used_is}
 
 -- the record that the request leaves
@@ -36,31 +34,6 @@ left_now policy history a =
 
 pub is_left : (policy : PolicyData) (history : List RecordData) (a : Asked) → next policy history (steps.Asked a) ≡ Some (left_now policy history a)
 is_left policy history a = left_by_request policy history a
-
-orders_have_tokens : (q : Request) (token : Token) → new_token q ≡ Some token → is_order q ≡ true
-orders_have_tokens (requests.Login m) token h = cc
-orders_have_tokens requests.Logout token h = cc
-orders_have_tokens (requests.Unreadable m) token h = cc
-orders_have_tokens (requests.Enter m) token h = refl
-orders_have_tokens (requests.Replace m) token h = refl
-orders_have_tokens (requests.Cancel m) token h = cc
-orders_have_tokens (requests.Command c) token h = cc
-
--- what the rule on used tokens says
-token_fact : (policy : PolicyData) (history : List RecordData) (a : Asked) (token : Token) → new_token a.request ≡ Some token
-    → forbids I1 (facts_now policy history a) a.request ≡ is_token_used history a.user token
-unfolding facts
-token_fact policy history a token under =
-    ap (λ (b : Bool). b && option_map_or (is_token_used history a.user) (new_token a.request) false) (orders_have_tokens a.request token under)
-    ∙ ap (λ (t : Option Token). option_map_or (is_token_used history a.user) t false) under
-
--- the token of a granted request
-pub granted_is_new : (policy : PolicyData) (history : List RecordData) (a : Asked) (token : Token) → verdict policy history a ≡ verdicts.Granted → new_token a.request ≡ Some token
-    → is_used (orders_in_force policy history).used a.user token ≡ false
-granted_is_new policy history a token grants under =
-    used_is policy history a.user token
-    ∙ sym (token_fact policy history a token under)
-    ∙ is_no_bar policy history a (left_now policy history a) (is_left policy history a) grants I1
 
 found_that : (found : Option RuleName) (name : RuleName) → verdict_by found ≡ verdicts.Denied name → found ≡ Some name
 found_that None name h = cc
@@ -104,7 +77,8 @@ answered_is_new policy history a rule token denied answered under = at (is_token
         cc
 
 -- the token that a denial uses
-pub denied_is_new : DeniedTokensAreNew
+pub denied_is_new : (policy : PolicyData) (history : List RecordData) (a : Asked) (rule : RuleName) (token : Token) → verdict policy history a ≡ verdicts.Denied rule → denied_token rule a.request ≡ Some token
+    → is_used (orders_in_force policy history).used a.user token ≡ false
 denied_is_new policy history a rule token denied uses = at (is_answered_rule rule) refl uses
   where
     at : (b : Bool) → is_answered_rule rule ≡ b → (if b then new_token a.request else None) ≡ Some token → is_used (orders_in_force policy history).used a.user token ≡ false

@@ -4,16 +4,17 @@ use Rattle.gx_units.specs.declared.names.Token.{Token}
 use Rattle.gx_units.specs.declared.names.UserName.{UserName}
 use Rattle.gx_desk.specs.declared.Action.{Action}
 use Rattle.gx_desk.specs.declared.Action.TheVariants as actions
+use Rattle.gx_history.specs.declared.moves.Move.{Move}
+use Rattle.gx_history.specs.declared.moves.Move.TheVariants.{Denies, Adds, Sizes, Replaces, Commands, Fills, Rests, Expires}
 use Rattle.gx_history.specs.declared.record.Asked.{Asked}
 use Rattle.gx_history.specs.declared.record.Request.{Request}
-use Rattle.gx_history.specs.declared.record.Request.TheVariants as requests
 use Rattle.gx_policy.specs.declared.rule_name.RuleName.{RuleName}
 use Rattle.gx_history.specs.Requests.{new_token}
 use Rattle.gx_policy.specs.RuleNames.{is_answered_rule}
 use Rattle.gx_history.specs.declared.live_order.LiveOrder.{LiveOrder}
 use Rattle.gx_history.specs.declared.live_order.UserToken.{UserToken}
 use Rattle.gx_history.specs.LiveOrders.{key, token_of}
-use Rattle.gx_orders.specs.LiveOrders.{OrdersData, is_used}
+use Rattle.gx_orders.specs.LiveOrders.{OrdersData, at_rest, changed, cut_at, filled_at, is_used, of_others, without}
 
 -- the orders with another list of live ones
 abbrev pub with_live : List LiveOrder → OrdersData → OrdersData
@@ -45,10 +46,20 @@ is_lasting (actions.Kill account) = false
 is_lasting actions.CloseDay = false
 is_lasting other = true
 
--- a request whose grant changes no live order and uses no token
-abbrev pub keeps_orders : Request → Bool
-keeps_orders (requests.Login m) = true
-keeps_orders requests.Logout = true
-keeps_orders (requests.Unreadable m) = true
-keeps_orders (requests.Command c) = is_lasting c.action
-keeps_orders other = false
+-- the orders that the action leaves, in their places
+abbrev pub live_left : Action → List LiveOrder → List LiveOrder
+live_left (actions.Kill account) live = of_others account live
+live_left actions.CloseDay live = []
+live_left other live = live
+
+-- the orders that are kept, once a record has done this
+abbrev pub orders_moved : Move → OrdersData → OrdersData
+orders_moved (Denies a rule) d = marked_by a rule d
+orders_moved (Adds new) d = entering new d
+orders_moved (Sizes cut size) d = with_live (cut_at cut.number size d.live) d
+orders_moved (Replaces old new) d = with_live (without old.number (d.live ++ new ∷ [])) (entering new d)
+orders_moved (Commands officer c) d = with_live (live_left c.action d.live) d
+orders_moved (Fills f) d = with_live (filled_at f.maker f.shares (filled_at f.taker f.shares d.live)) d
+orders_moved (Rests number) d = with_live (changed at_rest number d.live) d
+orders_moved (Expires number) d = with_live (without number d.live) d
+orders_moved other d = d

@@ -2,9 +2,8 @@
 
 ghost use Rattle.std.specs.Prelude.{◌≡◌, ◌<◌, ◌^◌, IsOk, OnOk};
 ghost use Rattle.indexmap.specs.IndexMap.{spare};
-ghost use Rattle.gx_orders.specs.Tables.{counted_of, CountsNoMore, CountsOneLess, CountsOneMore};
+ghost use Rattle.gx_orders.specs.Tables.{counted_of, CountsOneLess, CountsOneMore};
 
-use gx_slab::live::LiveOrders;
 use gx_units::{OutOfMemory, UserName};
 use indexmap::IndexMap;
 
@@ -24,8 +23,11 @@ pub(crate) fn count_one_more(
     ensures more { OnOk result (CountsOneMore user counts.old.entries counts.new.entries) }
     ensures sure { 0 < spare counts.old → IsOk result }
 {
-    let count = count_in(counts, user);
-    counts.insert(user, count + 1)?;
+    if let Some(count) = counts.get_mut(&user) {
+        *count += 1;
+        return Ok(());
+    }
+    counts.insert(user, 1)?;
     Ok(())
 }
 
@@ -37,13 +39,4 @@ pub(crate) fn count_one_less(counts: &mut IndexMap<UserName, usize>, user: UserN
         return;
     };
     *count = count.saturating_sub(1);
-}
-
-/// Counts these orders no more. It takes no memory.
-pub(crate) fn count_no_more(counts: &mut IndexMap<UserName, usize>, ended: LiveOrders<'_>)
-    ensures { CountsNoMore ended.entry counts.old.entries counts.new.entries }
-{
-    for order in ended {
-        count_one_less(counts, order.user);
-    }
 }

@@ -2,7 +2,9 @@
 #![tactic(auto)]
 
 mod counts;
+mod ending;
 pub mod laws;
+mod numbers;
 pub mod orders;
 pub mod request_tokens;
 pub mod seed;

@@ -7,7 +7,9 @@ ghost use Rattle.gx_history.specs.Live.{live_under};
 ghost use Rattle.gx_orders.specs.Changes.{IsUnused, marked_by};
 ghost use Rattle.gx_orders.specs.LiveOrders.{AreBelow, AreSound, HasOpen, at_rest, changed, cut_at, filled_at, first_waiting, is_of_user, is_used, of_account, of_others, live_numbered, resized_at, without};
 
-use crate::counts::{count_in, count_no_more, count_one_less, count_one_more};
+use crate::counts::{count_in, count_one_less, count_one_more};
+use crate::ending::end_each;
+use crate::numbers::{Numbers, list_number, numbers_in};
 use crate::request_tokens::denied_token;
 use crate::seed::Seed;
 use gx_history::live_order::{LiveOrder, UserToken};
@@ -29,6 +31,8 @@ pub struct Orders {
     tokens: IndexMap<UserToken, u64, Seed>,
     /// How many live orders each user has; one who never had any has no entry.
     counts: IndexMap<UserName, usize>,
+    /// The numbers of each account's orders; one who never had any has no entry.
+    lists: IndexMap<AccountName, Numbers>,
 }
 
 impl Model for Orders {
@@ -39,7 +43,7 @@ impl Model for Orders {
 
     ghost view = { λ o. shown o.table o.tokens.entries };
 
-    ghost invariant = { λ o. AreHeld o.table o.tokens.entries o.counts.entries };
+    ghost invariant = { λ o. AreHeld o.table o.tokens.entries o.counts.entries o.lists.entries };
 }
 
 impl Orders {
@@ -52,6 +56,7 @@ impl Orders {
             table: Table::new(alloc),
             tokens: IndexMap::with_hasher(alloc, seed),
             counts: IndexMap::new(alloc),
+            lists: IndexMap::new(alloc),
         }
     }
 
@@ -67,7 +72,8 @@ impl Orders {
     pub fn live_of(&self, account: AccountName) -> LiveOrders<'_>
         ensures { result ≡ of_account account self.now.live }
     {
-        self.table.live_of(account)
+        self.table
+            .numbered_of(account, numbers_in(&self.lists, account))
     }
 
     /// Whether the user has used the token, so that he can enter no more orders under it.
@@ -131,6 +137,8 @@ impl Orders {
         let _ = self.table.count();
         self.tokens.reserve(1)?;
         self.counts.reserve(1)?;
+        // A number whose order is not put after all is of none that lives.
+        list_number(&mut self.lists, &order, &self.table)?;
         self.table.push(order)?;
         self.tokens.insert(order.user_token(), order.number)?;
         count_one_more(&mut self.counts, order.user)?;
@@ -227,13 +235,19 @@ impl Orders {
         }
     }
 
-    /// All orders of the account have ended. It looks at each live order in turn, and takes no memory.
+    /// All orders of the account have ended. It looks at no other, and takes no memory.
     pub fn end_account(&mut self, account: AccountName)
         ensures live { self.new.live ≡ of_others account self.old.live }
         ensures used { self.new.used ≡ self.old.used }
     {
-        count_no_more(&mut self.counts, self.table.live_of(account));
-        self.table.end_account(account);
+        if let Some(numbers) = self.lists.swap_remove(&account) {
+            end_each(
+                &mut self.table,
+                &mut self.counts,
+                account,
+                numbers.as_slice(),
+            );
+        }
     }
 
     /// All orders have ended. It takes no memory.
@@ -243,6 +257,7 @@ impl Orders {
     {
         self.table.end_all();
         self.counts.clear();
+        self.lists.clear();
     }
 
     /// Lets it go. Its drop is proved here once, and not in each crate that owns one.

@@ -1,6 +1,7 @@
 -- What a pass over the live orders counts.
 use Rattle.std.proofs.Common.{◌≡◌, ℕ, ◌+◌, arith, Bool, true, false, not, cond, ◌&&◌, List, [], ◌∷◌, ◌++◌, map, length, take, drop, refl, ap, sym, ◌∙◌, append_assoc, sum_by}
-use Rattle.std.specs.Prelude.{fold}
+use Rattle.std.specs.Prelude.{Option, Some, None, fold, unwrap_or}
+use Rattle.std.specs.Map.{lookup}
 use Rattle.std.specs.List.{filter}
 use Rattle.std.proofs.lemmas.List.{append-nil, length-append, length-map}
 use Rattle.std.proofs.lemmas.List.Elements.{filter-append}
@@ -19,9 +20,11 @@ use Rattle.gx_history.specs.LiveOrders.{shares_open}
 use Rattle.gx_overview.specs.declared.accounts.AccountRow.{AccountRow}
 use Rattle.gx_overview.specs.declared.accounts.LiveSums.{LiveSums}
 use Rattle.gx_overview.specs.declared.commands.GrantedCommand.{GrantedCommand}
-use Rattle.gx_overview.specs.Accounts.{account_row, capped, capped_count, first_row, is_of, live_sums, row_with, rows_with, with_order}
+use Rattle.gx_overview.specs.Accounts.{account_row, capped, capped_count, entries_with, is_of, live_sums, no_orders, row_of, sums_in, with_order}
 use Rattle.gx_overview.specs.Commands.{granted_commands}
-use Rattle.gx_overview.proofs.Passing.{each_folded, map_same, map_twice, written_back}
+use Rattle.gx_history_laws.proofs.Names.{account_is}
+use Rattle.gx_overview.proofs.Keeping.{inserted}
+use Rattle.gx_overview.proofs.Passing.{map_same}
 
 -- one more that passes, or does not
 filtered_next : {X : Type 0} (p : X → Bool) (xs : List X) (x : X) → length (filter p (xs ++ x ∷ [])) ≡ length (filter p xs) + cond (p x) 1 0
@@ -92,42 +95,40 @@ module _ (account : AccountName) (before : List LiveOrder) (o : LiveOrder) where
       by false true = λ i. the_sums (no_order n i) (none bought i) (none sold i)
       by false false = λ i. the_sums (no_order n i) (none bought i) (none sold i)
 
--- the row with the live orders counted
-abbrev counted : AccountRow → List LiveOrder → AccountRow
-counted row orders = record { account = row.account; is_killed = row.is_killed; kill = row.kill; lift = row.lift; live = live_sums orders row.account }
+-- one order more
+sums_then : (name : AccountName) (entries : List (AccountName × LiveSums)) (o : LiveOrder)
+    → sums_in (entries_with entries o) name ≡ cond (same_account name o.account) (with_order o (sums_in entries name)) (sums_in entries name)
+sums_then name entries o =
+    ap (λ (found : Option LiveSums). unwrap_or found no_orders) (inserted name o.account (with_order o (sums_in entries o.account)) entries)
+    ∙ by (same_account name o.account) refl
+  where
+    by : (b : Bool) → same_account name o.account ≡ b
+        → unwrap_or (cond b (Some (with_order o (sums_in entries o.account))) (lookup (same_account name) entries)) no_orders
+        ≡ cond b (with_order o (sums_in entries name)) (sums_in entries name)
+    by true at = ap (λ (a : AccountName). with_order o (sums_in entries a)) (sym (account_is name o.account at))
+    by false at = refl
 
-counted_from : (row : AccountRow) (before after : List LiveOrder) → fold (λ (r : AccountRow) (o : LiveOrder). row_with o r) (counted row before) after ≡ counted row (before ++ after)
-counted_from row before [] = ap (counted row) (sym (append-nil before))
-counted_from row before (o ∷ after) =
-    ap (λ (r : AccountRow). fold (λ (r : AccountRow) (o : LiveOrder). row_with o r) r after) (λ i. record { account = row.account; is_killed = row.is_killed; kill = row.kill; lift = row.lift; live = sym (sums_next row.account before o) i })
-    ∙ counted_from row (before ++ o ∷ []) after
-    ∙ ap (counted row) (append_assoc before (o ∷ []) after)
+-- and all that follow
+counted_from : (name : AccountName) (entries : List (AccountName × LiveSums)) (before after : List LiveOrder) → sums_in entries name ≡ live_sums before name
+    → sums_in (fold entries_with entries after) name ≡ live_sums (before ++ after) name
+counted_from name entries before [] is = is ∙ ap (λ (os : List LiveOrder). live_sums os name) (sym (append-nil before))
+counted_from name entries before (o ∷ after) is =
+    counted_from name (entries_with entries o) (before ++ o ∷ []) after
+    (sums_then name entries o
+    ∙ ap (λ (sums : LiveSums). cond (same_account name o.account) (with_order o sums) sums) is
+    ∙ sym (sums_next name before o))
+    ∙ ap (λ (os : List LiveOrder). live_sums os name) (append_assoc before (o ∷ []) after)
 
-none_live : (account : AccountName) → live_sums [] account ≡ record { orders = 0; buys = 0; sells = 0 }
+none_live : (account : AccountName) → no_orders ≡ live_sums [] account
 unfolding open_of_chosen
 none_live account = refl
 
 -- all rows
-pub rows_are : (policy : PolicyData) (records : List RecordData) (commands : List GrantedCommand) → commands ≡ granted_commands records
-    → fold rows_with (map (first_row policy records commands) policy.accounts) (live policy records) ≡ map (account_row policy records) policy.accounts
-rows_are policy records commands are =
-    each_folded row_with (live policy records) (map (first_row policy records commands) policy.accounts)
-    ∙ map_twice (first_row policy records commands) (λ (row : AccountRow). fold (λ (r : AccountRow) (o : LiveOrder). row_with o r) row (live policy records)) policy.accounts
-    ∙ map_same (λ (a : Account). fold (λ (r : AccountRow) (o : LiveOrder). row_with o r) (first_row policy records commands a) (live policy records)) (account_row policy records) each policy.accounts
+pub rows_stand : (policy : PolicyData) (records : List RecordData) (commands : List GrantedCommand) → commands ≡ granted_commands records
+    → map (row_of policy records commands (fold entries_with [] (live policy records))) policy.accounts ≡ map (account_row policy records) policy.accounts
+rows_stand policy records commands are = map_same (row_of policy records commands (fold entries_with [] (live policy records))) (account_row policy records) each policy.accounts
   where
-    each : (a : Account) → fold (λ (r : AccountRow) (o : LiveOrder). row_with o r) (first_row policy records commands a) (live policy records) ≡ account_row policy records a
+    each : (a : Account) → row_of policy records commands (fold entries_with [] (live policy records)) a ≡ account_row policy records a
     each a =
-        ap (λ (r : AccountRow). fold (λ (r : AccountRow) (o : LiveOrder). row_with o r) r (live policy records)) (λ i. record (first_row policy records commands a) { live = sym (none_live a.name) i })
-        ∙ counted_from (first_row policy records commands a) [] (live policy records)
-        ∙ ap (λ (cs : List GrantedCommand). counted (first_row policy records cs a) (live policy records)) are
-
--- as they are written over those before any order is counted
-pub rows_stand : (policy : PolicyData) (records : List RecordData) (commands : List GrantedCommand) (items lent new : List AccountRow) (n : ℕ) → commands ≡ granted_commands records
-    → items ≡ map (first_row policy records commands) policy.accounts → lent ≡ items → new ≡ fold rows_with lent (live policy records) → n ≡ length items
-    → take n (new ++ drop (length new) items) ≡ map (account_row policy records) policy.accounts
-rows_stand policy records commands items lent new n are first is counted whole =
-    let done : new ≡ map (account_row policy records) policy.accounts =
-    counted ∙ ap (λ (rows : List AccountRow). fold rows_with rows (live policy records)) (is ∙ first) ∙ rows_are policy records commands are in
-    let many : length new ≡ length items =
-    ap length done ∙ length-map policy.accounts (account_row policy records) ∙ sym (length-map policy.accounts (first_row policy records commands)) ∙ ap length (sym first) in
-    written_back new items n many whole ∙ done
+        (λ i. record (row_of policy records commands (fold entries_with [] (live policy records)) a) { live = counted_from a.name [] [] (live policy records) (none_live a.name) i })
+        ∙ (λ i. record (row_of policy records (are i) [] a) { live = live_sums (live policy records) a.name })

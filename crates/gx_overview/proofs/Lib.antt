@@ -1,4 +1,6 @@
 pub mod Passing
+pub mod Keeping
 pub mod Counting
 pub mod Knowing
 pub mod Executing
+pub mod Naming

@@ -1,6 +1,8 @@
 -- What stands of each account.
-use Rattle.std.specs.Prelude.{ℕ, ◌+◌, ◌-◌, ◌^◌, Bool, true, false, ◌&&◌, min, List, Option, Some, None, nat_lt, length, map, if◌then◌else◌}
+use Rattle.std.specs.Prelude.{ℕ, ◌+◌, ◌-◌, ◌^◌, Bool, true, false, ◌&&◌, min, List, Option, Some, None, nat_lt, length, unwrap_or, if◌then◌else◌}
 use Rattle.std.specs.List.{filter}
+use Rattle.std.specs.Map.{lookup}
+use Rattle.indexmap.specs.IndexMap.{insert_entry}
 use Rattle.gx_units.specs.Names.{same_account}
 use Rattle.gx_units.specs.declared.names.AccountName.{AccountName}
 use Rattle.gx_ouch.specs.declared.outbound.OrderTerms.{OrderTerms}
@@ -58,15 +60,9 @@ account_row policy records a = record {
   live = live_sums (live policy records) a.name;
 }
 
--- the same before any live order is counted
-abbrev pub first_row : PolicyData → List RecordData → List GrantedCommand → Account → AccountRow
-first_row policy records commands a = record {
-  account = a.name;
-  is_killed = is_killed policy records a.name;
-  kill = kill_of (is_killed policy records a.name) commands a.name;
-  lift = lift_since (kill_of (is_killed policy records a.name) commands a.name) (last_of commands (subjects.LiftOf a.name));
-  live = record { orders = 0; buys = 0; sells = 0 };
-}
+-- before any live order
+abbrev pub no_orders : LiveSums
+no_orders = record { orders = 0; buys = 0; sells = 0 }
 
 -- with one more live order
 abbrev pub with_order : LiveOrder → LiveSums → LiveSums
@@ -76,16 +72,20 @@ with_order o sums = record {
   sells = if is_buy o.terms.side then sums.sells else capped (sums.sells + shares_open o);
 }
 
--- the row, once the order is counted, if it is one of its account
-abbrev pub row_with : LiveOrder → AccountRow → AccountRow
-row_with o row = record {
-  account = row.account;
-  is_killed = row.is_killed;
-  kill = row.kill;
-  lift = row.lift;
-  live = if same_account row.account o.account then with_order o row.live else row.live;
-}
+-- the sums of the account, none where nothing of it was counted
+abbrev pub sums_in : List (AccountName × LiveSums) → AccountName → LiveSums
+sums_in entries account = unwrap_or (lookup (same_account account) entries) no_orders
 
--- the rows, once the order is counted
-abbrev pub rows_with : List AccountRow → LiveOrder → List AccountRow
-rows_with rows o = map (row_with o) rows
+-- the sums by their accounts, once the order is counted
+abbrev pub entries_with : List (AccountName × LiveSums) → LiveOrder → List (AccountName × LiveSums)
+entries_with entries o = insert_entry same_account entries o.account (with_order o (sums_in entries o.account))
+
+-- what stands of the account, by the commands and the sums of its live orders
+abbrev pub row_of : PolicyData → List RecordData → List GrantedCommand → List (AccountName × LiveSums) → Account → AccountRow
+row_of policy records commands entries a = record {
+  account = a.name;
+  is_killed = is_killed policy records a.name;
+  kill = kill_of (is_killed policy records a.name) commands a.name;
+  lift = lift_since (kill_of (is_killed policy records a.name) commands a.name) (last_of commands (subjects.LiftOf a.name));
+  live = sums_in entries a.name;
+}

@@ -1,7 +1,7 @@
 //! What stands of each account: whether it is killed, and by which command; its live orders.
 
-ghost use Rattle.std.specs.Prelude.{◌≡◌, fold, map, IfOk};
-ghost use Rattle.gx_overview.specs.Accounts.{account_row, first_row, kill_of, lift_since, row_with, rows_with, with_order};
+ghost use Rattle.std.specs.Prelude.{◌≡◌, fold, map, IfOk, OnOk};
+ghost use Rattle.gx_overview.specs.Accounts.{account_row, entries_with, kill_of, lift_since, row_of, sums_in, with_order};
 ghost use Rattle.gx_overview.specs.Commands.{granted_commands};
 
 use crate::commands::{GrantedCommand, Subject, last_about};
@@ -10,6 +10,7 @@ use gx_policy::Account;
 use gx_records::ShowsState;
 use gx_slab::live::LiveOrders;
 use gx_units::{AccountName, OutOfMemory};
+use indexmap::IndexMap;
 use std::alloc::Global;
 
 /// The live orders of an account.
@@ -65,31 +66,40 @@ impl LiveSums {
     }
 }
 
-impl AccountRow {
-    fn note(&mut self, order: &LiveOrder)
-        ensures { self.new ≡ row_with order.now self.old }
-    {
-        if order.is_of_account(self.account) {
-            self.live = self.live.with_order(order);
-        }
-    }
-}
-
-fn note_order(rows: &mut [AccountRow], order: &LiveOrder)
-    ensures { rows.new ≡ rows_with rows.old order.now }
+/// The sums of the account, none where nothing of it was counted.
+fn sums_in(table: &IndexMap<AccountName, LiveSums>, account: AccountName) -> LiveSums
+    ensures { result ≡ sums_in table.now.entries account }
 {
-    for row in rows.iter_mut() {
-        row.note(order);
+    match table.get(&account) {
+        Some(sums) => *sums,
+        None => NO_ORDERS,
     }
 }
 
-/// Counts these live orders, each in the row of its account.
-fn note_live(rows: &mut [AccountRow], live: LiveOrders<'_>)
-    ensures { rows.new ≡ fold rows_with rows.old live.entry }
+fn note_order(
+    table: &mut IndexMap<AccountName, LiveSums>,
+    order: &LiveOrder,
+) -> Result<(), OutOfMemory>
+    ensures noted { OnOk result
+        (table.new.entries ≡ entries_with table.old.entries order.now) }
+{
+    let sums = sums_in(table, order.account).with_order(order);
+    table.insert(order.account, sums)?;
+    Ok(())
+}
+
+/// Counts these live orders, each in the sums of its account.
+fn note_live(
+    table: &mut IndexMap<AccountName, LiveSums>,
+    live: LiveOrders<'_>,
+) -> Result<(), OutOfMemory>
+    ensures noted { OnOk result
+        (table.new.entries ≡ fold entries_with table.old.entries live.entry) }
 {
     for order in live {
-        note_order(rows, order);
+        note_order(table, order)?;
     }
+    Ok(())
 }
 
 fn kill_of(
@@ -120,10 +130,15 @@ fn lift_since(kill: Option<GrantedCommand>, lift: Option<GrantedCommand>) -> Opt
     }
 }
 
-/// The row of the account before any live order is counted.
-fn first_row<G: ShowsState>(gate: &G, commands: &[GrantedCommand], account: &Account) -> AccountRow
-    ensures { result ≡ first_row (G.seen gate.now).policy (G.seen gate.now).records
-        commands.now account.now }
+/// The row of the account, by the commands and the sums of its live orders.
+fn row_of<G: ShowsState>(
+    gate: &G,
+    commands: &[GrantedCommand],
+    table: &IndexMap<AccountName, LiveSums>,
+    account: &Account,
+) -> AccountRow
+    ensures { result ≡ row_of (G.seen gate.now).policy (G.seen gate.now).records
+        commands.now table.now.entries account.now }
 {
     let name = account.name;
     let is_killed = gate.is_killed(name);
@@ -133,28 +148,30 @@ fn first_row<G: ShowsState>(gate: &G, commands: &[GrantedCommand], account: &Acc
         is_killed,
         kill,
         lift: lift_since(kill, last_about(commands, Subject::LiftOf(name))),
-        live: NO_ORDERS,
+        live: sums_in(table, name),
     }
 }
 
-fn first_rows<G: ShowsState>(
+fn rows_of<G: ShowsState>(
     alloc: Global,
     gate: &G,
     commands: &[GrantedCommand],
+    table: &IndexMap<AccountName, LiveSums>,
     accounts: &[Account],
 ) -> Result<Vec<AccountRow>, OutOfMemory>
     ensures { IfOk result (λ rows. rows.items ≡ map
-        (first_row (G.seen gate.now).policy (G.seen gate.now).records commands.now)
+        (row_of (G.seen gate.now).policy (G.seen gate.now).records commands.now table.now.entries)
         accounts.now) }
 {
     let mut rows = Vec::new(alloc);
     for account in accounts {
-        rows.push(first_row(gate, commands, account))?;
+        rows.push(row_of(gate, commands, table, account))?;
     }
     Ok(rows)
 }
 
-/// What stands of each account of the policy, in the file's order. The commands are all that were granted in the day
+/// What stands of each account of the policy, in the file's order. A live order costs the same however many accounts there
+/// are. The commands are all that were granted in the day
 /// ([`crate::commands::granted_commands`] of its records).
 ///
 /// # Errors
@@ -170,7 +187,8 @@ pub fn account_rows<G: ShowsState>(
         (account_row (G.seen gate.now).policy (G.seen gate.now).records)
         (G.seen gate.now).policy.accounts) }
 {
-    let mut rows = first_rows(alloc, gate, commands, gate.policy().accounts())?;
-    note_live(&mut rows, gate.live_orders());
+    let mut table = IndexMap::new(alloc);
+    note_live(&mut table, gate.live_orders())?;
+    let rows = rows_of(alloc, gate, commands, &table, gate.policy().accounts())?;
     Ok(rows)
 }

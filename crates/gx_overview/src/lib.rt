@@ -9,3 +9,4 @@ pub mod day;
 pub mod executed;
 pub mod owners;
 pub mod rules;
+pub mod traders;

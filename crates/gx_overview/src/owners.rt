@@ -1,18 +1,19 @@
 //! Whose orders there were: by number, and by token.
 
-ghost use Rattle.std.specs.Prelude.{◌≡◌, [], nat_eq, option_copied, OnOk};
+ghost use Rattle.std.specs.Prelude.{◌≡◌, [], nat_eq, OnOk};
 ghost use Rattle.std.specs.Map.{lookup};
 ghost use Rattle.gx_history.specs.Orders.{orders_made};
-ghost use Rattle.gx_policy.specs.People.{account_of, account_of_role, user_in};
 ghost use Rattle.gx_history.specs.declared.record.Request.TheVariants as requests;
 ghost use Rattle.gx_policy.specs.declared.policy.PolicyData.{PolicyData};
 ghost use Rattle.gx_overview.specs.Executed.{is_key, KnowOrders};
 ghost use Rattle.gx_overview.specs.Owning.{IsNumbered, IsOneMore, Learn};
+ghost use Rattle.gx_overview.specs.Traders.{KnowTraders};
 
+use crate::traders::Traders;
 use gx_history::live_order::UserToken;
 use gx_history::record::{Asked, RecordData, Request};
 use gx_ouch::{EnterOrder, ReplaceOrder};
-use gx_policy::{Policy, Role, User};
+use gx_policy::Policy;
 use gx_units::{AccountName, OutOfMemory, Symbol, Token, UserName};
 use indexmap::IndexMap;
 use std::alloc::Global;
@@ -31,32 +32,6 @@ pub struct Owner {
 pub struct Owners {
     pub by_number: IndexMap<u64, Owner>,
     pub by_token: IndexMap<UserToken, Owner>,
-}
-
-/// The account that a user of this role trades for.
-fn account_of_role(role: &Role) -> Option<AccountName>
-    ensures { result ≡ account_of_role role.now }
-{
-    match role {
-        Role::Trader(account) => Some(*account),
-        Role::Officer(_, _) | Role::Reader(_) => None,
-    }
-}
-
-fn find_user(users: &[User], name: UserName) -> Option<&User>
-    ensures { option_copied result ≡ user_in users.now name }
-{
-    users.iter().find(|user| user.name == name)
-}
-
-/// The account that the user trades for, if he is known and trades.
-pub fn account_of(policy: &Policy, user: UserName) -> Option<AccountName>
-    ensures { result ≡ account_of policy.now user }
-{
-    match find_user(policy.users(), user) {
-        Some(found) => account_of_role(&found.role),
-        None => None,
-    }
 }
 
 /// Notes the owner under the number, unless one is there.
@@ -112,14 +87,16 @@ impl Owners {
     fn note_entered(
         &mut self,
         policy: &Policy,
+        traders: &Traders,
         shown: &RecordData,
         user: UserName,
         m: &EnterOrder,
     ) -> Result<(), OutOfMemory>
+        requires traders { KnowTraders policy.now traders.now }
         ensures noted { OnOk result (Learn self.old self.new (λ known.
             orders_made policy.now known shown.now user (requests.Enter m.now))) }
     {
-        let Some(account) = account_of(policy, user) else {
+        let Some(account) = traders.account_of(policy, user) else {
             return Ok(());
         };
         let token = m.token;
@@ -148,7 +125,7 @@ impl Owners {
         self.take_in(shown.number, UserToken { user, token }, owner)
     }
 
-    /// Notes the order that a granted request makes, if it makes one.
+    /// Notes the order that a granted request makes, if it makes one; whose it is, the policy's traders tell.
     ///
     /// # Errors
     ///
@@ -156,14 +133,16 @@ impl Owners {
     pub fn note(
         &mut self,
         policy: &Policy,
+        traders: &Traders,
         shown: &RecordData,
         asked: &Asked,
     ) -> Result<(), OutOfMemory>
+        requires traders { KnowTraders policy.now traders.now }
         ensures noted { OnOk result (Learn self.old self.new (λ known.
             orders_made policy.now known shown.now asked.now.user asked.now.request)) }
     {
         match &asked.request {
-            Request::Enter(m) => self.note_entered(policy, shown, asked.user, m),
+            Request::Enter(m) => self.note_entered(policy, traders, shown, asked.user, m),
             Request::Replace(m) => self.note_replacing(shown, asked.user, m),
             _ => Ok(()),
         }

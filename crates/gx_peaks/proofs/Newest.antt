@@ -24,7 +24,8 @@ use Rattle.gx_history.specs.Orders.{Order}
 use Rattle.gx_history.specs.Turns as turns
 use Rattle.gx_history.specs.Turns.{Turn, becomes, new_in, new_order, turned}
 use Rattle.gx_history.specs.Verdicts.{Follows, IsLegal}
-use Rattle.gx_history.specs.World.{World, Adds, Nothing, Replaces, Sizes, move_asked, turn_by, turn_in, world}
+use Rattle.gx_history.specs.declared.moves.Move.TheVariants.{Adds, Nothing, Replaces, Sizes}
+use Rattle.gx_history.specs.World.{World, move_asked, turn_by, turn_in, world}
 use Rattle.gx_history_laws.proofs.Owners.{IsHisAccounts, orders_are_their_users}
 use Rattle.gx_effects.proofs.Accounts.{accounts_are_known}
 use Rattle.gx_effects.proofs.NewOrders.{found_is}

@@ -43,7 +43,9 @@ use Rattle.gx_history.specs.Requests.{is_judged}
 use Rattle.gx_history.specs.Streams.{answer, canceled_of, day_end, ended_of, lift_code, rejected, replaced_of, reported, reports_of, reports_of_denial, stream, to_user}
 use Rattle.gx_history.specs.Turns as turns
 use Rattle.gx_history.specs.Turns.{new_order}
-use Rattle.gx_history.specs.World.{Move, World, Nothing, Denies, Adds, Sizes, Replaces, accepted_of, commanded, move_asked, move_by, moved, world}
+use Rattle.gx_history.specs.declared.moves.Move.{Move}
+use Rattle.gx_history.specs.declared.moves.Move.TheVariants.{Nothing, Denies, Adds, Sizes, Replaces}
+use Rattle.gx_history.specs.World.{World, accepted_of, commanded, move_asked, move_by, moved, world}
 use Rattle.gx_history_laws.proofs.Adding.{user_is_itself}
 use Rattle.gx_history_laws.proofs.Runs.{step_left}
 use Rattle.gx_effects.proofs.ByKind.{denials_tell_who_asked, granted_world, kills_leave_the_others, logouts_put_off}

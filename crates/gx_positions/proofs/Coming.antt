@@ -32,7 +32,9 @@ use Rattle.gx_history.specs.Orders.{Order, entered, order_numbered, orders, orde
 use Rattle.gx_history.specs.Requests.{is_judged}
 use Rattle.gx_history.specs.Turns.{new_order}
 use Rattle.gx_history.specs.Verdicts.{IsLegal, next}
-use Rattle.gx_history.specs.World.{Move, Adds, Expires, Fills, Nothing, Replaces, Sizes, move_asked, move_by, turn_by, turn_in, world}
+use Rattle.gx_history.specs.declared.moves.Move.{Move}
+use Rattle.gx_history.specs.declared.moves.Move.TheVariants.{Adds, Expires, Fills, Nothing, Replaces, Sizes}
+use Rattle.gx_history.specs.World.{move_asked, move_by, turn_by, turn_in, world}
 use Rattle.gx_history_laws.proofs.Entering.{entered_has_shares}
 use Rattle.gx_history_laws.proofs.Granting.{asked_is_judged}
 use Rattle.gx_history_laws.proofs.Judging.{both}

@@ -20,7 +20,8 @@ use Rattle.gx_history.specs.Live.{live, live_under, open_now}
 use Rattle.gx_history.specs.LiveOrders.{replacement_order}
 use Rattle.gx_history.specs.Orders.{Order, orders}
 use Rattle.gx_history.specs.Turns.{new_order}
-use Rattle.gx_history.specs.World.{World, Adds, Nothing, Replaces, Sizes, move_asked, turn_by, turn_in, world}
+use Rattle.gx_history.specs.declared.moves.Move.TheVariants.{Adds, Nothing, Replaces, Sizes}
+use Rattle.gx_history.specs.World.{World, move_asked, turn_by, turn_in, world}
 use Rattle.gx_history_laws.proofs.NextOrders.{executions_next, executions_none, orders_next, orders_none}
 use Rattle.gx_effects.proofs.Live.{live_next}
 use Rattle.gx_positions.specs.Changing.{executed_by}

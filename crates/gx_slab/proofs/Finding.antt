@@ -1,11 +1,13 @@
 -- An order is found by its number among those that are live.
-use Rattle.std.proofs.Common.{◌≡◌, ◌≤◌, ℕ, zero, suc, ◌+◌, Bool, true, false, not, cond, List, [], ◌∷◌, length, refl, ◌∙◌, sym, ap, arith}
+use Rattle.std.proofs.Common.{◌≡◌, ◌≤◌, ℕ, zero, suc, ◌+◌, Bool, true, false, not, cond, List, [], ◌∷◌, length, refl, ◌∙◌, sym, ap, arith, if◌then◌else◌}
 use Rattle.std.specs.Prelude.{Option, Some, None, ◌&&◌, nat_lt, slice_get}
 use Rattle.std.specs.List.{find, position, position_or_len}
 use Rattle.std.proofs.lemmas.Bool.{eqb-true, lt-ltb, le-ltb, ltb-false}
 use Rattle.std.proofs.lemmas.Option.{slice_get_within, slice_get_past}
+use Rattle.gx_units.specs.Names.{same_account}
+use Rattle.gx_units.specs.declared.names.AccountName.{AccountName}
 use Rattle.gx_history.specs.declared.live_order.LiveOrder.{LiveOrder}
-use Rattle.gx_slab.specs.Slabs.{IsPlaced, has_number, is_open, open_ones, live_numbered, stands_for}
+use Rattle.gx_slab.specs.Slabs.{IsPlaced, has_number, is_open, open_ones, live_numbered, order_of, stands_for}
 
 pub some_is : {X : Type 0} {x y : X} → Some x ≡ Some y → x ≡ y
 some_is {X} {x} h = ap (λ (o : Option X). elim o [ None ↦ x | Some z ↦ z ]) h
@@ -116,3 +118,48 @@ other_row places rows n i o placed here it differs =
 
 pub this_row : (places : List ℕ) (rows : List LiveOrder) (n i : ℕ) (o : LiveOrder) → IsPlaced places rows → slice_get rows i ≡ Some o → stands_for n o ≡ true → Some i ≡ position (stands_for n) rows
 this_row places rows n i o placed it is = sym (placed_at places rows n i o placed it is)
+
+-- ---- of an account
+
+-- the order, where it is one of the account
+abbrev pub kept_of : AccountName → Option LiveOrder → Option LiveOrder
+kept_of account found = elim found [ None ↦ None | Some o ↦ if same_account account o.account then Some o else None ]
+
+none_of : (account : AccountName) (rows : List LiveOrder) (n : ℕ) → ((k : ℕ) (p : LiveOrder) → slice_get rows k ≡ Some p → stands_for n p ≡ true → ⊥) → order_of account (open_ones rows) n ≡ None
+none_of account [] n never = refl
+none_of account (x ∷ rows) n never = by (is_open x) refl (none_of account rows n (λ k p at is. never (suc k) p at is))
+  where
+    by : (b : Bool) → is_open x ≡ b → order_of account (open_ones rows) n ≡ None → order_of account (cond b (x ∷ open_ones rows) (open_ones rows)) n ≡ None
+    by true e later =
+        ap (λ (b : Bool). cond (b && same_account account x.account) (Some x) (order_of account (open_ones rows) n))
+        (not_true (has_number n x) (λ h. never 0 x refl (ap (λ (b : Bool). b && has_number n x) e ∙ h)))
+        ∙ later
+    by false e later = later
+
+-- the live order of a number that is one of the account: where no two rows live under one number
+order_kept : (account : AccountName) (rows : List LiveOrder) (n : ℕ)
+    → ((i k : ℕ) (o p : LiveOrder) → slice_get rows i ≡ Some o → stands_for n o ≡ true → slice_get rows k ≡ Some p → stands_for n p ≡ true → k ≡ i)
+    → order_of account (open_ones rows) n ≡ kept_of account (live_numbered (open_ones rows) n)
+order_kept account [] n apart = refl
+order_kept account (x ∷ rows) n apart =
+    by (is_open x) refl (order_kept account rows n (λ i k o p at is e h. omega (arith, apart (suc i) (suc k) o p at is e h)))
+  where
+    it : has_number n x ≡ true → is_open x ≡ true → (same : Bool) → cond same (Some x) (order_of account (open_ones rows) n) ≡ (if same then Some x else None)
+    it is lives true = refl
+    it is lives false = none_of account rows n (λ k p at h. omega (arith, apart 0 (suc k) x p refl (ap (λ (b : Bool). b && has_number n x) lives ∙ is) at h))
+
+    numbered : (b : Bool) → has_number n x ≡ b → is_open x ≡ true → order_of account (open_ones rows) n ≡ kept_of account (live_numbered (open_ones rows) n)
+        → cond (b && same_account account x.account) (Some x) (order_of account (open_ones rows) n) ≡ kept_of account (cond b (Some x) (live_numbered (open_ones rows) n))
+    numbered true is lives later = it is lives (same_account account x.account)
+    numbered false is lives later = later
+
+    by : (b : Bool) → is_open x ≡ b → order_of account (open_ones rows) n ≡ kept_of account (live_numbered (open_ones rows) n)
+        → order_of account (cond b (x ∷ open_ones rows) (open_ones rows)) n ≡ kept_of account (live_numbered (cond b (x ∷ open_ones rows) (open_ones rows)) n)
+    by true e later = numbered (has_number n x) refl e later
+    by false e later = later
+
+-- as it is found by its place
+pub order_found : (account : AccountName) (places : List ℕ) (rows : List LiveOrder) (n : ℕ) (found : Option LiveOrder) → IsPlaced places rows → live_numbered (open_ones rows) n ≡ found
+    → kept_of account found ≡ order_of account (open_ones rows) n
+order_found account places rows n found placed is =
+    sym (order_kept account rows n (λ i k o p at stands e h. alone places rows n i o placed at stands k p e h) ∙ ap (kept_of account) is)

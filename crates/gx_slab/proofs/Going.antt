@@ -1,15 +1,13 @@
 -- The rows that pass a test, one by one.
 use Rattle.std.proofs.Common.{◌≡◌, ◌<◌, ◌≤◌, ◌-◌, take, ltb, ℕ, zero, suc, ◌+◌, Bool, true, false, cond, List, [], ◌∷◌, length, refl, ◌∙◌, sym, ap, drop, get_or, position, add-one, arith}
-use Rattle.std.specs.Prelude.{Some, None, ◌&&◌}
-use Rattle.std.specs.List.{filter, position_or_len}
+use Rattle.std.specs.Prelude.{Option, Some, None}
+use Rattle.std.specs.List.{cons_option, filter, filter_map, position_or_len}
+use Rattle.std.proofs.Math.ListN.{drop_of_length-le}
 use Rattle.std.proofs.lemmas.Bool.{ltb-false}
 use Rattle.std.proofs.lemmas.List.Sums.{fails_before_first}
 use Rattle.std.proofs.lemmas.List.Quantifiers.{position-Some}
 use Rattle.std.proofs.lemmas.Grind.{common_steps}
-use Rattle.gx_units.specs.Names.{same_account}
-use Rattle.gx_units.specs.declared.names.AccountName.{AccountName}
-use Rattle.gx_history.specs.declared.live_order.LiveOrder.{LiveOrder}
-use Rattle.gx_slab.specs.Slabs.{is_open, of_account, open_of, open_ones}
+use Rattle.std.proofs.lemmas.List.{drop_more}
 
 -- where the first row that passes stands at i, those before it are not shown
 passed : {X : Type 0} (p : X → Bool) (rows : List X) (i : ℕ) (d : X) → i < length rows → p (get_or rows i d) ≡ true → ((k : ℕ) → k < i → p (get_or rows k d) ≡ false)
@@ -50,12 +48,25 @@ whole_rest rows n = grind (arith, common_steps)
 pub skipped_to : {X : Type 0} (p : X → Bool) (rows : List X) (i : ℕ) (d : X) → position p rows ≡ Some i → filter p rows ≡ get_or rows i d ∷ filter p (take (length rows - (i + 1)) (drop (i + 1) rows))
 skipped_to {X} p rows i d at = skipped p rows i d at ∙ ap (λ (behind : List X). get_or rows i d ∷ filter p behind) (sym (whole_rest rows (i + 1)))
 
--- the live orders of an account are those of the live ones
-pub of_account_are : (account : AccountName) (rows : List LiveOrder) → open_of (Some account) rows ≡ of_account account (open_ones rows)
-of_account_are account [] = refl
-of_account_are account (x ∷ rows) = by (is_open x) (of_account_are account rows)
-  where
-    by : (lives : Bool) → open_of (Some account) rows ≡ of_account account (open_ones rows)
-        → cond (lives && same_account account x.account) (x ∷ open_of (Some account) rows) (open_of (Some account) rows) ≡ of_account account (cond lives (x ∷ open_ones rows) (open_ones rows))
-    by true later = ap (λ (others : List LiveOrder). cond (same_account account x.account) (x ∷ others) others) later
-    by false later = later
+-- ---- by number
+
+-- one number more: what it gives, and what those behind it give
+one_more : {X Y : Type 0} (h : X → Option Y) (xs : List X) (i : ℕ) (d : X) (found : Option Y) → i < length xs → h (get_or xs i d) ≡ found
+    → filter_map h (drop i xs) ≡ cons_option found (filter_map h (drop (i + 1) xs))
+one_more h xs i d found within gives =
+    ap (filter_map h) (drop_more xs i d within) ∙ ap (λ o. cons_option o (filter_map h (drop (i + 1) xs))) gives
+
+-- where the number gives none, those behind it give all
+pub passed_over : {X Y : Type 0} (h : X → Option Y) (xs : List X) (i : ℕ) (d : X) → i < length xs → filter_map h (drop i xs) ≡ filter_map h xs → h (get_or xs i d) ≡ None
+    → filter_map h (drop (i + 1) xs) ≡ filter_map h xs
+passed_over h xs i d within before none = sym (one_more h xs i d None within none) ∙ before
+
+-- where it gives one, that comes first
+pub comes_first : {X Y : Type 0} (h : X → Option Y) (xs : List X) (i : ℕ) (d : X) (y : Y) → i < length xs → filter_map h (drop i xs) ≡ filter_map h xs → h (get_or xs i d) ≡ Some y
+    → filter_map h xs ≡ y ∷ filter_map h (take (length xs - (i + 1)) (drop (i + 1) xs))
+comes_first h xs i d y within before gives =
+    sym before ∙ one_more h xs i d (Some y) within gives ∙ ap (λ behind. y ∷ filter_map h behind) (sym (whole_rest xs (i + 1)))
+
+-- behind the last nothing is left
+pub none_left : {X Y : Type 0} (h : X → Option Y) (xs : List X) (i : ℕ) → length xs ≤ i → filter_map h (drop i xs) ≡ filter_map h xs → filter_map h xs ≡ []
+none_left h xs i past before = sym before ∙ ap (filter_map h) (drop_of_length-le xs past)

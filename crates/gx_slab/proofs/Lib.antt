@@ -3,5 +3,4 @@ pub mod Going
 pub mod Waiting
 pub mod Putting
 pub mod Writing
-pub mod Shutting
 pub mod Sweeping

@@ -1,12 +1,10 @@
 -- Where the first order that waits stands.
-use Rattle.std.proofs.Common.{◌≡◌, ◌<◌, ◌≤◌, ℕ, zero, suc, ◌+◌, Bool, true, false, not, cond, List, [], ◌∷◌, ◌++◌, map, length, get_or, set, refl, sym, ap, arith, if◌then◌else◌}
+use Rattle.std.proofs.Common.{◌≡◌, ◌<◌, ◌≤◌, ℕ, zero, suc, ◌+◌, Bool, true, false, not, cond, List, [], ◌∷◌, ◌++◌, length, get_or, set, refl, sym, ap, arith, if◌then◌else◌}
 use Rattle.std.specs.Prelude.{min, ◌&&◌}
 use Rattle.std.specs.List.{position_or_len}
 use Rattle.std.proofs.lemmas.List.Sums.{prefix_len-le-length}
-use Rattle.gx_units.specs.declared.names.AccountName.{AccountName}
-use Rattle.gx_units.specs.Names.{same_account}
 use Rattle.gx_history.specs.declared.live_order.LiveOrder.{LiveOrder}
-use Rattle.gx_slab.specs.Slabs.{first_place, is_open, is_waiting, shut, shut_of}
+use Rattle.gx_slab.specs.Slabs.{first_place, is_open, is_waiting}
 
 -- what passes at a place that is not behind the first that passes is the first
 pub is_first : {X : Type 0} (p : X → Bool) (xs : List X) (i : ℕ) (d : X) → i < length xs → i ≤ position_or_len p xs → p (get_or xs i d) ≡ true → position_or_len p xs ≡ i
@@ -82,22 +80,3 @@ first_written rows i o = by o.waits refl
     by : (b : Bool) → o.waits ≡ b → (if b then min i (first_place rows) else first_place rows) ≤ first_place (set rows i o)
     by true e = written_behind is_waiting rows i (min i (first_place rows)) o (omega arith) (omega arith)
     by false e = written_past is_waiting rows i o (waits_not (is_open o) o.waits e)
-
--- orders that are shut
-pub first_shut : (account : AccountName) (rows : List LiveOrder) → ((o : LiveOrder) → is_open (shut o) ≡ false) → first_place rows ≤ first_place (map (shut_of account) rows)
-first_shut account [] closed = omega arith
-first_shut account (x ∷ rows) closed = by (same_account account x.account) (is_waiting x) (first_shut account rows closed) refl
-  where
-    no_more : is_waiting (shut x) ≡ false
-    no_more = ap (λ (b : Bool). b && x.waits) (closed x)
-
-    by : (same b : Bool) → first_place rows ≤ first_place (map (shut_of account) rows) → is_waiting x ≡ b
-        → cond (not b) (1 + first_place rows) 0 ≤ first_place ((if same then shut x else x) ∷ map (shut_of account) rows)
-    by true true later e = omega arith
-    by true false later e =
-        let next : first_place (shut x ∷ map (shut_of account) rows) ≡ 1 + first_place (map (shut_of account) rows) = ap (λ (b : Bool). cond (not b) (1 + first_place (map (shut_of account) rows)) 0) no_more in
-        omega (arith, later, next)
-    by false true later e = omega arith
-    by false false later e =
-        let next : first_place (x ∷ map (shut_of account) rows) ≡ 1 + first_place (map (shut_of account) rows) = ap (λ (b : Bool). cond (not b) (1 + first_place (map (shut_of account) rows)) 0) e in
-        omega (arith, later, next)

@@ -1,6 +1,6 @@
 -- Orders in the places that they were put in, seen as those that are live.
-use Rattle.std.specs.Prelude.{ℕ, ◌≡◌, ◌+◌, ◌*◌, ◌<◌, ◌≤◌, Bool, true, ◌&&◌, ◌==◌, nat_lt, List, length, map, Option, Some, None, if◌then◌else◌, slice_get}
-use Rattle.std.specs.List.{filter, find, position_or_len}
+use Rattle.std.specs.Prelude.{ℕ, ◌≡◌, ◌+◌, ◌*◌, ◌<◌, ◌≤◌, Bool, true, ◌&&◌, ◌==◌, nat_lt, List, length, map, Option, Some, if◌then◌else◌, slice_get}
+use Rattle.std.specs.List.{filter, filter_map, find, position_or_len}
 use Rattle.gx_units.specs.Names.{same_account}
 use Rattle.gx_units.specs.declared.names.AccountName.{AccountName}
 use Rattle.gx_history.specs.declared.live_order.LiveOrder.{LiveOrder}
@@ -14,15 +14,6 @@ is_open o = nat_lt o.done o.total
 abbrev pub open_ones : List LiveOrder → List LiveOrder
 open_ones live = filter is_open live
 
--- the order has shares open, and is one of the account where one is named
-abbrev pub is_open_of : Option AccountName → LiveOrder → Bool
-is_open_of None o = is_open o
-is_open_of (Some account) o = is_open o && same_account account o.account
-
--- the live orders of the account, or all where none is named
-abbrev pub open_of : Option AccountName → List LiveOrder → List LiveOrder
-open_of account rows = filter (is_open_of account) rows
-
 -- the orders of the account, in their places
 abbrev pub of_account : AccountName → List LiveOrder → List LiveOrder
 of_account account live = filter (λ (o : LiveOrder). same_account account o.account) live
@@ -30,6 +21,14 @@ of_account account live = filter (λ (o : LiveOrder). same_account account o.acc
 -- the order has this number
 abbrev pub has_number : ℕ → LiveOrder → Bool
 has_number number o = o.number == number
+
+-- the live order of this number, where it is one of the account
+abbrev pub order_of : AccountName → List LiveOrder → ℕ → Option LiveOrder
+order_of account live number = find (λ (o : LiveOrder). has_number number o && same_account account o.account) live
+
+-- the live orders of the account that have these numbers, each where its number stands
+abbrev pub numbered_of : AccountName → List LiveOrder → List ℕ → List LiveOrder
+numbered_of account live numbers = filter_map (order_of account live) numbers
 
 -- the first that waits to be matched
 abbrev pub first_waiting : List LiveOrder → Option LiveOrder
@@ -64,14 +63,6 @@ pub record CanBePlaced (places : List ℕ) (rows : List LiveOrder) : Type 0 wher
 pub record HasRoom (number : ℕ) (before after : List ℕ) : Type 0 where
   pub within : number < length after
   pub kept : (n i : ℕ) → slice_get before n ≡ Some i → slice_get after n ≡ Some i
-
--- nothing of the order is open
-abbrev pub shut : LiveOrder → LiveOrder
-shut o = record o { total = o.done }
-
--- the order, shut where it is one of the account
-abbrev pub shut_of : AccountName → LiveOrder → LiveOrder
-shut_of account o = if same_account account o.account then shut o else o
 
 -- at most half of the rows, and 32 more, are of orders that have ended
 abbrev pub IsDense : (rows : List LiveOrder) (live : ℕ) → Type 0

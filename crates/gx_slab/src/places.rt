@@ -1,12 +1,12 @@
 //! Where the order of each number stands.
 
-ghost use Rattle.std.specs.Prelude.{◌≡◌, ◌≤◌, OnErr, OnOk, length, slice_get};
+ghost use Rattle.std.specs.Prelude.{◌≡◌, ◌≤◌, OnErr, OnOk, length, option_copied, slice_get};
 ghost use Rattle.std.specs.List.{position};
-ghost use Rattle.gx_slab.specs.Slabs.{CanBePlaced, HasRoom, IsDense, IsPlaced, first_place, open_ones, stands_for};
+ghost use Rattle.gx_slab.specs.Slabs.{CanBePlaced, HasRoom, IsDense, IsPlaced, first_place, open_ones, order_of, stands_for};
 
 use crate::rows::{first_place, is_open, row};
 use gx_history::live_order::LiveOrder;
-use gx_units::OutOfMemory;
+use gx_units::{AccountName, OutOfMemory};
 
 /// So many rows of orders that have ended may stand beside those that have as many live ones.
 const SLACK: usize = 32;
@@ -27,6 +27,25 @@ pub(crate) fn place_of(places: &[usize], rows: &[LiveOrder], number: u64) -> Opt
     let order = row(rows, place)?;
     if is_open(order) && order.number == number {
         Some(place)
+    } else {
+        None
+    }
+}
+
+/// The live order of this number, where it is one of the account.
+pub(crate) fn order_of<'a>(
+    places: &[usize],
+    rows: &'a [LiveOrder],
+    account: AccountName,
+    number: u64,
+) -> Option<&'a LiveOrder>
+    requires placed { IsPlaced places.now rows.now }
+    ensures { option_copied result ≡ order_of account (open_ones rows.now) number }
+{
+    let place = place_of(places, rows, number)?;
+    let order = row(rows, place)?;
+    if order.is_of_account(account) {
+        Some(order)
     } else {
         None
     }

@@ -1,10 +1,9 @@
 //! Rows of orders, of which some have ended.
 
-ghost use Rattle.std.specs.Prelude.{◌≡◌, ◌≤◌, ◌-◌, length, map, min, option_copied, slice_get, if◌then◌else◌};
-ghost use Rattle.gx_slab.specs.Slabs.{first_place, is_open, is_waiting, open_ones, shut_of};
+ghost use Rattle.std.specs.Prelude.{◌≡◌, ◌≤◌, ◌-◌, min, option_copied, slice_get, if◌then◌else◌};
+ghost use Rattle.gx_slab.specs.Slabs.{first_place, is_open, is_waiting};
 
 use gx_history::live_order::LiveOrder;
-use gx_units::AccountName;
 
 /// Whether some shares of the order may still be executed.
 pub(crate) fn is_open(order: &LiveOrder) -> bool
@@ -41,13 +40,6 @@ pub(crate) fn first_place(rows: &[LiveOrder], from: usize) -> usize
     rows.len()
 }
 
-/// How many of the orders are live.
-pub(crate) fn count_open(rows: &[LiveOrder]) -> usize
-    ensures { result ≡ length (open_ones rows.now) }
-{
-    rows.iter().filter(|order| is_open(order)).count()
-}
-
 /// The first place that may have an order that waits, once this one is written at its place.
 pub(crate) fn first_once_written(order: &LiveOrder, place: usize, first: usize) -> usize
     ensures { result ≡ if order.now.waits then min place first else first }
@@ -63,23 +55,5 @@ pub(crate) fn count_once_written(order: &LiveOrder, live: usize) -> usize
         live
     } else {
         live.saturating_sub(1)
-    }
-}
-
-/// Leaves nothing open of the order, where it is one of the account; another is not written.
-fn shut(order: &mut LiveOrder, account: AccountName)
-    ensures { order.new ≡ shut_of account order.old }
-{
-    if order.is_of_account(account) {
-        order.total = order.done;
-    }
-}
-
-/// Leaves nothing open of the orders of the account.
-pub(crate) fn shut_all(rows: &mut Vec<LiveOrder>, account: AccountName)
-    ensures { rows.new.items ≡ map (shut_of account) rows.old.items }
-{
-    for row in rows.iter_mut() {
-        shut(row, account);
     }
 }

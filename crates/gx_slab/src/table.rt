@@ -1,11 +1,11 @@
 //! The table.
 
 ghost use Rattle.std.specs.Prelude.{◌≡◌, ◌<◌, ◌^◌, [], ◌∷◌, ◌++◌, length, None, option_copied, IsTrue, OnOk, OnErr};
-ghost use Rattle.gx_slab.specs.Slabs.{first_waiting, is_open, of_account, of_others, live_numbered, written};
+ghost use Rattle.gx_slab.specs.Slabs.{first_waiting, is_open, live_numbered, numbered_of, order_of, written};
 
 use crate::live::LiveOrders;
-use crate::places::{make_room, place_of, thin_out};
-use crate::rows::{count_once_written, count_open, first_once_written, first_place, row, shut_all};
+use crate::places::{make_room, order_of, place_of, thin_out};
+use crate::rows::{count_once_written, first_once_written, first_place, row};
 use gx_history::live_order::LiveOrder;
 use gx_units::{AccountName, OutOfMemory};
 use std::alloc::Global;
@@ -79,15 +79,21 @@ impl Table {
     pub fn live(&self) -> LiveOrders<'_>
         ensures { result ≡ self.now }
     {
-        LiveOrders::of(&self.rows, None)
+        LiveOrders::of_rows(&self.places, &self.rows)
     }
 
-    /// The live orders of the account, in the order in which they were put.
-    #[tactic(auto, using(crate::proofs::Going::of_account_are))]
-    pub fn live_of(&self, account: AccountName) -> LiveOrders<'_>
-        ensures { result ≡ of_account account self.now }
+    /// The live order of this number, where it is one of the account.
+    pub fn get_of(&self, account: AccountName, number: u64) -> Option<&LiveOrder>
+        ensures { option_copied result ≡ order_of account self.now number }
     {
-        LiveOrders::of(&self.rows, Some(account))
+        order_of(&self.places, &self.rows, account, number)
+    }
+
+    /// The live orders of the account that have these numbers, each where its number stands. It looks at no other.
+    pub fn numbered_of<'a>(&'a self, account: AccountName, numbers: &'a [u64]) -> LiveOrders<'a>
+        ensures { result ≡ numbered_of account self.now numbers.now }
+    {
+        LiveOrders::of_numbers(&self.places, &self.rows, account, numbers)
     }
 
     /// Puts the order last.
@@ -122,15 +128,6 @@ impl Table {
         self.rows[place] = order;
         self.live = count_once_written(&order, self.live);
         self.first = thin_out(&mut self.places, &mut self.rows, self.live, from);
-    }
-
-    /// All orders of the account have ended. It looks at each live order in turn, and takes no memory.
-    pub fn end_account(&mut self, account: AccountName)
-        ensures { self.new ≡ of_others account self.old }
-    {
-        shut_all(&mut self.rows, account);
-        self.live = count_open(&self.rows);
-        self.first = thin_out(&mut self.places, &mut self.rows, self.live, self.first);
     }
 
     /// All orders have ended. It takes no memory.

@@ -1,12 +1,13 @@
-use Rattle.std.proofs.Common.{◌≡◌, map, take}
+use Rattle.std.proofs.Common.{◌≡◌, take}
+use Rattle.gx_policy.specs.declared.policy.Account.{Account}
 use Rattle.gx_history.specs.Orders.{orders}
 use Rattle.gx_overview.specs.Executed.{KnowOrders}
-use Rattle.gx_activity.specs.Noting.{so_far}
+use Rattle.gx_activity.specs.Noting.{row_in, so_far}
 use Rattle.gx_activity.proofs.activity.note_records.Given as goal
 
 -- the orders of the records so far are known, and what these tell is counted
 abbrev pub invariant-loop-record : goal.invariant-loop-record
 invariant-loop-record l = record {
   knows : KnowOrders l.owners (orders l.policy (take l.record-index l.records));
-  rows : l.rows ≡ map (so_far l.policy (take l.record-index l.records)) l.policy.accounts;
+  rows : (a : Account) → row_in l.table.entries a.name ≡ so_far l.policy (take l.record-index l.records) a;
 }

@@ -1,28 +1,31 @@
-use Rattle.std.proofs.Common.{◌≡◌, true, false, refl, ◌∙◌, ap, sym}
-use Rattle.std.specs.Prelude.{Some, is_some}
-use Rattle.gx_keepers.proofs.Cutting.{cancel_goes_on, cancel_has_place, cut_is_there}
+use Rattle.std.proofs.Common.{ℕ, refl, sym, ap, ◌∙◌, ◌∷◌, [], ◌++◌}
+use Rattle.std.proofs.Math.Path.{subst}
+use Rattle.std.specs.Prelude.{Some}
+use Rattle.gx_ouch.specs.declared.letters.CancelReason.TheVariants as cancels
+use Rattle.gx_history.specs.declared.moves.Move.TheVariants as moves
+use Rattle.gx_history.specs.Streams.{canceled_of}
+use Rattle.gx_market.specs.Changes.{left_with}
+use Rattle.gx_streams.specs.Laws.{TellsOne}
+use Rattle.gx_keepers.proofs.Carrying.{cancel_tells, day_so, has_place, one_goes_on, takes_so}
+use Rattle.gx_keepers.proofs.Figuring.{cancel_figured}
 use Rattle.gx_keepers.proofs.Rooms.{telling_keeps_room}
 use Rattle.gx_keepers.proofs.apply.apply_cancel.Goals as goal
 
-pub unreachable-requires : goal.unreachable-requires
-unreachable-requires c =
-    let known : is_some c.under.result ≡ true =
-    cut_is_there c.args.next.policy.now c.args.next.history.now.records c.args.next.asked.now c.args.next.left.now c.args.m.now c.args.keepers.now c.under.result
-    c.requires.takes c.requires.granted c.requires.cancels c.under.ensures in
-    let none : false ≡ true = sym (ap is_some c.in_default.is) ∙ known in
-    cc
-
 pub tell-requires : goal.tell-requires
 tell-requires c =
-    cancel_has_place c.args.next.policy.now c.args.next.history.now.records c.args.next.asked.now c.args.next.left.now c.args.m.now c.args.keepers.now c.in-Some.order
-    c.requires.takes c.requires.places c.requires.granted c.requires.cancels (sym c.under.ensures ∙ c.in-Some.is)
+    has_place c.args.next.policy.now c.args.next.history.now.records c.args.next.left.now c.args.keepers.now.streams c.args.cut.now.user _ c.requires.places (cancel_tells c.args.next.policy.now c.args.next.history.now.records c.args.next.left.now c.args.cut.now c.args.size (takes_so c.args.next.policy.now c.args.next.history.now.records c.args.next.moves.now (moves.Sizes c.args.cut.now c.args.size) c.args.next.left.now c.args.keepers.now c.requires.sizes c.requires.takes).does)
 
 pub returns-clause-after : goal.returns-clause-after
 returns-clause-after c =
-    cancel_goes_on c.args.next.policy.now c.args.next.history.now.records c.args.next.asked.now c.args.next.left.now c.args.m.now c.args.keepers.now _ c.in-Some.order c.cut_from-fewer.result _ c.canceled-message.result
-    c.requires.takes c.requires.granted c.requires.cancels (sym c.under.ensures ∙ c.in-Some.is) c.cut_from-fewer.ensures c.saturating_sub.ensures c.canceled-message.ensures refl refl refl
-    (λ i. record { live = c.cut.ensures.live i; used = c.cut.ensures.used i }) c.leave.ensures c.cut-2.ensures.cut c.tell.ensures
+    let t = takes_so c.args.next.policy.now c.args.next.history.now.records c.args.next.moves.now (moves.Sizes c.args.cut.now c.args.size) c.args.next.left.now c.args.keepers.now c.requires.sizes c.requires.takes in
+    one_goes_on c.args.next.policy.now c.args.next.history.now.records (moves.Sizes c.args.cut.now c.args.size) c.args.next.left.now c.args.keepers.now _ c.args.cut.now.user (Some c.canceled-message.result) t
+    (subst (TellsOne c.args.next.policy.now c.args.next.history.now.records (c.args.next.history.now.records ++ c.args.next.left.now ∷ []) c.args.next.left.now c.args.cut.now.user)
+    (sym (c.canceled-message.ensures ∙ ap (λ (n : ℕ). canceled_of cancels.UserRequested n c.args.cut.now) c.cut_from-fewer.ensures))
+    (cancel_tells c.args.next.policy.now c.args.next.history.now.records c.args.next.left.now c.args.cut.now c.args.size t.does))
+    refl refl refl (day_so c.args.next.left.now c.args.next.moves.now (moves.Sizes c.args.cut.now c.args.size) c.args.keepers.now.day _ c.requires.sizes c.apply.ensures) (λ i. record { live = c.cut.ensures.live i; used = c.cut.ensures.used i })
+    (c.leave.ensures ∙ ap (λ (n : ℕ). left_with c.args.cut.now n c.args.keepers.now.book) c.saturating_sub.ensures)
+    (cancel_figured c.args.next.policy.now c.args.next.history.now.records c.args.next.left.now c.args.cut.now c.args.size c.args.keepers.now c.cut_from-fewer.result _ t c.cut_from-fewer.ensures c.cut-2.ensures.cut) c.tell.ensures
 
 pub returns-clause-room : goal.returns-clause-room
 returns-clause-room c =
-    telling_keeps_room c.args.keepers.now.streams c.tell.new.streams c.args.next.asked.now.user c.args.next.left.now.moment (Some c.canceled-message.result) c.tell.ensures
+    telling_keeps_room c.args.keepers.now.streams c.tell.new.streams c.args.cut.now.user c.args.next.left.now.moment (Some c.canceled-message.result) c.tell.ensures

@@ -2,26 +2,28 @@ use Rattle.gx_keepers.proofs.Commanded.{command_goes_on, command_places, has_roo
 use Rattle.gx_keepers.specs.Ends.{owed_by_next}
 use Rattle.gx_keepers.proofs.Rooms.{both_keep_room, sent_keeps_room, telling_all_keeps_room}
 use Rattle.gx_keepers.proofs.commands.apply_command.Goals as goal
+use Rattle.gx_history.specs.declared.moves.Move.TheVariants as moves
+use Rattle.gx_keepers.proofs.Carrying.{day_so, takes_so}
 
 pub set-requires : goal.set-requires
 set-requires c = record {
-  room = has_room_for c.args.next.policy.now c.args.next.history.now.records c.args.next.asked.now c.args.next.left.now c.args.c.now c.args.keepers.now c.requires.takes c.requires.granted c.requires.commands c.rules.ensures.sound;
-  known = has_setting c.args.next.policy.now c.args.next.history.now.records c.args.next.asked.now c.args.next.left.now c.args.c.now c.args.keepers.now c.requires.takes c.requires.granted c.requires.commands;
+  room = has_room_for c.args.next.policy.now c.args.next.history.now.records c.args.next.left.now c.args.officer c.args.c.now c.args.keepers.now (takes_so c.args.next.policy.now c.args.next.history.now.records c.args.next.moves.now (moves.Commands c.args.officer c.args.c.now) c.args.next.left.now c.args.keepers.now c.requires.commands c.requires.takes) c.rules.ensures.sound;
+  known = has_setting c.args.next.policy.now c.args.next.history.now.records c.args.next.left.now c.args.officer c.args.c.now c.args.keepers.now (takes_so c.args.next.policy.now c.args.next.history.now.records c.args.next.moves.now (moves.Commands c.args.officer c.args.c.now) c.args.next.left.now c.args.keepers.now c.requires.commands c.requires.takes);
 }
 
 pub tell_of_command-requires : goal.tell_of_command-requires
 tell_of_command-requires c =
-    command_places c.args.next.policy.now c.args.next.history.now.records c.args.next.asked.now c.args.next.left.now c.args.c.now c.args.keepers.now _ _ _ _ c.set_day.ensures c.granted_code-code.ensures c.in_ok-set.ensures.streams
-    c.requires.takes c.requires.places c.requires.granted c.requires.commands c.rules.ensures.sound
+    command_places c.args.next.policy.now c.args.next.history.now.records c.args.next.left.now c.args.officer c.args.c.now c.args.keepers.now _ _ _ _ (day_so c.args.next.left.now c.args.next.moves.now (moves.Commands c.args.officer c.args.c.now) c.args.keepers.now.day _ c.requires.commands c.apply.ensures) c.granted_code-code.ensures c.in_ok-set.ensures.streams
+    (takes_so c.args.next.policy.now c.args.next.history.now.records c.args.next.moves.now (moves.Commands c.args.officer c.args.c.now) c.args.next.left.now c.args.keepers.now c.requires.commands c.requires.takes) c.requires.places c.rules.ensures.sound
 
 pub returns-clause-ok : goal.returns-clause-ok
 returns-clause-ok c =
-    command_goes_on c.args.next.policy.now c.args.next.history.now.records c.args.next.asked.now c.args.next.left.now c.args.c.now c.granted_code-code.result c.args.keepers.now _ _
-    c.requires.takes c.requires.granted c.requires.commands c.rules.ensures.sound
-    c.in_ok-set.ensures.people c.in_ok-set.ensures.streams c.in_ok-set.ensures.rules c.set_day.ensures c.end_orders.ensures.left c.end_orders.ensures.taken c.end_orders.ensures.closed c.granted_code-code.ensures c.tell_of_command.ensures
+    command_goes_on c.args.next.policy.now c.args.next.history.now.records c.args.next.left.now c.args.officer c.args.c.now c.granted_code-code.result c.args.keepers.now _ _
+    (takes_so c.args.next.policy.now c.args.next.history.now.records c.args.next.moves.now (moves.Commands c.args.officer c.args.c.now) c.args.next.left.now c.args.keepers.now c.requires.commands c.requires.takes) c.rules.ensures.sound
+    c.in_ok-set.ensures.people c.in_ok-set.ensures.streams c.in_ok-set.ensures.rules (day_so c.args.next.left.now c.args.next.moves.now (moves.Commands c.args.officer c.args.c.now) c.args.keepers.now.day _ c.requires.commands c.apply.ensures) c.end_orders.ensures.left c.end_orders.ensures.taken c.end_orders.ensures.closed c.granted_code-code.ensures c.tell_of_command.ensures
 
 pub returns-clause-room : goal.returns-clause-room
 returns-clause-room c =
     both_keep_room c.args.keepers.now.streams c.set.new.streams c.tell_of_command.new.streams
     (sent_keeps_room c.args.next.policy.now c.args.keepers.now.people c.set.new.people c.args.keepers.now.streams c.set.new.streams c.args.c.now.action c.in_ok-set.ensures.streams)
-    (telling_all_keeps_room c.set.new.streams c.tell_of_command.new.streams (owed_by_next c.args.next c.args.c.now c.granted_code-code.result c.args.keepers.now.orders.live) c.tell_of_command.ensures)
+    (telling_all_keeps_room c.set.new.streams c.tell_of_command.new.streams (owed_by_next c.args.next c.args.officer c.args.c.now c.granted_code-code.result c.args.keepers.now.orders.live) c.tell_of_command.ensures)

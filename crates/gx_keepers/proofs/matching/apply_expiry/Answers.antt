@@ -1,31 +1,30 @@
-use Rattle.std.proofs.Common.{refl, ◌∙◌, ap}
-use Rattle.std.specs.Prelude.{ℕ, Some}
-use Rattle.gx_ouch.specs.declared.letters.CancelReason.TheVariants as cancels
-use Rattle.gx_history.specs.Streams.{canceled_of}
-use Rattle.gx_keepers.proofs.Keepings.{known_told, known_told_but}
-use Rattle.gx_keepers.proofs.Matches.{end_goes_on, end_has_place, match_is_legal}
-use Rattle.gx_keepers.proofs.Rooms.{places_behind, telling_keeps_room}
+use Rattle.std.proofs.Common.{ℕ, ap, sym, ◌∙◌}
+use Rattle.std.proofs.lemmas.Bool.{eqb-true}
+use Rattle.std.specs.Prelude.{is_some}
+use Rattle.gx_history.specs.declared.moves.Move.TheVariants as moves
+use Rattle.gx_orders.specs.LiveOrders.{OrdersData, live_numbered}
+use Rattle.gx_orders.proofs.Finding.{finds_orders}
+use Rattle.gx_effects.proofs.Known.{number_found}
+use Rattle.gx_keepers.proofs.Carrying.{takes_so}
 use Rattle.gx_keepers.proofs.matching.apply_expiry.Goals as goal
 
-pub tell-requires : goal.tell-requires
-tell-requires c =
-    end_has_place c.args.next.policy.now c.args.next.history.now.records c.args.next.first.now c.args.next.left.now c.args.keepers.now c.args.number
-    c.requires.takes (c.requires.places c.args.number c.requires.expires) c.requires.expires
+pub order_numbered-order-requires : goal.order_numbered-order-requires
+order_numbered-order-requires c = record {
+  lives = let t = takes_so c.args.next.policy.now c.args.next.history.now.records c.args.next.moves.now (moves.Expires c.args.number) c.args.next.left.now c.args.keepers.now c.requires.expires c.requires.takes in
+      ap (λ (d : OrdersData). is_some (live_numbered d.live c.args.number)) t.in_force.orders ∙ ap is_some (finds_orders c.args.next.policy.now c.args.next.history.now.records c.args.next.left.now (moves.Expires c.args.number) t.does).is_found;
+}
 
-pub returns-clause-after : goal.returns-clause-after
-returns-clause-after c =
-    end_goes_on c.args.next.policy.now c.args.next.history.now.records c.args.next.first.now c.args.next.left.now c.args.keepers.now _ c.args.number c.canceled-message.result
-    c.requires.takes c.requires.expires
-    (c.canceled-message.ensures ∙ ap (λ (n : ℕ). canceled_of cancels.ImmediateOrCancel n c.args.next.first.now) c.open.ensures)
-    refl refl refl (λ i. record { live = c.end.ensures.live i; used = c.end.ensures.used i }) refl c.close.ensures.closed c.tell.ensures
+pub keep_for_expiry-requires-clause-expires : goal.keep_for_expiry-requires-clause-expires
+keep_for_expiry-requires-clause-expires c = c.requires.expires ∙ ap (λ (n : ℕ). moves.Expires n) (sym (eqb-true c.order_numbered-order.result.number c.args.number (number_found c.args.keepers.now.orders.live c.args.number c.order_numbered-order.result c.order_numbered-order.ensures.found)))
 
-pub returns-clause-kept_after : goal.returns-clause-kept_after
-returns-clause-kept_after c =
-    let after = returns-clause-after c in
-    places_behind c.args.next.policy.now c.args.next.history.now.records c.args.next.left.now c.args.keepers.now.streams _ c.requires.takes.legal
-    (match_is_legal c.args.next.policy.now c.args.next.history.now.records c.args.next.first.now c.args.next.left.now c.args.keepers.now c.requires.takes)
-    (known_told c.args.next.policy.now c.args.next.history.now.records c.args.keepers.now c.requires.takes.in_force)
-    (known_told_but c.args.next.policy.now c.args.next.history.now.records c.args.next.left.now _ after)
-    c.requires.takes.in_force.streams after.streams
-    (telling_keeps_room c.args.keepers.now.streams c.tell.new.streams c.args.next.first.now.user c.args.next.left.now.moment (Some c.canceled-message.result) c.tell.ensures)
-    (c.requires.whole c.args.number c.requires.expires)
+pub keep_for_expiry-requires-clause-lives : goal.keep_for_expiry-requires-clause-lives
+keep_for_expiry-requires-clause-lives c =
+    ap (live_numbered c.args.keepers.now.orders.live) (eqb-true c.order_numbered-order.result.number c.args.number (number_found c.args.keepers.now.orders.live c.args.number c.order_numbered-order.result c.order_numbered-order.ensures.found)) ∙ c.order_numbered-order.ensures.found
+
+pub end_order-requires-clause-expires : goal.end_order-requires-clause-expires
+end_order-requires-clause-expires c = c.requires.expires ∙ ap (λ (n : ℕ). moves.Expires n) (sym (eqb-true c.order_numbered-order.result.number c.args.number (number_found c.args.keepers.now.orders.live c.args.number c.order_numbered-order.result c.order_numbered-order.ensures.found)))
+
+pub end_order-requires-clause-lives : goal.end_order-requires-clause-lives
+end_order-requires-clause-lives c =
+    ap (λ (d : OrdersData). live_numbered d.live c.order_numbered-order.result.number) c.in_ok-keep_for_expiry.ensures.same
+    ∙ ap (live_numbered c.args.keepers.now.orders.live) (eqb-true c.order_numbered-order.result.number c.args.number (number_found c.args.keepers.now.orders.live c.args.number c.order_numbered-order.result c.order_numbered-order.ensures.found)) ∙ c.order_numbered-order.ensures.found

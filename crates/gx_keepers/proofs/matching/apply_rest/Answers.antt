@@ -1,23 +1,35 @@
-use Rattle.std.proofs.Common.{arith, refl}
-use Rattle.gx_keepers.proofs.Matches.{comes_last, rest_goes_on}
-use Rattle.gx_keepers.proofs.Keepings.{known_told, known_told_but, match_keeps}
+use Rattle.std.proofs.Common.{refl, ap, ◌∙◌, arith}
+use Rattle.std.specs.Prelude.{is_some}
+use Rattle.gx_history.specs.declared.moves.Move.TheVariants as moves
+use Rattle.gx_orders.specs.LiveOrders.{OrdersData, live_numbered}
+use Rattle.gx_orders.proofs.Finding.{finds_orders}
+use Rattle.gx_effects.proofs.Doing.{may_do}
+use Rattle.gx_keepers.proofs.Carrying.{day_so, takes_so}
+use Rattle.gx_keepers.proofs.Keepings.{known_told, match_keeps}
+use Rattle.gx_keepers.proofs.Matches.{IsMatched, comes_last, is_matched, rest_goes_on}
 use Rattle.gx_keepers.proofs.matching.apply_rest.Goals as goal
 
-pub put_to_rest-requires : goal.put_to_rest-requires
-put_to_rest-requires c = record {
-  latest = comes_last c.args.next.policy.now c.args.next.history.now.records c.args.next.first.now c.args.next.left.now c.args.keepers.now c.requires.takes;
+pub order_numbered-order-requires : goal.order_numbered-order-requires
+order_numbered-order-requires c = record {
+  lives = let t = takes_so c.args.next.policy.now c.args.next.history.now.records c.args.next.moves.now (moves.Rests c.args.number) c.args.next.left.now c.args.keepers.now c.requires.rests c.requires.takes in
+      ap (λ (d : OrdersData). is_some (live_numbered d.live c.args.number)) t.in_force.orders ∙ ap is_some (finds_orders c.args.next.policy.now c.args.next.history.now.records c.args.next.left.now (moves.Rests c.args.number) t.does).is_found;
 }
+
+pub put_to_rest-requires : goal.put_to_rest-requires
+put_to_rest-requires c = record { latest = comes_last c.args.next.policy.now c.args.next.history.now.records c.args.next.left.now c.args.keepers.now c.args.number c.order_numbered-order.result (takes_so c.args.next.policy.now c.args.next.history.now.records c.args.next.moves.now (moves.Rests c.args.number) c.args.next.left.now c.args.keepers.now c.requires.rests c.requires.takes) c.order_numbered-order.ensures.found }
 
 pub returns-clause-ok : goal.returns-clause-ok
 returns-clause-ok c =
-    rest_goes_on c.args.next.policy.now c.args.next.history.now.records c.args.next.first.now c.args.next.left.now c.args.keepers.now _ c.args.number
-    c.requires.takes c.requires.rests refl refl refl
+    rest_goes_on c.args.next.policy.now c.args.next.history.now.records c.args.next.left.now c.args.keepers.now _ c.args.number c.order_numbered-order.result (takes_so c.args.next.policy.now c.args.next.history.now.records c.args.next.moves.now (moves.Rests c.args.number) c.args.next.left.now c.args.keepers.now c.requires.rests c.requires.takes) c.order_numbered-order.ensures.found
+    refl refl (day_so c.args.next.left.now c.args.next.moves.now (moves.Rests c.args.number) c.args.keepers.now.day _ c.requires.rests c.apply.ensures)
     (λ i. record { live = c.rest.ensures.live i; used = c.rest.ensures.used i }) c.in_ok-put_to_rest.ensures.ok refl refl
 
 pub returns-clause-kept_after : goal.returns-clause-kept_after
 returns-clause-kept_after c =
-    match_keeps c.args.next.policy.now c.args.next.history.now.records c.requires.takes.handed c.args.next.left.now c.args.keepers.now.streams _ c.requires.takes.legal c.requires.takes.left
-    (known_told c.args.next.policy.now c.args.next.history.now.records c.args.keepers.now c.requires.takes.in_force)
-    (known_told_but c.args.next.policy.now c.args.next.history.now.records c.args.next.left.now _ (returns-clause-ok c))
+    let t = takes_so c.args.next.policy.now c.args.next.history.now.records c.args.next.moves.now (moves.Rests c.args.number) c.args.next.left.now c.args.keepers.now c.requires.rests c.requires.takes in
+    let matches : IsMatched c.args.next.policy.now c.args.next.history.now.records c.args.next.left.now = is_matched c.args.next.policy.now c.args.next.history.now.records c.args.next.left.now (moves.Rests c.args.number) t.does (may_do c.args.next.policy.now c.args.next.history.now.records c.args.next.left.now (moves.Rests c.args.number) t.does).is_match in
+    match_keeps c.args.next.policy.now c.args.next.history.now.records matches.handed c.args.next.left.now c.args.keepers.now.streams _ t.does.legal matches.left
+    (known_told c.args.next.policy.now c.args.next.history.now.records c.args.keepers.now t.in_force)
+    (known_told c.args.next.policy.now _ _ (returns-clause-ok c))
     (λ user. omega arith)
     c.requires.kept

@@ -16,8 +16,9 @@ use Rattle.gx_effects.proofs.Moving.{may_move}
 use Rattle.gx_effects.proofs.World.{world_next}
 use Rattle.gx_answers.specs.Matches.{matches_left, matching_of, next_match, settled_gate}
 use Rattle.gx_core.specs.Known.{first_of}
-use Rattle.gx_core.proofs.Keeping.{AreCarried, as_before, keep_still, keep_within, takes_match, told_then}
+use Rattle.gx_core.proofs.Keeping.{AreCarried, as_before, keep_still, keep_within, match_fits, takes, told_then}
 use Rattle.gx_core.proofs.Matched.{first_is_known, nothing_is_met, nothing_is_next, settles_on}
+use Rattle.gx_history.specs.Requests.{asked}
 use Rattle.gx_core.proofs.gate.GateAccessGate.match_one.Goals as goal
 
 pub returns-in_default-clause-next : goal.returns-in_default-clause-next
@@ -80,9 +81,11 @@ returns-clause-fewer c =
 
 pub carry_match-requires : goal.carry_match-requires
 carry_match-requires c = record {
-  takes = takes_match c.self.inside.policy c.self.inside.history.records c.keep_one.new.history.records c.args.handed c.in-Some.first (matched_by c.args.handed c.match_outcome-outcome.result) c.record_of_match-entry.result c.self.inside.history.spare c.self.inside.keepers c.self.invariant c.keep_one.ensures.records c.record_of_match-entry.ensures
-      (ap (λ (g : GateData). next_match g c.args.handed) c.self.view_is ∙ c.match_outcome-outcome.ensures.next) c.in_ok-keep_one.ensures.room
-      (first_is_known c.self.inside.policy c.self.inside.history.records c.self.inside.keepers c.self.invariant.kept ∙ ap first_of c.self.view_is ∙ sym c.first_waiting.ensures ∙ c.in-Some.is);
+  takes = takes c.self.inside.policy c.self.inside.history.records c.keep_one.new.history.records (steps.Matching c.args.handed) c.matched_move-moves.result (matched_by c.args.handed c.match_outcome-outcome.result) c.record_of_match-entry.result c.self.inside.history.spare c.self.inside.keepers c.self.invariant c.keep_one.ensures.records c.record_of_match-entry.ensures
+      (ap (λ (g : GateData). next_match g c.args.handed) c.self.view_is ∙ c.match_outcome-outcome.ensures.next)
+      (c.matched_move-moves.ensures c.self.inside.policy (world c.self.inside.policy c.self.inside.history.records) (matched_by c.args.handed c.match_outcome-outcome.result) c.args.handed)
+      (match_fits c.self.inside.policy c.self.inside.history.records c.args.handed (matched_by c.args.handed c.match_outcome-outcome.result) (ap (λ (g : GateData). next_match g c.args.handed) c.self.view_is ∙ c.match_outcome-outcome.ensures.next) c.in_ok-keep_one.ensures.room);
+  matches = ap (λ (r : RecordData). asked r.step) c.record_of_match-entry.ensures;
   kept = told_then c.self.inside.policy c.self.inside.history.records c.keep_one.new.history.records c.self.inside.history.spare c.self.inside.keepers c.self.invariant c.keep_one.ensures.records;
 }
 

@@ -1,9 +1,0 @@
-use Rattle.std.proofs.Common.{◌∙◌, ap, refl, set}
-use Rattle.gx_activity.specs.Noting.{row_done}
-use Rattle.gx_overview.proofs.Passing.{map_more}
-use Rattle.gx_activity.proofs.activity.note_account.Goals as goal
-
-pub loop-row-preserved : goal.loop-row-preserved
-loop-row-preserved c =
-    ap (set c.loop-row.rows c.loop-row.row-index) c.note.ensures
-    ∙ map_more (row_done c.args.account c.args.deed.now) c.args.rows.now c.loop-row.rows c.loop-row.row-index _ _ c.loop-row-test.true c.loop-row.invariant refl

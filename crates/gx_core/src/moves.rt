@@ -1,0 +1,150 @@
+//! What a record does, by what was found to judge its step.
+
+ghost use Rattle.std.specs.Option.{option_map_or};
+ghost use Rattle.std.specs.Prelude.{◌≡◌, ℕ};
+ghost use Rattle.gx_history.specs.declared.moves.Move.TheVariants.{Adds, Nothing, Replaces, Sizes};
+ghost use Rattle.gx_history.specs.declared.record.Step.TheVariants as steps;
+ghost use Rattle.gx_history.specs.LiveOrders.{replacement_order};
+ghost use Rattle.gx_history.specs.Turns.{new_order};
+ghost use Rattle.gx_history.specs.World.{move_by, World};
+ghost use Rattle.gx_history.specs.declared.record.RecordData.{RecordData};
+ghost use Rattle.gx_policy.specs.declared.policy.PolicyData.{PolicyData};
+ghost use Rattle.gx_policy.specs.People.{account_of};
+ghost use Rattle.gx_core.specs.Known.{order_asked};
+ghost use Rattle.gx_core.specs.Moves.{done_by, granted_move};
+
+use crate::gate::Gate;
+use gx_history::live_order::LiveOrder;
+use gx_history::moves::Move;
+use gx_history::record::{Asked, RecordData, Request, Verdict};
+use gx_keepers::listed::firm_of;
+use gx_ouch::{EnterOrder, OrderTerms, ReplaceOrder};
+use gx_policy::Policy;
+use gx_units::{AccountName, UserName};
+
+/// The order of an Enter that the record grants, for this account.
+fn order_of(
+    policy: &Policy,
+    left: &RecordData,
+    user: UserName,
+    account: AccountName,
+    m: &EnterOrder,
+) -> LiveOrder
+    ensures { result ≡ new_order policy.now left.now user account m.now }
+{
+    LiveOrder {
+        number: left.number,
+        user,
+        account,
+        token: m.token,
+        terms: OrderTerms {
+            side: m.side,
+            shares: m.shares,
+            stock: m.stock,
+            price: m.price,
+            time_in_force: m.time_in_force,
+            firm: firm_of(policy, account, m.firm),
+            display: m.display,
+            capacity: m.capacity,
+            intermarket_sweep: m.intermarket_sweep,
+            minimum_quantity: m.minimum_quantity,
+            cross_type: m.cross_type,
+        },
+        total: m.shares,
+        done: 0,
+        waits: true,
+    }
+}
+
+fn enter(
+    policy: &Policy,
+    left: &RecordData,
+    user: UserName,
+    account: Option<AccountName>,
+    m: &EnterOrder,
+) -> Move
+    ensures { result
+        ≡ option_map_or (λ x. Adds (new_order policy.now left.now user x m.now)) account Nothing }
+{
+    match account {
+        Some(account) => Move::Adds(order_of(policy, left, user, account, m)),
+        None => Move::Nothing,
+    }
+}
+
+fn replace(left: &RecordData, named: Option<LiveOrder>, m: &ReplaceOrder) -> Move
+    ensures { result
+        ≡ option_map_or (λ old. Replaces old (replacement_order left.now m.now old)) named Nothing }
+{
+    match named {
+        Some(old) => Move::Replaces(old, old.replaced_by(left, m)),
+        None => Move::Nothing,
+    }
+}
+
+fn cancel(named: Option<LiveOrder>, size: u32) -> Move
+    ensures { result ≡ option_map_or (λ cut. Sizes cut size) named Nothing }
+{
+    match named {
+        Some(cut) => Move::Sizes(cut, size),
+        None => Move::Nothing,
+    }
+}
+
+/// What a granted request does, whose user trades for this account, and which names this live order.
+fn granted_move(
+    policy: &Policy,
+    left: &RecordData,
+    a: &Asked,
+    account: Option<AccountName>,
+    named: Option<LiveOrder>,
+) -> Move
+    ensures { result ≡ granted_move policy.now left.now a.now account named a.now.request }
+{
+    match &a.request {
+        Request::Login(_) => Move::PutsOn(a.user, Some(a.line)),
+        Request::Logout => Move::PutsOn(a.user, None),
+        Request::Unreadable(_) => Move::Nothing,
+        Request::Enter(m) => enter(policy, left, a.user, account, m),
+        Request::Replace(m) => replace(left, named, m),
+        Request::Cancel(m) => cancel(named, m.shares),
+        Request::Command(c) => Move::Commands(a.user, *c),
+    }
+}
+
+/// What the record of a matching step does.
+pub(crate) fn matched_move(given: Verdict) -> Move
+    ensures { (policy : PolicyData) (w : World) (left : RecordData) (handed : ℕ)
+        → result ≡ move_by policy w left given (steps.Matching handed) }
+{
+    match given {
+        Verdict::Filled(f) => Move::Fills(f),
+        Verdict::Rested(number) => Move::Rests(number),
+        Verdict::Expired(number) => Move::Expires(number),
+        Verdict::Granted | Verdict::Denied(_) => Move::Nothing,
+    }
+}
+
+impl Gate {
+    /// What the record of a request does, whose user trades for this account, and which names this live order.
+    pub(crate) fn asked_move(
+        &self,
+        a: &Asked,
+        left: &RecordData,
+        account: Option<AccountName>,
+        named: Option<LiveOrder>,
+    ) -> Move
+        requires asks { left.now.step ≡ steps.Asked a.now }
+        requires account { account ≡ account_of self.now.policy a.now.user }
+        requires named { named ≡ order_asked self.now a.now }
+        ensures does { result ≡ done_by self.now left.now }
+    {
+        match left.verdict {
+            Verdict::Granted => granted_move(&self.policy, left, a, account, named),
+            Verdict::Denied(rule) => Move::Denies(*a, rule),
+            Verdict::Filled(f) => Move::Fills(f),
+            Verdict::Rested(number) => Move::Rests(number),
+            Verdict::Expired(number) => Move::Expires(number),
+        }
+    }
+}

@@ -1,0 +1,130 @@
+//! Which orders each account has.
+
+ghost use Rattle.std.specs.Prelude.{◌≡◌, ◌<◌, ◌∷◌, ◌++◌, [], OnOk};
+ghost use Rattle.std.specs.List.{filter};
+ghost use Rattle.std.specs.Vec.{vec_capacity, vec_len};
+ghost use Rattle.gx_slab.specs.Slabs.{numbered_of};
+ghost use Rattle.gx_orders.specs.LiveOrders.{AreBelow};
+ghost use Rattle.gx_orders.specs.Tables.{ListsOneMore, ListsTheSame, NumbersBelow, NumbersUpTo, is_live_of, listed_of};
+
+use gx_history::live_order::LiveOrder;
+use gx_slab::table::Table;
+use gx_units::{AccountName, OutOfMemory};
+use indexmap::IndexMap;
+use std::alloc::Global;
+use std::marker::Model;
+
+/// Takes out the numbers of orders that have ended.
+fn sweep(items: &mut Vec<u64>, account: AccountName, table: &Table)
+    ensures { items.new.items ≡ filter (is_live_of account table.now) items.old.items }
+{
+    items.retain(|number| table.get_of(account, *number).is_some());
+}
+
+/// Makes room for the number of this order, above all others: none of them is above the highest.
+fn make_room(
+    items: &mut Vec<u64>,
+    highest: u64,
+    order: &LiveOrder,
+    table: &Table,
+) -> Result<(), OutOfMemory>
+    requires last { AreBelow order.now.number table.now }
+    requires bound { NumbersUpTo highest items.old.items }
+    ensures same { numbered_of order.now.account table.now items.new.items
+        ≡ numbered_of order.now.account table.now items.old.items }
+    ensures bound { NumbersUpTo highest items.new.items }
+    ensures below { OnOk result (NumbersBelow order.now.number items.new.items) }
+    ensures room { OnOk result (vec_len items.new < vec_capacity items.new) }
+{
+    if highest < order.number && items.len() < items.capacity() {
+        return Ok(());
+    }
+    sweep(items, order.account, table);
+    items.reserve(items.len() + 1)?;
+    Ok(())
+}
+
+/// The numbers of an account's orders, in the order in which they were entered: of those that live, and of some that have
+/// ended. They are swept where there is no room for one more, and are given more room then unless half of it is free: so
+/// a number is looked at a few times in all, however many orders there are.
+#[derive(Drop)]
+pub struct Numbers {
+    items: Vec<u64>,
+    /// No number is above it.
+    highest: u64,
+}
+
+impl Model for Numbers {
+    ghost use Rattle.std.specs.Prelude.{List, ℕ};
+    ghost use Rattle.gx_orders.specs.Tables.{NumbersUpTo};
+
+    ghost Value = { List ℕ };
+
+    ghost view = { λ n. n.items.items };
+
+    ghost invariant = { λ n. NumbersUpTo n.highest n.items.items };
+}
+
+impl Numbers {
+    /// No number. It takes no memory.
+    fn new(alloc: Global) -> Numbers
+        ensures { result ≡ [] }
+    {
+        Numbers {
+            items: Vec::new(alloc),
+            highest: 0,
+        }
+    }
+
+    /// The numbers.
+    pub(crate) fn as_slice(&self) -> &[u64]
+        ensures { result.now ≡ self.now }
+    {
+        self.items.as_slice()
+    }
+
+    /// Puts the number of this order of the account last, which is not live yet, and will be the last that is.
+    fn push(&mut self, order: &LiveOrder, table: &Table) -> Result<(), OutOfMemory>
+        requires last { AreBelow order.now.number table.now }
+        ensures same { numbered_of order.now.account table.now self.new
+            ≡ numbered_of order.now.account table.now self.old }
+        ensures more { OnOk result
+            (numbered_of order.now.account (table.now ++ order.now ∷ []) self.new
+            ≡ numbered_of order.now.account table.now self.old ++ order.now ∷ []) }
+    {
+        make_room(&mut self.items, self.highest, order, table)?;
+        self.items.push_reserved(order.number);
+        self.highest = order.number;
+        Ok(())
+    }
+}
+
+/// Lists the number of this order, which is not live yet, and will be the last that is.
+pub(crate) fn list_number(
+    lists: &mut IndexMap<AccountName, Numbers>,
+    order: &LiveOrder,
+    table: &Table,
+) -> Result<(), OutOfMemory>
+    requires last { AreBelow order.now.number table.now }
+    ensures same { ListsTheSame table.now lists.old.entries lists.new.entries }
+    ensures more { OnOk result
+        (ListsOneMore order.now table.now lists.old.entries lists.new.entries) }
+{
+    if let Some(numbers) = lists.get_mut(&order.account) {
+        return numbers.push(order, table);
+    }
+    let mut numbers = Numbers::new(*lists.allocator());
+    numbers.push(order, table)?;
+    lists.insert(order.account, numbers)?;
+    Ok(())
+}
+
+/// The numbers that are listed of the account.
+pub(crate) fn numbers_in(lists: &IndexMap<AccountName, Numbers>, account: AccountName) -> &[u64]
+    ensures { result.now ≡ listed_of lists.now.entries account }
+{
+    match lists.get(&account) {
+        Some(numbers) => numbers.as_slice(),
+        None => &[],
+    }
+}
