@@ -84,7 +84,8 @@ fn note(rows: &mut [SpanRow], from: Moment, width: u64, left: &Record)
 
 fn note_all(rows: &mut [SpanRow], from: Moment, width: u64, records: &[Record])
     requires lasting { 0 < width }
-    requires first { (k : ℕ) → k < length rows.old → slice_get rows.old k ≡ Some no_records }
+    requires first { (k : ℕ) → k < length rows.old
+        → slice_get rows.old k ≡ Some no_records }
     ensures noted { (k : ℕ) → k < length rows.old
         → slice_get rows.new k ≡ Some (span_row records.now from width k) }
 {
