@@ -6,12 +6,11 @@ ghost use Rattle.gx_activity.specs.Activity.{activity_row, idle};
 ghost use Rattle.gx_activity.specs.Noting.{entries_done, entries_of_number, entries_told};
 ghost use Rattle.gx_activity.specs.Noting.{requests_with, row_in, row_with, so_far, NoteRecord};
 ghost use Rattle.gx_policy.specs.declared.policy.Account.{Account};
-ghost use Rattle.gx_overview.specs.Traders.{KnowTraders};
 
 use crate::deeds::Deed;
 use gx_history::record::{Fill, Record, Request, Step, Verdict};
 use gx_overview::owners::Owners;
-use gx_overview::traders::Traders;
+use gx_people::people::People;
 use gx_policy::{Account, Policy};
 use gx_records::ShowsRecords;
 use gx_units::{AccountName, OutOfMemory, UserName};
@@ -165,22 +164,22 @@ fn note_record(
     table: &mut IndexMap<AccountName, ActivityRow>,
     owners: &mut Owners,
     policy: &Policy,
-    traders: &Traders,
+    people: &People,
     left: &Record,
 ) -> Result<(), OutOfMemory>
-    requires traders { KnowTraders policy.now traders.now }
+    requires people { people.now ≡ policy.now.users }
     ensures noted { OnOk result (NoteRecord policy.now left.now
         owners.old owners.new table.old.entries table.new.entries) }
 {
     let shown = left.content();
     match (&shown.verdict, &shown.step) {
         (Verdict::Granted, Step::Asked(asked)) => {
-            let account = traders.account_of(policy, asked.user);
+            let account = people.account_of(asked.user);
             note_if_known(table, account, &Deed::Granted(asked.request))?;
-            owners.note(policy, traders, &shown, asked)
+            owners.note(policy, people, &shown, asked)
         }
         (Verdict::Denied(_), Step::Asked(asked)) => {
-            let account = traders.account_of(policy, asked.user);
+            let account = people.account_of(asked.user);
             note_if_known(table, account, &Deed::Denied(asked.request))
         }
         (Verdict::Filled(fill), _) => note_fill(table, owners, fill),
@@ -199,11 +198,11 @@ fn note_records(
     ensures noted { IfOk result (λ table. (a : Account)
         → row_in table.entries a.name ≡ so_far policy.now records.now a) }
 {
-    let traders = Traders::of(alloc, policy)?;
+    let people = People::new(alloc, policy)?;
     let mut table = IndexMap::new(alloc);
     let mut owners = Owners::new(alloc);
     for record in records {
-        note_record(&mut table, &mut owners, policy, &traders, record)?;
+        note_record(&mut table, &mut owners, policy, &people, record)?;
     }
     Ok(table)
 }

@@ -4,12 +4,11 @@ ghost use Rattle.std.specs.Prelude.{◌≡◌, IfOk, OnOk};
 ghost use Rattle.gx_activity.specs.Denials.{denial_in, denial_row, denial_rows, denials, row_of};
 ghost use Rattle.gx_activity.specs.declared.denials.Denial.{Denial};
 ghost use Rattle.gx_activity.specs.Denying.{counted_in, counted_once, denial_table, once_more};
-ghost use Rattle.gx_overview.specs.Traders.{KnowTraders};
 
 use crate::listing::rows_in;
 use gx_audit_bytes::rule_bytes;
 use gx_history::record::{Record, Step, Verdict};
-use gx_overview::traders::Traders;
+use gx_people::people::People;
 use gx_policy::Policy;
 use gx_records::ShowsRecords;
 use gx_units::{AccountName, OutOfMemory, RuleId};
@@ -44,8 +43,8 @@ impl DenialRow {
 }
 
 /// By which rule the record's request was denied, if it was, and of which account its user is.
-fn denial_in(policy: &Policy, traders: &Traders, left: &Record) -> Option<Denial>
-    requires traders { KnowTraders policy.now traders.now }
+fn denial_in(policy: &Policy, people: &People, left: &Record) -> Option<Denial>
+    requires people { people.now ≡ policy.now.users }
     ensures { result ≡ denial_in policy.now left.now }
 {
     let shown = left.content();
@@ -54,7 +53,7 @@ fn denial_in(policy: &Policy, traders: &Traders, left: &Record) -> Option<Denial
             rule: RuleId {
                 bytes: rule_bytes(*rule),
             },
-            account: traders.account_of(policy, asked.user),
+            account: people.account_of(asked.user),
         }),
         _ => None,
     }
@@ -75,14 +74,14 @@ fn count(table: &mut IndexMap<Denial, DenialRow>, denial: Denial) -> Result<(), 
 fn count_in(
     table: &mut IndexMap<Denial, DenialRow>,
     policy: &Policy,
-    traders: &Traders,
+    people: &People,
     left: &Record,
 ) -> Result<(), OutOfMemory>
-    requires traders { KnowTraders policy.now traders.now }
+    requires people { people.now ≡ policy.now.users }
     ensures counted { OnOk result
         (table.new.entries ≡ counted_in table.old.entries (denial_in policy.now left.now)) }
 {
-    match denial_in(policy, traders, left) {
+    match denial_in(policy, people, left) {
         Some(denial) => count(table, denial),
         None => Ok(()),
     }
@@ -97,10 +96,10 @@ fn count_all(
     ensures table { IfOk result
         (λ table. table.entries ≡ denial_table policy.now records.now) }
 {
-    let traders = Traders::of(alloc, policy)?;
+    let people = People::new(alloc, policy)?;
     let mut table = IndexMap::new(alloc);
     for record in records {
-        count_in(&mut table, policy, &traders, record)?;
+        count_in(&mut table, policy, &people, record)?;
     }
     Ok(table)
 }

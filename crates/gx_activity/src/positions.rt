@@ -7,13 +7,12 @@ ghost use Rattle.gx_activity.specs.declared.positions.Position.{Position};
 ghost use Rattle.gx_history.specs.Executions.{executions};
 ghost use Rattle.gx_activity.specs.Positioning.{entries_filled, entries_with};
 ghost use Rattle.gx_activity.specs.Positioning.{position_table, NotePositions};
-ghost use Rattle.gx_overview.specs.Traders.{KnowTraders};
 
 use crate::listing::rows_in;
 use gx_history::record::{Fill, Record, Step, Verdict};
 use gx_overview::executed::Executed;
 use gx_overview::owners::{Owner, Owners};
-use gx_overview::traders::Traders;
+use gx_people::people::People;
 use gx_policy::Policy;
 use gx_records::ShowsRecords;
 use gx_units::{AccountName, OutOfMemory, Symbol};
@@ -119,16 +118,16 @@ fn note_record(
     table: &mut IndexMap<Position, PositionRow>,
     owners: &mut Owners,
     policy: &Policy,
-    traders: &Traders,
+    people: &People,
     left: &Record,
 ) -> Result<(), OutOfMemory>
-    requires traders { KnowTraders policy.now traders.now }
+    requires people { people.now ≡ policy.now.users }
     ensures noted { OnOk result (NotePositions policy.now left.now
         owners.old owners.new table.old.entries table.new.entries) }
 {
     let shown = left.content();
     match (&shown.verdict, &shown.step) {
-        (Verdict::Granted, Step::Asked(asked)) => owners.note(policy, traders, &shown, asked),
+        (Verdict::Granted, Step::Asked(asked)) => owners.note(policy, people, &shown, asked),
         (Verdict::Filled(fill), _) => note_fill(table, owners, fill),
         _ => Ok(()),
     }
@@ -144,10 +143,10 @@ fn note_records(
         (λ table. table.entries ≡ position_table policy.now records.now) }
 {
     let mut table = IndexMap::new(alloc);
-    let traders = Traders::of(alloc, policy)?;
+    let people = People::new(alloc, policy)?;
     let mut owners = Owners::new(alloc);
     for record in records {
-        note_record(&mut table, &mut owners, policy, &traders, record)?;
+        note_record(&mut table, &mut owners, policy, &people, record)?;
     }
     Ok(table)
 }

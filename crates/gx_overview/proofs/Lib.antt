@@ -3,4 +3,3 @@ pub mod Keeping
 pub mod Counting
 pub mod Knowing
 pub mod Executing
-pub mod Naming

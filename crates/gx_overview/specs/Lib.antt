@@ -3,4 +3,3 @@ pub mod Accounts
 pub mod Rules
 pub mod Executed
 pub mod Owning
-pub mod Traders

@@ -5,11 +5,10 @@ ghost use Rattle.std.specs.Map.{lookup};
 ghost use Rattle.gx_history.specs.Executions.{executions};
 ghost use Rattle.gx_overview.specs.Executed.{executed_row, no_executions, row_filled};
 ghost use Rattle.gx_overview.specs.Executed.{rows_after, rows_filled, with_fill, NoteRecord};
-ghost use Rattle.gx_overview.specs.Traders.{KnowTraders};
 
 use crate::owners::{Owner, Owners};
-use crate::traders::Traders;
 use gx_history::record::{Fill, Record, Step, Verdict};
+use gx_people::people::People;
 use gx_policy::{Account, Policy};
 use gx_records::ShowsRecords;
 use gx_units::{AccountName, OutOfMemory, value_of};
@@ -96,16 +95,16 @@ fn note_record(
     rows: &mut [ExecutedRow],
     owners: &mut Owners,
     policy: &Policy,
-    traders: &Traders,
+    people: &People,
     left: &Record,
 ) -> Result<(), OutOfMemory>
-    requires traders { KnowTraders policy.now traders.now }
+    requires people { people.now ≡ policy.now.users }
     ensures noted { OnOk result
         (NoteRecord policy.now left.now owners.old owners.new rows.old rows.new) }
 {
     let shown = left.content();
     match (&shown.verdict, &shown.step) {
-        (Verdict::Granted, Step::Asked(asked)) => owners.note(policy, traders, &shown, asked),
+        (Verdict::Granted, Step::Asked(asked)) => owners.note(policy, people, &shown, asked),
         (Verdict::Filled(fill), _) => {
             note_fill(rows, owners, fill);
             Ok(())
@@ -124,10 +123,10 @@ fn note_records(
     ensures noted { OnOk result
         (rows.new ≡ fold rows_after rows.old (executions policy.now records.now)) }
 {
-    let traders = Traders::of(alloc, policy)?;
+    let people = People::new(alloc, policy)?;
     let mut owners = Owners::new(alloc);
     for record in records {
-        note_record(rows, &mut owners, policy, &traders, record)?;
+        note_record(rows, &mut owners, policy, &people, record)?;
     }
     Ok(())
 }

@@ -9,4 +9,3 @@ pub mod day;
 pub mod executed;
 pub mod owners;
 pub mod rules;
-pub mod traders;

@@ -7,12 +7,11 @@ ghost use Rattle.gx_history.specs.declared.record.Request.TheVariants as request
 ghost use Rattle.gx_policy.specs.declared.policy.PolicyData.{PolicyData};
 ghost use Rattle.gx_overview.specs.Executed.{is_key, KnowOrders};
 ghost use Rattle.gx_overview.specs.Owning.{IsNumbered, IsOneMore, Learn};
-ghost use Rattle.gx_overview.specs.Traders.{KnowTraders};
 
-use crate::traders::Traders;
 use gx_history::live_order::UserToken;
 use gx_history::record::{Asked, RecordData, Request};
 use gx_ouch::{EnterOrder, ReplaceOrder};
+use gx_people::people::People;
 use gx_policy::Policy;
 use gx_units::{AccountName, OutOfMemory, Symbol, Token, UserName};
 use indexmap::IndexMap;
@@ -87,16 +86,16 @@ impl Owners {
     fn note_entered(
         &mut self,
         policy: &Policy,
-        traders: &Traders,
+        people: &People,
         shown: &RecordData,
         user: UserName,
         m: &EnterOrder,
     ) -> Result<(), OutOfMemory>
-        requires traders { KnowTraders policy.now traders.now }
+        requires people { people.now ≡ policy.now.users }
         ensures noted { OnOk result (Learn self.old self.new (λ known.
             orders_made policy.now known shown.now user (requests.Enter m.now))) }
     {
-        let Some(account) = traders.account_of(policy, user) else {
+        let Some(account) = people.account_of(user) else {
             return Ok(());
         };
         let token = m.token;
@@ -125,7 +124,7 @@ impl Owners {
         self.take_in(shown.number, UserToken { user, token }, owner)
     }
 
-    /// Notes the order that a granted request makes, if it makes one; whose it is, the policy's traders tell.
+    /// Notes the order that a granted request makes, if it makes one; whose it is, the policy's people tell.
     ///
     /// # Errors
     ///
@@ -133,16 +132,16 @@ impl Owners {
     pub fn note(
         &mut self,
         policy: &Policy,
-        traders: &Traders,
+        people: &People,
         shown: &RecordData,
         asked: &Asked,
     ) -> Result<(), OutOfMemory>
-        requires traders { KnowTraders policy.now traders.now }
+        requires people { people.now ≡ policy.now.users }
         ensures noted { OnOk result (Learn self.old self.new (λ known.
             orders_made policy.now known shown.now asked.now.user asked.now.request)) }
     {
         match &asked.request {
-            Request::Enter(m) => self.note_entered(policy, traders, shown, asked.user, m),
+            Request::Enter(m) => self.note_entered(policy, people, shown, asked.user, m),
             Request::Replace(m) => self.note_replacing(shown, asked.user, m),
             _ => Ok(()),
         }

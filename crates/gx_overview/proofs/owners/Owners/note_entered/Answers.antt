@@ -1,10 +1,16 @@
-use Rattle.std.proofs.Common.{◌∙◌, sym}
+use Rattle.std.proofs.Common.{◌∙◌, ap, sym}
+use Rattle.std.specs.Option.{option_and_then}
+use Rattle.std.specs.Prelude.{List}
+use Rattle.gx_policy.specs.People.{account_of_role, role_in}
+use Rattle.gx_policy.specs.declared.policy.User.{User}
 use Rattle.gx_overview.proofs.Knowing.{entered_known, ok_then}
 use Rattle.gx_overview.proofs.owners.Owners.note_entered.Goals as goal
 
 pub returns : goal.returns
-returns c = record {
+returns c =
+    let known = ap (λ (users : List User). option_and_then account_of_role (role_in users c.args.user)) (sym c.requires.people) in
+    record {
   noted =
       ok_then c.take_in.result
-      (entered_known c.args.policy.now c.args.shown.now c.args.user c.args.m.now c.in-Some.account c.args.self.now c.take_in.new.self (sym c.account_of.ensures ∙ c.in-Some.is)) c.take_in.ensures.taken;
+      (entered_known c.args.policy.now c.args.shown.now c.args.user c.args.m.now c.in-Some.account c.args.self.now c.take_in.new.self (known ∙ sym c.account_of.ensures ∙ c.in-Some.is)) c.take_in.ensures.taken;
 }
