@@ -47,7 +47,7 @@ use gx_shared::{Kept, Served, serve, serve_journaled};
 use gx_units::{Moment, OutOfMemory};
 use keeping::{Day, JournalDevice, look_back, open_journal, take_up, tell_cut};
 use limits::places_for;
-use report::report;
+use report::report_told;
 use showing::show_under;
 use starts::{Start, audit_version};
 use state::state;
@@ -578,11 +578,10 @@ fn run<'a>(rt: &HostRuntime, asked: Asked<'a>) -> Result<ExitCode, Ended<'a>> {
         Asked::Policy(file) => policy(rt, file)?,
         Asked::Migrate(file) => migrate(rt, file)?,
         // by `main`, which alone may start threads
-        Asked::Serve(_) | Asked::Desk(_) => {}
+        Asked::Serve(_) | Asked::Desk(_) | Asked::Report(_, _) => {}
         Asked::Check(files) => return check(rt, files),
         Asked::Show(files, wanted, shape) => return show(rt, files, wanted, shape),
         Asked::State(files, asked) => return state(rt, files, asked),
-        Asked::Report(files, form) => return report(rt, files, form),
     }
     Ok(ExitCode::SUCCESS)
 }
@@ -708,6 +707,7 @@ fn main(rt: HostRuntime) -> ExitCode {
     match asked_of(&rt, words.as_slice()) {
         Ok(Asked::Serve(serving)) => serve_told(&rt, &rt, serving),
         Ok(Asked::Desk(desk)) => desk_told(&rt, &rt, desk),
+        Ok(Asked::Report(files, form)) => report_told(&rt, &rt, files, form),
         Ok(asked) => done(&rt, asked),
         Err(status) => status,
     }

@@ -4,7 +4,7 @@ ghost use Rattle.std.specs.Prelude.{◌^◌, ◌<◌};
 
 use crate::ending::{Ended, Place};
 use crate::files::{Content, bytes_of};
-use gx_audit::endings_of;
+use gx_audit::{endings_of, order_ends_of};
 use gx_clock::TimeOfDay;
 use gx_command_line::{Shape, TableForm, Wanted};
 use gx_core::Gate;
@@ -16,8 +16,8 @@ use gx_policy::Policy;
 use gx_server::Noted;
 use gx_shortened::Shortened;
 use gx_show::{
-    AskedNames, AuditRecords, Choice, FindingFault, ShownForm, Style, UnknownName, choice_of,
-    found_in_audit, is_known_in_capitals, write_records,
+    AskedNames, AuditRecords, Choice, FindingFault, OrderLife, ShownForm, Style, UnknownName,
+    choice_of, found_in_audit, is_known_in_capitals, write_records,
 };
 use gx_units::OutOfMemory;
 use std::alloc::Global;
@@ -35,10 +35,9 @@ fn moment_of(time: Option<TimeOfDay>, other: u64) -> u64 {
     }
 }
 
-/// What is asked for but for names.
+/// What is asked for but for names and an order.
 fn unnamed(wanted: &Wanted) -> Choice {
     Choice {
-        order: wanted.order,
         only_denied: wanted.only_denied,
         from: moment_of(wanted.from, 0),
         to: moment_of(wanted.to, u64::MAX),
@@ -179,6 +178,24 @@ fn show_chosen<'a>(
     write_found(rt, policy, audit, style, &found)
 }
 
+/// The life of the order of this number, if one is asked for.
+fn life_of(
+    alloc: Global,
+    policy: &Policy,
+    audit: &[u8],
+    order: Option<u64>,
+) -> Result<Option<OrderLife>, OutOfMemory> {
+    let Some(number) = order else {
+        return Ok(None);
+    };
+    let ends = order_ends_of::<Gate>(alloc, policy, audit)?;
+    let end = ends.iter().find(|end| end.order == number);
+    Ok(Some(OrderLife {
+        number,
+        ended_by: end.map(|end| end.ended_by),
+    }))
+}
+
 /// Shows the records of the audit in this file that are wanted: the status that says what the audit is, or that a name is
 /// not the policy's.
 pub(crate) fn show_under<'a>(
@@ -188,10 +205,11 @@ pub(crate) fn show_under<'a>(
     wanted: Wanted<'a>,
     shape: Shape,
 ) -> Result<ExitCode, Ended<'a>> {
-    let choice = match choice_of(policy, &names_of(&wanted), &unnamed(&wanted)) {
+    let mut choice = match choice_of(policy, &names_of(&wanted), &unnamed(&wanted)) {
         Ok(choice) => choice,
         Err(unknown) => return Ok(tell_unknown(rt, policy, &wanted, unknown)),
     };
     let audit = bytes_of(rt, path, Content::Records)?;
+    choice.order = life_of(rt.alloc(), policy, audit.as_slice(), wanted.order)?;
     show_chosen(rt, policy, audit.as_slice(), &choice, &style_of(shape))
 }

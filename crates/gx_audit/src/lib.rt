@@ -21,7 +21,7 @@ mod writing_fault;
 pub use beginning::{replay_first, replay_watched};
 pub use checking::{check_audit, check_record, is_of_other_policy, record_at};
 pub use day::{audit_of, header_of};
-pub use endings::endings_of;
+pub use endings::{endings_of, order_ends_of};
 pub use explaining::more_of_audit;
 pub use fault::AuditFault;
 pub use keeping::write_audit;

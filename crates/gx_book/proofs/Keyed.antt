@@ -1,8 +1,8 @@
 -- What stands under the rank of its price and its number is in price-time priority.
 use Rattle.std.proofs.Common.{◌≡◌, ℕ, ◌+◌, ◌<◌, ◌≤◌, inl, inr, Bool, true, false, cond, not, ◌||◌, List, [], ◌∷◌, refl, ◌∙◌, sym, ap, subst, arith, eq-eqb, if◌then◌else◌}
-use Rattle.std.specs.Prelude.{nat_lt, Some, is_some}
+use Rattle.std.specs.Prelude.{nat_lt, Some, is_some, option_map, slice_get}
 use Rattle.std.specs.BTreeMap.{insert_entry, is_at}
-use Rattle.std.specs.List.{AllByRecursion, list_all, list_any, filter}
+use Rattle.std.specs.List.{AllByRecursion, list_all, list_any}
 use Rattle.std.specs.List.Sorted.{IsStrictlySortedBy}
 use Rattle.std.specs.Map.{keys_of, values_of, lookup, remove_entry}
 use Rattle.std.specs.Ordering.{is_eq, nat_cmp, match_ordering, ordering_then, MatchOrdering}
@@ -10,8 +10,9 @@ use Rattle.std.specs.declared.cmp.Ordering.{Ordering}
 use Rattle.std.specs.declared.cmp.Ordering.TheVariants.{Less, Equal, Greater}
 use Rattle.std.proofs.lemmas.Bool.{and_from, and_parts, cases_eq, eqb-true, lt-ltb, le-ltb, false_from_ne_true}
 use Rattle.std.proofs.lemmas.Cmp.{ranked}
+use Rattle.gx_units.specs.declared.names.AccountName.{AccountName}
 use Rattle.gx_book.specs.declared.resting.Resting.{Resting}
-use Rattle.gx_book.specs.Keys.{are_keyed, is_keyed, is_rank}
+use Rattle.gx_book.specs.Keys.{are_keyed, is_keyed, is_rank, order_at, orders_at, price_at}
 use Rattle.gx_book.specs.Queue.{IsLatest, is_better, is_numbered, is_same, with_order, without_order}
 use Rattle.gx_book.proofs.Order.{ahead_of_all, all_pass, behind_first}
 
@@ -68,7 +69,7 @@ behind_all buy e k (f ∷ fs) here there below all =
     and_from _ _ ((tells buy e f here parts.0).0 ∙ lt-ltb e.0.0 f.0.0 (omega (arith, below, above))) (behind_all buy e k fs here parts.1 below all.1)
 
 -- the latest of its price goes to its place
-pub put_is : (buy : Bool) (k : ℕ × ℕ) (r : Resting) (es : List ((ℕ × ℕ) × Resting)) → is_keyed buy (k, r) ≡ true → are_keyed buy es ≡ true
+put_is : (buy : Bool) (k : ℕ × ℕ) (r : Resting) (es : List ((ℕ × ℕ) × Resting)) → is_keyed buy (k, r) ≡ true → are_keyed buy es ≡ true
     → IsStrictlySortedBy key_cmp (keys_of es) → IsLatest r (values_of es)
     → (are_keyed buy (insert_entry key_cmp es k r) ≡ true) × (values_of (insert_entry key_cmp es k r) ≡ with_order buy r (values_of es))
 unfolding IsStrictlySortedBy
@@ -134,7 +135,7 @@ apart_all buy e (f ∷ fs) here there all =
     and_from _ _ (ap not (same_by_key buy e f here parts.0 ∙ ap is_eq all.0)) (apart_all buy e fs here parts.1 all.1)
 
 -- the order is taken out
-pub taken_is : (buy : Bool) (k : ℕ × ℕ) (gone : Resting) (es : List ((ℕ × ℕ) × Resting)) → is_keyed buy (k, gone) ≡ true → are_keyed buy es ≡ true → IsStrictlySortedBy key_cmp (keys_of es)
+taken_is : (buy : Bool) (k : ℕ × ℕ) (gone : Resting) (es : List ((ℕ × ℕ) × Resting)) → is_keyed buy (k, gone) ≡ true → are_keyed buy es ≡ true → IsStrictlySortedBy key_cmp (keys_of es)
     → (are_keyed buy (remove_entry (is_at (key_cmp k)) es) ≡ true) × (values_of (remove_entry (is_at (key_cmp k)) es) ≡ without_order gone (values_of es))
 unfolding IsStrictlySortedBy
 taken_is buy k gone [] here keyed sorted = (refl, refl)
@@ -162,7 +163,7 @@ taken_is buy k gone (e ∷ es) here keyed sorted =
             (parts.1, sym (all_pass (λ x. not (is_same gone x)) (values_of es) (apart_all buy (k, gone) es here parts.1 behind)) ∙ sym out)
 
 -- whether it was there
-pub found_is : (buy : Bool) (k : ℕ × ℕ) (gone : Resting) (es : List ((ℕ × ℕ) × Resting)) → is_keyed buy (k, gone) ≡ true → are_keyed buy es ≡ true
+found_is : (buy : Bool) (k : ℕ × ℕ) (gone : Resting) (es : List ((ℕ × ℕ) × Resting)) → is_keyed buy (k, gone) ≡ true → are_keyed buy es ≡ true
     → is_some (lookup (is_at (key_cmp k)) es) ≡ list_any (is_same gone) (values_of es)
 found_is buy k gone [] here keyed = refl
 found_is buy k gone (e ∷ es) here keyed =
@@ -173,9 +174,77 @@ found_is buy k gone (e ∷ es) here keyed =
     ]
     ∙ ap (λ b. b || list_any (is_same gone) (values_of es)) (sym (same_by_key buy (k, gone) e here parts.0))
 
--- what passes a test of the orders
-pub passing_is : (p : Resting → Bool) (es : List ((ℕ × ℕ) × Resting)) → values_of (filter (λ e. p e.1) es) ≡ filter p (values_of es)
-passing_is p [] = refl
-passing_is p (e ∷ es) =
-    elim (p e.1) as (λ b. values_of (cond b (e ∷ filter (λ f. p f.1) es) (filter (λ f. p f.1) es)) ≡ cond b (e.1 ∷ filter p (values_of es)) (filter p (values_of es)))
-    [ true ↦ ap (λ rest. e.1 ∷ rest) (passing_is p es) | false ↦ passing_is p es ]
+-- ---- accounts under keys, and the orders that are meant
+
+-- the price of a rank, and the rank of a price
+pub order_is_keyed : (buy : Bool) (r : Resting) (rank : ℕ) → r.price ≤ 4294967295 → rank ≡ price_at buy r.price
+    → (is_keyed buy ((rank, r.number), r) ≡ true) × (order_at buy ((rank, r.number), r.account) ≡ ((rank, r.number), r))
+order_is_keyed true r rank few is =
+    (and_from _ _ (eq-eqb _ _ (omega (arith, few, is))) (eq-eqb r.number r.number refl), ap (λ (price : ℕ). ((rank, r.number), record r { price = price })) (omega (arith, few, is)))
+order_is_keyed false r rank few is =
+    (and_from _ _ (eq-eqb _ _ (sym is)) (eq-eqb r.number r.number refl), ap (λ (price : ℕ). ((rank, r.number), record r { price = price })) is)
+
+-- the first order
+pub first_at : (buy : Bool) (es : List ((ℕ × ℕ) × AccountName)) (k : ℕ × ℕ) (account : AccountName) (price : ℕ) → slice_get es 0 ≡ Some (k, account) → price ≡ price_at buy k.0
+    → Some (record { number = k.1; account = account; price = price }) ≡ slice_get (values_of (orders_at buy es)) 0
+first_at buy [] k account price first is = cc
+first_at buy (e ∷ es) k account price first is =
+    ap (λ (p : ℕ). Some (record { number = k.1; account = account; price = p })) is ∙ ap (option_map (λ (f : (ℕ × ℕ) × AccountName). (order_at buy f).1)) (sym first)
+
+keys_stay : (buy : Bool) (es : List ((ℕ × ℕ) × AccountName)) → keys_of (orders_at buy es) ≡ keys_of es
+keys_stay buy [] = refl
+keys_stay buy (e ∷ es) = ap (λ keys. e.0 ∷ keys) (keys_stay buy es)
+
+inserted : (buy : Bool) (k : ℕ × ℕ) (account : AccountName) (es : List ((ℕ × ℕ) × AccountName))
+    → orders_at buy (insert_entry key_cmp es k account) ≡ insert_entry key_cmp (orders_at buy es) k (order_at buy (k, account)).1
+inserted buy k account [] = refl
+inserted buy k account (e ∷ es) = by (key_cmp k e.0) refl (inserted buy k account es)
+  where
+    into : Ordering → List ((ℕ × ℕ) × AccountName)
+    into o = match_ordering o ((k, account) ∷ e ∷ es) ((e.0, account) ∷ es) (e ∷ insert_entry key_cmp es k account)
+
+    meant : Ordering → List ((ℕ × ℕ) × Resting)
+    meant o =
+        match_ordering o ((k, (order_at buy (k, account)).1) ∷ order_at buy e ∷ orders_at buy es) ((e.0, (order_at buy (k, account)).1) ∷ orders_at buy es)
+        (order_at buy e ∷ insert_entry key_cmp (orders_at buy es) k (order_at buy (k, account)).1)
+
+    by : (o : Ordering) → o ≡ key_cmp k e.0 → orders_at buy (insert_entry key_cmp es k account) ≡ insert_entry key_cmp (orders_at buy es) k (order_at buy (k, account)).1 → orders_at buy (into o) ≡ meant o
+    by Less is later = refl
+    by Equal is later = ap (λ (key : ℕ × ℕ). (e.0, (order_at buy (key, account)).1) ∷ orders_at buy es) (sym (compared k e.0 Equal is))
+    by Greater is later = ap (λ rest. order_at buy e ∷ rest) later
+
+removed : (buy : Bool) (test : ℕ × ℕ → Bool) (es : List ((ℕ × ℕ) × AccountName)) → orders_at buy (remove_entry test es) ≡ remove_entry test (orders_at buy es)
+removed buy test [] = refl
+removed buy test (e ∷ es) =
+    elim (test e.0) as (λ b. orders_at buy (cond b es (e ∷ remove_entry test es)) ≡ cond b (orders_at buy es) (order_at buy e ∷ remove_entry test (orders_at buy es))) [
+      | true ↦ refl
+      | false ↦ ap (λ rest. order_at buy e ∷ rest) (removed buy test es)
+    ]
+
+found : (buy : Bool) (test : ℕ × ℕ → Bool) (es : List ((ℕ × ℕ) × AccountName)) → is_some (lookup test es) ≡ is_some (lookup test (orders_at buy es))
+found buy test [] = refl
+found buy test (e ∷ es) =
+    elim (test e.0) as (λ b. is_some (cond b (Some e.1) (lookup test es)) ≡ is_some (cond b (Some (order_at buy e).1) (lookup test (orders_at buy es)))) [
+      | true ↦ refl
+      | false ↦ found buy test es
+    ]
+
+pub put_at : (buy : Bool) (k : ℕ × ℕ) (r : Resting) (es : List ((ℕ × ℕ) × AccountName)) → is_keyed buy (k, r) ≡ true → order_at buy (k, r.account) ≡ (k, r)
+    → are_keyed buy (orders_at buy es) ≡ true → IsStrictlySortedBy key_cmp (keys_of es) → IsLatest r (values_of (orders_at buy es))
+    → (are_keyed buy (orders_at buy (insert_entry key_cmp es k r.account)) ≡ true) × (values_of (orders_at buy (insert_entry key_cmp es k r.account)) ≡ with_order buy r (values_of (orders_at buy es)))
+put_at buy k r es here meant keyed sorted latest =
+    let same : orders_at buy (insert_entry key_cmp es k r.account) ≡ insert_entry key_cmp (orders_at buy es) k r =
+    inserted buy k r.account es ∙ ap (λ (e : (ℕ × ℕ) × Resting). insert_entry key_cmp (orders_at buy es) k e.1) meant in
+    let all = put_is buy k r (orders_at buy es) here keyed (subst (IsStrictlySortedBy key_cmp) (sym (keys_stay buy es)) sorted) latest in
+    (ap (are_keyed buy) same ∙ all.0, ap values_of same ∙ all.1)
+
+pub taken_at : (buy : Bool) (k : ℕ × ℕ) (gone : Resting) (es : List ((ℕ × ℕ) × AccountName)) → is_keyed buy (k, gone) ≡ true → are_keyed buy (orders_at buy es) ≡ true → IsStrictlySortedBy key_cmp (keys_of es)
+    → (are_keyed buy (orders_at buy (remove_entry (is_at (key_cmp k)) es)) ≡ true) × (values_of (orders_at buy (remove_entry (is_at (key_cmp k)) es)) ≡ without_order gone (values_of (orders_at buy es)))
+taken_at buy k gone es here keyed sorted =
+    let same = removed buy (is_at (key_cmp k)) es in
+    let all = taken_is buy k gone (orders_at buy es) here keyed (subst (IsStrictlySortedBy key_cmp) (sym (keys_stay buy es)) sorted) in
+    (ap (are_keyed buy) same ∙ all.0, ap values_of same ∙ all.1)
+
+pub found_at : (buy : Bool) (k : ℕ × ℕ) (gone : Resting) (es : List ((ℕ × ℕ) × AccountName)) → is_keyed buy (k, gone) ≡ true → are_keyed buy (orders_at buy es) ≡ true
+    → is_some (lookup (is_at (key_cmp k)) es) ≡ list_any (is_same gone) (values_of (orders_at buy es))
+found_at buy k gone es here keyed = found buy (is_at (key_cmp k)) es ∙ found_is buy k gone (orders_at buy es) here keyed

@@ -3,12 +3,12 @@
 ghost use Rattle.std.specs.Prelude.{◌≡◌, is_some, IfOk, OnOk, OnErr};
 ghost use Rattle.gx_history.specs.Book.{is_buy};
 ghost use Rattle.gx_book.specs.Books.{IsSound, best_in, empty_book, on_each_side, on_side, resting_in, stock_in, with_rested};
-ghost use Rattle.gx_book.specs.Queue.{IsLatest, is_among, no_orders, without_account, without_order};
+ghost use Rattle.gx_book.specs.Queue.{IsLatest, is_among, no_orders, without_order};
 
 use crate::resting::{Resting, is_buy};
 use crate::sides::Sides;
 use gx_policy::Policy;
-use gx_units::{AccountName, OutOfMemory, Symbol};
+use gx_units::{OutOfMemory, Symbol};
 use indexmap::IndexMap;
 use std::alloc::Global;
 use std::marker::Model;
@@ -100,16 +100,6 @@ impl Book {
             return false;
         };
         sides.remove(is_buy(side), gone)
-    }
-
-    /// Takes the account's orders out; the others stay in their order. It looks at each order.
-    pub fn remove_account(&mut self, account: AccountName)
-        ensures left { self.new ≡ on_each_side (without_account account) self.old }
-    {
-        self.by_stock.retain(|_, sides| {
-            sides.remove_account(account);
-            true
-        });
     }
 
     /// Takes all orders out; the stocks stay.

@@ -2,8 +2,8 @@
 
 ghost use Rattle.std.specs.Prelude.{◌≡◌, [], IsTrue, OnOk, OnErr, slice_get};
 ghost use Rattle.gx_history.specs.Book.{is_buy};
-ghost use Rattle.gx_book.specs.Queue.{IsLatest, is_among, with_order, without_account, without_order};
-ghost use Rattle.gx_book.specs.Keys.{is_keyed};
+ghost use Rattle.gx_book.specs.Queue.{IsLatest, is_among, with_order, without_order};
+ghost use Rattle.gx_book.specs.Keys.{is_keyed, order_at, price_at};
 
 use crate::resting::{Resting, is_buy};
 use gx_units::{AccountName, OutOfMemory};
@@ -14,8 +14,8 @@ use std::marker::Model;
 /// The orders on one side of a stock, that of buys or of sells, in price-time priority.
 #[derive(Drop)]
 pub(crate) struct Side<const SIDE: u8> {
-    /// By the rank of the price and the order's number.
-    orders: BTreeMap<(u32, u64), Resting>,
+    /// Each order's account, by the rank of its price and its number.
+    orders: BTreeMap<(u32, u64), AccountName>,
 }
 
 impl<const SIDE: u8> Model for Side<SIDE> {
@@ -23,13 +23,14 @@ impl<const SIDE: u8> Model for Side<SIDE> {
     ghost use Rattle.std.specs.Map.{values_of};
     ghost use Rattle.gx_history.specs.Book.{is_buy};
     ghost use Rattle.gx_book.specs.declared.resting.Resting.{Resting};
-    ghost use Rattle.gx_book.specs.Keys.{are_keyed};
+    ghost use Rattle.gx_book.specs.Keys.{are_keyed, orders_at};
 
     ghost Value = { List Resting };
 
-    ghost view = { λ side. values_of side.orders.entries };
+    ghost view = { λ side. values_of (orders_at (is_buy SIDE) side.orders.entries) };
 
-    ghost invariant = { λ side. IsTrue (are_keyed (is_buy SIDE) side.orders.entries) };
+    ghost invariant = { λ side.
+        IsTrue (are_keyed (is_buy SIDE) (orders_at (is_buy SIDE) side.orders.entries)) };
 }
 
 impl<const SIDE: u8> Side<SIDE> {
@@ -42,24 +43,36 @@ impl<const SIDE: u8> Side<SIDE> {
         }
     }
 
-    /// The rank of the order's price on this side, and its number. The better the price, the lower the rank.
-    fn key_of(order: &Resting) -> (u32, u64)
-        ensures { IsTrue (is_keyed (is_buy SIDE) (result, order.now)) }
+    /// The rank of a price on this side, and the price of a rank. The better the price, the lower the rank.
+    fn turned(price: u32) -> u32
+        ensures { result ≡ price_at (is_buy SIDE) price }
     {
-        let rank = if is_buy(SIDE) {
-            u32::MAX - order.price
+        if is_buy(SIDE) {
+            u32::MAX - price
         } else {
-            order.price
-        };
-        (rank, order.number)
+            price
+        }
+    }
+
+    /// The rank of the order's price on this side, and its number.
+    #[tactic(auto, using(crate::proofs::Keyed::order_is_keyed))]
+    fn key_of(order: &Resting) -> (u32, u64)
+        ensures keyed { IsTrue (is_keyed (is_buy SIDE) (result, order.now)) }
+        ensures meant { order_at (is_buy SIDE) (result, order.now.account) ≡ (result, order.now) }
+    {
+        (Self::turned(order.price), order.number)
     }
 
     /// The best order.
     pub(crate) fn first(&self) -> Option<Resting>
         ensures { result ≡ slice_get self.now 0 }
     {
-        let (_, order) = self.orders.first_key_value()?;
-        Some(*order)
+        let ((rank, number), account) = self.orders.first_key_value()?;
+        Some(Resting {
+            number: *number,
+            account: *account,
+            price: Self::turned(*rank),
+        })
     }
 
     /// Puts the order behind all of equal or better price.
@@ -68,7 +81,7 @@ impl<const SIDE: u8> Side<SIDE> {
         ensures ok { OnOk result (self.new ≡ with_order (is_buy SIDE) added self.old) }
         ensures err { OnErr result (self.new ≡ self.old) }
     {
-        self.orders.insert(Self::key_of(&added), added)?;
+        self.orders.insert(Self::key_of(&added), added.account)?;
         Ok(())
     }
 
@@ -81,13 +94,6 @@ impl<const SIDE: u8> Side<SIDE> {
         let _ = self.orders.len();
         let key = Self::key_of(gone);
         self.orders.remove(&key).is_some()
-    }
-
-    /// Takes the account's orders out.
-    pub(crate) fn remove_account(&mut self, account: AccountName)
-        ensures { self.new ≡ without_account account self.old }
-    {
-        self.orders.retain(|_, order| order.account != account);
     }
 
     /// Takes all orders out.

@@ -1,12 +1,12 @@
 //! The two sides of a stock.
 
 ghost use Rattle.std.specs.Prelude.{◌≡◌, [], OnOk, OnErr, slice_get};
-ghost use Rattle.gx_book.specs.Queue.{IsLatest, is_among, no_orders, with_order, without_account, without_order};
+ghost use Rattle.gx_book.specs.Queue.{IsLatest, is_among, no_orders, with_order, without_order};
 ghost use Rattle.gx_book.specs.Table.{both_changed, changed, side_in};
 
 use crate::resting::Resting;
 use crate::side::Side;
-use gx_units::{AccountName, OutOfMemory};
+use gx_units::OutOfMemory;
 use std::alloc::Global;
 
 /// The buys and the sells of a stock.
@@ -62,14 +62,6 @@ impl Sides {
         } else {
             self.sells.remove(gone)
         }
-    }
-
-    /// Takes the account's orders out.
-    pub(crate) fn remove_account(&mut self, account: AccountName)
-        ensures { self.new ≡ both_changed (without_account account) self.old }
-    {
-        self.buys.remove_account(account);
-        self.sells.remove_account(account);
     }
 
     /// Takes all orders out.

@@ -11,6 +11,7 @@ use crate::places::{first_history, keep_for, keep_one};
 use crate::pulling::pull;
 use gx_answers::{AccessGate, LoginAnswer, Outcome, Pulled, StepFault, record_of, record_of_match};
 use gx_history::history::History;
+use gx_history::moves::Move;
 use gx_history::record::{Asked, Record, Request, Verdict};
 use gx_history::slices::slice;
 use gx_keepers::apply::carry_on;
@@ -79,21 +80,23 @@ impl AccessGate for Gate {
     }
 
     fn step(&mut self, a: Asked) -> Result<Outcome, StepFault> {
-        let judged = self.judge(&a);
-        let outcome = judged.outcome;
+        let known = self.facts_of(&a);
+        let outcome = self.judge(&a, &known);
         let entry = record_of(&a, outcome);
-        let record = Record::new(entry);
+        let mut moves = Move::Nothing;
+        self.put_asked_move(&mut moves, &a, &entry, &known);
         keep_for(&mut self.history, &self.policy, &a, outcome.verdict)?;
         carry_on(
             &mut self.keepers,
             NextRecord {
                 policy: &self.policy,
                 history: &self.history,
-                moves: &judged.moves,
+                moves: &moves,
                 left: &entry,
             },
             &a,
         )?;
+        let record = Record::new(entry);
         self.history.push_reserved(record);
         Ok(outcome)
     }
@@ -104,7 +107,6 @@ impl AccessGate for Gate {
         };
         let outcome = self.match_outcome(&first, handed);
         let entry = record_of_match(handed, outcome);
-        let record = Record::new(entry);
         let moves = matched_move(outcome.verdict);
         keep_one(&mut self.history, &self.policy)?;
         carry_match(
@@ -116,6 +118,7 @@ impl AccessGate for Gate {
                 left: &entry,
             },
         )?;
+        let record = Record::new(entry);
         self.history.push_reserved(record);
         Ok(Some(outcome))
     }

@@ -5,33 +5,24 @@ ghost use Rattle.gx_history.specs.declared.record.Step.TheVariants as steps;
 ghost use Rattle.gx_history.specs.Asking.{changes, facts, fits_role, has_power, is_on_line, knows_user, lists_its_stock};
 ghost use Rattle.gx_policy.specs.People.{account_named, account_of, role_in};
 ghost use Rattle.gx_history.specs.Showing.{answers, is_askable, is_showable};
-ghost use Rattle.gx_history.specs.Verdicts.{moment_of, next, verdict};
+ghost use Rattle.gx_history.specs.Verdicts.{facts_now, moment_of, next, verdict};
 ghost use Rattle.gx_people.specs.Entitled.{holds_in_role};
 ghost use Rattle.gx_answers.specs.Gates.{left_by};
-ghost use Rattle.gx_core.specs.Moves.{done_by};
 ghost use Rattle.gx_core.specs.Known.{accounts_held, change_asked, has_used, is_available_after, names_known, order_asked, power_held, role_asking};
 ghost use Rattle.gx_answers.specs.Steps.{next_of, verdict_of};
 ghost use Rattle.gx_answers.specs.Told.{stream_of};
 
 use crate::gate::Gate;
-use gx_answers::{AccessGate, Outcome, record_of};
+use gx_answers::{AccessGate, Outcome};
 use gx_decide::decide;
 use gx_desk::Action;
 use gx_history::facts::Facts;
 use gx_history::live_order::LiveOrder;
-use gx_history::moves::Move;
 use gx_history::record::{Asked, Request, Verdict};
 use gx_keepers::listed::{account_named, fits_firm};
 use gx_orders::request_tokens::{named_token, new_token};
 use gx_people::power::Power;
 use gx_units::{AccountName, Moment, UserName};
-
-/// What a request comes to: the outcome of its step, and what its record does.
-#[derive(Drop)]
-pub(crate) struct Judged {
-    pub(crate) outcome: Outcome,
-    pub(crate) moves: Move,
-}
 
 fn is_on_line(on: Option<u16>, line: u16) -> bool
     ensures { result ≡ is_on_line on line }
@@ -114,12 +105,20 @@ impl Gate {
         self.keepers.orders.under(a.user, named_token(&a.request)?)
     }
 
-    /// What the rules ask of the records, for a request at this moment.
+    /// The moment of the record that the request leaves: that handed in, or that of the record before where it is later.
+    fn moment_of(&self, a: &Asked) -> Moment
+        ensures { result ≡ moment_of self.now.records (steps.Asked a.now) }
+    {
+        a.handed.max(self.last_moment())
+    }
+
+    /// What the rules ask of the records, for a request at the moment of its record.
     #[tactic(auto, unfolding(gx_history::specs::Asking::facts))]
-    fn facts_of(&self, a: &Asked, moment: Moment) -> Facts
-        ensures told { result ≡ facts self.now.policy self.now.records a.now moment }
+    pub(crate) fn facts_of(&self, a: &Asked) -> Facts
+        ensures told { result ≡ facts_now self.now.policy self.now.records a.now }
         ensures account { result.account ≡ account_of self.now.policy a.now.user }
         ensures named { result.named ≡ order_asked self.now a.now }
+        ensures moment { result.moment ≡ moment_of self.now.records (steps.Asked a.now) }
     {
         let account = self.account_of(a.user);
         let on = self.on(a.user);
@@ -141,15 +140,14 @@ impl Gate {
             accounts_are_his: command.accounts_are_his,
             would_change: command.would_change,
             account,
-            moment,
+            moment: self.moment_of(a),
         }
     }
 
-    /// The verdict on a request, at the moment of its record, by what the rules ask: denied by the first rule of the written
-    /// order that forbids it, and else granted.
-    fn verdict(&self, a: &Asked, moment: Moment, known: &Facts) -> Verdict
-        requires moment { moment ≡ moment_of self.now.records (steps.Asked a.now) }
-        requires known { known.now ≡ facts self.now.policy self.now.records a.now moment }
+    /// The verdict on a request, by what the rules ask: denied by the first rule of the written order that forbids it, and
+    /// else granted.
+    fn verdict(&self, a: &Asked, known: &Facts) -> Verdict
+        requires known { known.now ≡ facts_now self.now.policy self.now.records a.now }
         ensures verdict { result ≡ verdict_of self.now a.now }
         ensures shown { IsTrue (answers a.now.request result) }
     {
@@ -159,26 +157,20 @@ impl Gate {
         decide(&keepers.people, &keepers.rules, &keepers.ledger, known, a)
     }
 
-    /// The number, the moment and the verdict of the record that the request leaves, and what this does.
+    /// The number, the moment and the verdict of the record that the request leaves, by what the rules ask.
     #[tactic(auto, using(gx_history_laws::proofs::Granting::next_in_parts))]
-    pub(crate) fn judge(&self, a: &Asked) -> Judged
+    pub(crate) fn judge(&self, a: &Asked, known: &Facts) -> Outcome
         requires askable { IsTrue (is_askable a.now) }
-        ensures next { next_of self.now a.now ≡ Some (left_by a.now result.outcome) }
-        ensures verdict { result.outcome.verdict ≡ verdict_of self.now a.now }
-        ensures shown { IsTrue (is_showable (left_by a.now result.outcome)) }
-        ensures does { result.moves ≡ done_by self.now (left_by a.now result.outcome) }
+        requires known { known.now ≡ facts_now self.now.policy self.now.records a.now }
+        requires moment { known.now.moment ≡ moment_of self.now.records (steps.Asked a.now) }
+        ensures next { next_of self.now a.now ≡ Some (left_by a.now result) }
+        ensures verdict { result.verdict ≡ verdict_of self.now a.now }
+        ensures shown { IsTrue (is_showable (left_by a.now result)) }
     {
-        let moment = a.handed.max(self.last_moment());
-        let known = self.facts_of(a, moment);
-        let outcome = Outcome {
+        Outcome {
             number: self.length() + 1,
-            moment,
-            verdict: self.verdict(a, moment, &known),
-        };
-        let left = record_of(a, outcome);
-        Judged {
-            outcome,
-            moves: self.asked_move(a, &left, known.account, known.named),
+            moment: known.moment,
+            verdict: self.verdict(a, known),
         }
     }
 }

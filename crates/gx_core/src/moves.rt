@@ -14,6 +14,7 @@ ghost use Rattle.gx_core.specs.Known.{order_asked};
 ghost use Rattle.gx_core.specs.Moves.{done_by, granted_move};
 
 use crate::gate::Gate;
+use gx_history::facts::Facts;
 use gx_history::live_order::LiveOrder;
 use gx_history::moves::Move;
 use gx_history::record::{Asked, RecordData, Request, Verdict};
@@ -56,59 +57,55 @@ fn order_of(
     }
 }
 
-fn enter(
+fn put_enter(
+    moves: &mut Move,
     policy: &Policy,
     left: &RecordData,
     user: UserName,
     account: Option<AccountName>,
     m: &EnterOrder,
-) -> Move
-    ensures { result
+)
+    ensures { moves.new
         ≡ option_map_or (λ x. Adds (new_order policy.now left.now user x m.now)) account Nothing }
 {
     match account {
-        Some(account) => Move::Adds(order_of(policy, left, user, account, m)),
-        None => Move::Nothing,
+        Some(account) => *moves = Move::Adds(order_of(policy, left, user, account, m)),
+        None => *moves = Move::Nothing,
     }
 }
 
-fn replace(left: &RecordData, named: Option<LiveOrder>, m: &ReplaceOrder) -> Move
-    ensures { result
-        ≡ option_map_or (λ old. Replaces old (replacement_order left.now m.now old)) named Nothing }
+fn put_replace(moves: &mut Move, left: &RecordData, named: &Option<LiveOrder>, m: &ReplaceOrder)
+    ensures { moves.new ≡ option_map_or
+        (λ old. Replaces old (replacement_order left.now m.now old)) named.now Nothing }
 {
     match named {
-        Some(old) => Move::Replaces(old, old.replaced_by(left, m)),
-        None => Move::Nothing,
+        Some(old) => *moves = Move::Replaces(*old, old.replaced_by(left, m)),
+        None => *moves = Move::Nothing,
     }
 }
 
-fn cancel(named: Option<LiveOrder>, size: u32) -> Move
-    ensures { result ≡ option_map_or (λ cut. Sizes cut size) named Nothing }
+fn put_cancel(moves: &mut Move, named: &Option<LiveOrder>, size: u32)
+    ensures { moves.new ≡ option_map_or (λ cut. Sizes cut size) named.now Nothing }
 {
     match named {
-        Some(cut) => Move::Sizes(cut, size),
-        None => Move::Nothing,
+        Some(cut) => *moves = Move::Sizes(*cut, size),
+        None => *moves = Move::Nothing,
     }
 }
 
-/// What a granted request does, whose user trades for this account, and which names this live order.
-fn granted_move(
-    policy: &Policy,
-    left: &RecordData,
-    a: &Asked,
-    account: Option<AccountName>,
-    named: Option<LiveOrder>,
-) -> Move
-    ensures { result ≡ granted_move policy.now left.now a.now account named a.now.request }
+/// Puts there what a granted request does, by the account that its user trades for and the live order that it names.
+fn put_granted(moves: &mut Move, policy: &Policy, left: &RecordData, a: &Asked, known: &Facts)
+    ensures { moves.new ≡ granted_move
+        policy.now left.now a.now known.now.account known.now.named a.now.request }
 {
     match &a.request {
-        Request::Login(_) => Move::PutsOn(a.user, Some(a.line)),
-        Request::Logout => Move::PutsOn(a.user, None),
-        Request::Unreadable(_) => Move::Nothing,
-        Request::Enter(m) => enter(policy, left, a.user, account, m),
-        Request::Replace(m) => replace(left, named, m),
-        Request::Cancel(m) => cancel(named, m.shares),
-        Request::Command(c) => Move::Commands(a.user, *c),
+        Request::Login(_) => *moves = Move::PutsOn(a.user, Some(a.line)),
+        Request::Logout => *moves = Move::PutsOn(a.user, None),
+        Request::Unreadable(_) => *moves = Move::Nothing,
+        Request::Enter(m) => put_enter(moves, policy, left, a.user, known.account, m),
+        Request::Replace(m) => put_replace(moves, left, &known.named, m),
+        Request::Cancel(m) => put_cancel(moves, &known.named, m.shares),
+        Request::Command(c) => *moves = Move::Commands(a.user, *c),
     }
 }
 
@@ -126,25 +123,27 @@ pub(crate) fn matched_move(given: Verdict) -> Move
 }
 
 impl Gate {
-    /// What the record of a request does, whose user trades for this account, and which names this live order.
-    pub(crate) fn asked_move(
+    /// Puts there what the record of a request does, by what the rules asked of the records. A value that is returned would
+    /// be copied from place to place on the way.
+    #[inline(never)]
+    pub(crate) fn put_asked_move(
         &self,
+        moves: &mut Move,
         a: &Asked,
         left: &RecordData,
-        account: Option<AccountName>,
-        named: Option<LiveOrder>,
-    ) -> Move
+        known: &Facts,
+    )
         requires asks { left.now.step ≡ steps.Asked a.now }
-        requires account { account ≡ account_of self.now.policy a.now.user }
-        requires named { named ≡ order_asked self.now a.now }
-        ensures does { result ≡ done_by self.now left.now }
+        requires account { known.now.account ≡ account_of self.now.policy a.now.user }
+        requires named { known.now.named ≡ order_asked self.now a.now }
+        ensures does { moves.new ≡ done_by self.now left.now }
     {
         match left.verdict {
-            Verdict::Granted => granted_move(&self.policy, left, a, account, named),
-            Verdict::Denied(rule) => Move::Denies(*a, rule),
-            Verdict::Filled(f) => Move::Fills(f),
-            Verdict::Rested(number) => Move::Rests(number),
-            Verdict::Expired(number) => Move::Expires(number),
+            Verdict::Granted => put_granted(moves, &self.policy, left, a, known),
+            Verdict::Denied(rule) => *moves = Move::Denies(*a, rule),
+            Verdict::Filled(f) => *moves = Move::Fills(f),
+            Verdict::Rested(number) => *moves = Move::Rests(number),
+            Verdict::Expired(number) => *moves = Move::Expires(number),
         }
     }
 }

@@ -34,10 +34,13 @@ AskForTheSame policy held rules = (asker : AccountName) (q : Request) (replaced 
 abbrev pub knows_asker : PolicyData → Facts → Bool
 knows_asker policy given = option_map_or (λ (account : AccountName). is_some (account_named policy account)) given.account true
 
--- The verdict is that of the first rule that forbids, on the powers of the people and the figures of the lists that the
--- ledger stands for, whichever these are.
+-- The verdict is that of the first rule that forbids, on these facts and the figures of the lists that the ledger stands
+-- for, whichever these are.
+abbrev pub Judges : List FileRule → Kept → Facts → Asked → Verdict → Type 0
+Judges rules ledger facts a result = (policy : PolicyData) (held : Positions)
+    → StandsFor policy ledger held → AreSound policy held → AskForTheSame policy held rules → IsTrue (knows_asker policy facts)
+    → result ≡ verdict_by (first_forbidding (with_figures (figures_asked policy held a.request facts) rules) facts a.request)
+
+-- so it is on the powers of these people
 abbrev pub Decides : List User → List FileRule → Kept → Facts → Asked → Verdict → Type 0
-Decides people rules ledger given a result = (policy : PolicyData) (held : Positions)
-    → StandsFor policy ledger held → AreSound policy held → AskForTheSame policy held rules → IsTrue (knows_asker policy given)
-    → let facts = with_powers people a given in
-    result ≡ verdict_by (first_forbidding (with_figures (figures_asked policy held a.request facts) rules) facts a.request)
+Decides people rules ledger given a result = Judges rules ledger (with_powers people a given) a result

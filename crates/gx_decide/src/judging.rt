@@ -2,7 +2,9 @@
 
 ghost use Rattle.std.specs.Prelude.{◌≡◌};
 ghost use Rattle.gx_history.specs.Verdicts.{verdict_by};
-ghost use Rattle.gx_decide.specs.Deciding.{with_powers, Decides};
+ghost use Rattle.gx_history.specs.Asking.{of_command};
+ghost use Rattle.gx_people.specs.Entitled.{has, power_of};
+ghost use Rattle.gx_decide.specs.Deciding.{Decides, Judges};
 
 use gx_history::facts::{Facts, NoFigures};
 use gx_history::record::{Asked, Request, Verdict};
@@ -12,17 +14,14 @@ use gx_people::power::Power;
 use gx_policy::RuleName;
 use gx_rules::RuleBook;
 
-/// The facts, with what the people say of the asker's power.
-fn with_powers(people: &People, given: &Facts, a: &Asked) -> Facts
-    ensures { result ≡ with_powers people.now a.now given.now }
+/// Whether the people give the asker the power that a command asks for; true for any other request.
+fn has_power(people: &People, a: &Asked) -> bool
+    ensures { result ≡ of_command
+        (λ action. has people.now a.now.user (power_of action)) a.now.request }
 {
-    let has_power = match &a.request {
+    match &a.request {
         Request::Command(c) => people.has(a.user, Power::of(&c.action)),
         _ => true,
-    };
-    Facts {
-        has_power,
-        ..*given
     }
 }
 
@@ -33,6 +32,18 @@ fn verdict_by(found: Option<RuleName>) -> Verdict
         Some(rule) => Verdict::Denied(rule),
         None => Verdict::Granted,
     }
+}
+
+/// The verdict on the request, on these facts and the figures of the ledger: denied by the first rule of the written
+/// order that forbids it, and else granted.
+fn judged(rules: &RuleBook, ledger: &Ledger, facts: &Facts, a: &Asked) -> Verdict
+    ensures judged { Judges rules.now ledger.now facts.now a.now result }
+{
+    let Some(account) = facts.account else {
+        return verdict_by(rules.first_forbidding(facts, &NoFigures, &a.request));
+    };
+    let figures = ledger.after(account, &a.request, facts.named, facts.moment);
+    verdict_by(rules.first_forbidding(facts, &figures, &a.request))
 }
 
 /// The verdict on the request, on these facts, the powers that the people have and the figures of the ledger: denied by
@@ -46,10 +57,13 @@ pub fn decide(
 ) -> Verdict
     ensures decided { Decides people.now rules.now ledger.now given.now a.now result }
 {
-    let facts = with_powers(people, given, a);
-    let Some(account) = facts.account else {
-        return verdict_by(rules.first_forbidding(&facts, &NoFigures, &a.request));
+    let has_power = has_power(people, a);
+    if has_power == given.has_power {
+        return judged(rules, ledger, given, a);
+    }
+    let facts = Facts {
+        has_power,
+        ..*given
     };
-    let figures = ledger.after(account, &a.request, facts.named, facts.moment);
-    verdict_by(rules.first_forbidding(&facts, &figures, &a.request))
+    judged(rules, ledger, &facts, a)
 }

@@ -1,7 +1,9 @@
 -- What is kept, once one more record is looked at.
 use Rattle.std.proofs.Common.{◌≡◌, List, [], ◌∷◌, ◌++◌, refl, ap, sym, ◌∙◌}
 use Rattle.std.specs.Prelude.{Option, Some, None, filter_map, option_to_list}
-use Rattle.std.specs.List.{cons_option}
+use Rattle.std.specs.List.{cons_option, flat_map}
+use Rattle.std.proofs.lemmas.Grind.{flat_map-append}
+use Rattle.std.proofs.lemmas.List.{append-nil}
 use Rattle.std.proofs.lemmas.List.Elements.{filter_map-append}
 use Rattle.gx_policy.specs.declared.policy.PolicyData.{PolicyData}
 use Rattle.gx_policy.specs.Lists.{each_with_earlier}
@@ -10,7 +12,8 @@ use Rattle.gx_history_laws.proofs.Pushing.{each_after_next}
 use Rattle.gx_endings.specs.declared.commands.CommandRow.{CommandRow}
 use Rattle.gx_endings.specs.declared.endings.Ending.{Ending}
 use Rattle.gx_endings.specs.Commands.{command_by, command_rows}
-use Rattle.gx_endings.specs.Endings.{Grows, ending_by, endings}
+use Rattle.gx_endings.specs.declared.order_ends.OrderEnd.{OrderEnd}
+use Rattle.gx_endings.specs.Endings.{Grows, ending_by, endings, order_ends, order_ends_by}
 
 one_found : {Y : Type 0} (found : Option Y) → cons_option found [] ≡ option_to_list found
 one_found None = refl
@@ -36,6 +39,18 @@ pub one_more_command : (policy : PolicyData) (records : List RecordData) (r : Re
     → new ≡ command_rows policy (records ++ r ∷ [])
 one_more_command policy records r old new saw grows =
     grows ∙ ap (λ (list : List CommandRow). list ++ option_to_list (command_by policy records r)) saw ∙ sym (found_next (command_by policy) records r)
+
+pub more_ends : (policy : PolicyData) (records : List RecordData) (r : RecordData) (old new : List OrderEnd) → old ≡ order_ends policy records → new ≡ old ++ order_ends_by policy records r
+    → new ≡ order_ends policy (records ++ r ∷ [])
+more_ends policy records r old new saw grows =
+    grows
+    ∙ ap (λ (list : List OrderEnd). list ++ order_ends_by policy records r) saw
+    ∙ ap (λ (list : List OrderEnd). order_ends policy records ++ list) (sym (append-nil (order_ends_by policy records r)))
+    ∙ sym (flat_map-append at (each_with_earlier records) ((records, r) ∷ []))
+    ∙ sym (ap (flat_map at) (each_after_next [] records r))
+  where
+    at : (List RecordData × RecordData) → List OrderEnd
+    at entry = order_ends_by policy entry.0 entry.1
 
 -- behind the record it stands last
 pub stands_behind : {Y : Type 0} (kept : List Y) (told : List RecordData → List Y) (records earlier : List RecordData) (r : RecordData) → records ≡ earlier ++ r ∷ [] → kept ≡ told (earlier ++ r ∷ []) → kept ≡ told records

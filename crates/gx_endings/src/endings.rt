@@ -58,7 +58,7 @@ fn action_of(request: &Request) -> Option<Action>
 }
 
 /// The action that the record grants an officer, if it grants one.
-fn granted_action(shown: &RecordData) -> Option<Action>
+pub(crate) fn granted_action(shown: &RecordData) -> Option<Action>
     ensures { result ≡ granted_action shown.now }
 {
     match (&shown.verdict, &shown.step) {

@@ -6,7 +6,10 @@ use Rattle.gx_units.specs.declared.names.UserName.{UserName}
 use Rattle.gx_units.specs.declared.names.AccountName.{AccountName}
 use Rattle.gx_desk.specs.declared.Action.{Action}
 use Rattle.gx_desk.specs.declared.Action.TheVariants as actions
+use Rattle.gx_policy.specs.declared.policy.PolicyData.{PolicyData}
 use Rattle.gx_history.specs.declared.live_order.LiveOrder.{LiveOrder}
+use Rattle.gx_history.specs.declared.moves.Move.{Move}
+use Rattle.gx_history.specs.declared.record.RecordData.{RecordData}
 use Rattle.gx_history.specs.declared.report.Report.{Report}
 use Rattle.gx_ledger.specs.Following.{ClosesAll}
 use Rattle.gx_ledger.specs.StandsFor.{Closes}
@@ -14,8 +17,16 @@ use Rattle.gx_ledger.specs.Keeping.{Kept}
 use Rattle.gx_ledger.proofs.Following.{none_closes, one_more_closes}
 use Rattle.gx_streams.specs.Streams.{AllStreams}
 use Rattle.gx_streams.specs.Telling.{with_all_owed, with_owed}
-use Rattle.gx_orders.specs.LiveOrders.{of_account}
+use Rattle.gx_orders.specs.LiveOrders.{OrdersData, of_account}
+use Rattle.gx_book.specs.Books.{StockOrders}
+use Rattle.gx_market.specs.BookInForce.{book_in_force}
+use Rattle.gx_market.specs.Changes.{each_taken_out, ended_by}
+use Rattle.gx_market.specs.Standing.{IsLiveBook}
+use Rattle.gx_market.proofs.Living.{books_are_live}
+use Rattle.gx_market.proofs.TakenOut.{kill_takes_live_orders}
+use Rattle.gx_keepers.specs.declared.keepers.Keepers.{Keepers}
 use Rattle.gx_keepers.specs.Ends.{HaveOwedPlaces, is_ended}
+use Rattle.gx_keepers.specs.Keepers.{Takes}
 use Rattle.gx_keepers.specs.Ledgers.{ended_orders}
 use Rattle.gx_keepers.proofs.Commanded.{rest_have_places}
 
@@ -59,6 +70,18 @@ next_told owe o rest left streams now all left_is now_is enough telling =
       subst (HaveOwedPlaces more) (sym now_is) (rest_have_places (owe o ∷ []) more streams (subst (λ (owed : List (UserName × Report)). HaveOwedPlaces owed streams) owed_are enough)),
       ap (with_all_owed more) now_is ∙ sym (ap (λ (owed : List (UserName × Report)). with_all_owed owed streams) owed_are) ∙ telling,
     )
+
+-- a Kill takes the account's orders out, where all that rests is live
+pub kill_takes_out : (action : Action) (account : AccountName) (live ending : List LiveOrder) (book now : List StockOrders) → action ≡ actions.Kill account → IsLiveBook live book
+    → ending ≡ of_account account live → now ≡ each_taken_out ending book → now ≡ ended_by action book
+kill_takes_out action account live ending book now is whole his taken =
+    taken ∙ ap (λ (os : List LiveOrder). each_taken_out os book) his ∙ kill_takes_live_orders live book account whole ∙ ap (λ (a : Action). ended_by a book) (sym is)
+
+-- and it is before each record
+pub book_is_live : (policy : PolicyData) (history : List RecordData) (m : Move) (r : RecordData) (k : Keepers) → Takes policy history m r k → IsLiveBook k.orders.live k.book
+book_is_live policy history m r k t =
+    subst (IsLiveBook k.orders.live) (sym t.in_force.book)
+    (subst (λ (d : OrdersData). IsLiveBook d.live (book_in_force policy history)) (sym t.in_force.orders) (books_are_live policy history t.does.legal))
 
 -- a Kill ends the account's orders, and Close Day all
 pub kill_closes : (action : Action) (account : AccountName) (live : List LiveOrder) (old new : Kept) → action ≡ actions.Kill account → ClosesAll (of_account account live) old new → ClosesAll (ended_orders action live) old new

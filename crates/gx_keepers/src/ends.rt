@@ -2,7 +2,8 @@
 
 ghost use Rattle.std.specs.Prelude.{◌≡◌, true, map, MatchOption};
 ghost use Rattle.gx_ledger.specs.Following.{ClosesAll};
-ghost use Rattle.gx_market.specs.Changes.{ended_by};
+ghost use Rattle.gx_market.specs.Changes.{each_taken_out, ended_by};
+ghost use Rattle.gx_market.specs.Standing.{IsLiveBook};
 ghost use Rattle.gx_orders.specs.Changes.{is_lasting, live_left, with_live};
 ghost use Rattle.gx_keepers.specs.Ends.{owed_by_end, owed_by_ends, told_of_ends, HaveOwedPlaces};
 ghost use Rattle.gx_keepers.specs.Ledgers.{ended_orders};
@@ -13,6 +14,7 @@ use gx_book::book::Book;
 use gx_desk::Action;
 use gx_history::report::Report;
 use gx_ledger::ledger::Ledger;
+use gx_market::standing::take_out;
 use gx_orders::orders::Orders;
 use gx_slab::live::LiveOrders;
 use gx_streams::streams::Streams;
@@ -66,9 +68,19 @@ fn close_each(ledger: &mut Ledger, ending: LiveOrders<'_>)
     }
 }
 
+/// Takes each of these orders out of the book, if it rests.
+fn take_each_out(book: &mut Book, ending: LiveOrders<'_>)
+    ensures { book.new ≡ each_taken_out ending.entry book.old }
+{
+    for order in ending {
+        take_out(book, order);
+    }
+}
+
 /// Ends the live orders that the command is for: they leave the book, and are counted no more. It
-/// takes no memory.
+/// takes no memory. A Kill goes through its account's orders alone.
 pub fn end_orders(ledger: &mut Ledger, orders: &mut Orders, book: &mut Book, action: &Action)
+    requires { IsLiveBook orders.old.live book.old }
     ensures closed { ClosesAll (ended_orders action.now orders.old.live) ledger.old ledger.new }
     ensures left { orders.new ≡ with_live (live_left action.now orders.old.live) orders.old }
     ensures taken { book.new ≡ ended_by action.now book.old }
@@ -76,8 +88,8 @@ pub fn end_orders(ledger: &mut Ledger, orders: &mut Orders, book: &mut Book, act
     match *action {
         Action::Kill(account) => {
             close_each(ledger, orders.live_of(account));
+            take_each_out(book, orders.live_of(account));
             orders.end_account(account);
-            book.remove_account(account);
         }
         Action::CloseDay => {
             close_each(ledger, orders.live());

@@ -5,3 +5,4 @@ pub mod Latest
 pub mod Crossing
 pub mod Sound
 pub mod Living
+pub mod TakenOut

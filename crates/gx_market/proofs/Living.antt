@@ -1,12 +1,12 @@
 -- The book has the live orders that do not wait, and no other.
 use Rattle.std.proofs.Common.{◌≡◌, Bool, true, false, not, List, [], ◌∷◌, refl, ◌∙◌, ap, sym, map, cond}
 use Rattle.std.proofs.Math.Path.{subst}
-use Rattle.std.specs.Prelude.{Option, Some, None, ◌==◌, ◌&&◌, option_map}
+use Rattle.std.specs.Prelude.{Option, Some, None, ◌==◌, ◌&&◌, ◌||◌, option_map}
 use Rattle.std.specs.Option.{option_map_or}
-use Rattle.std.specs.List.{AllByRecursion, find}
-use Rattle.std.proofs.lemmas.Bool.{eq-eqb, eqb-true}
+use Rattle.std.specs.List.{AllByRecursion, filter, find, list_any}
+use Rattle.std.proofs.lemmas.Bool.{and_from, and_parts, eq-eqb, eqb-true}
 use Rattle.std.proofs.lemmas.Slice.Eq.{bytes_eq-Decides}
-use Rattle.gx_units.specs.Names.{same_stock}
+use Rattle.gx_units.specs.Names.{same_account, same_stock}
 use Rattle.gx_units.specs.declared.names.Symbol.{Symbol}
 use Rattle.gx_policy.specs.declared.policy.PolicyData.{PolicyData}
 use Rattle.gx_policy.specs.declared.policy.Stock.{Stock}
@@ -15,8 +15,9 @@ use Rattle.gx_history.specs.declared.record.RecordData.{RecordData}
 use Rattle.gx_history.specs.Book.{is_buy, is_on, rested}
 use Rattle.gx_history.specs.Live.{has_come, is_there, live, live_numbered, side}
 use Rattle.gx_history.specs.Verdicts.{IsLegal}
+use Rattle.gx_history_laws.proofs.Names.{same_account_flip}
 use Rattle.gx_history_laws.proofs.Numbers.{all_weaker}
-use Rattle.gx_history_laws.proofs.Order.{IsFirstSuch, first_such, none_such}
+use Rattle.gx_history_laws.proofs.Order.{IsFirstSuch, first_such, none_such, some_same}
 use Rattle.gx_history_laws.proofs.Owners.{all_both}
 use Rattle.gx_history_laws.proofs.Granting.{none_pass}
 use Rattle.gx_effects.proofs.Entered.{all_mapped}
@@ -24,10 +25,11 @@ use Rattle.gx_effects.proofs.NewOrders.{found_is}
 use Rattle.gx_effects.proofs.Ordered.{all_parted}
 use Rattle.gx_book.specs.declared.resting.Resting.{Resting}
 use Rattle.gx_book.specs.Books.{StockOrders, all_orders, both_sides, order_in, resting_in, side_of, stock_in}
-use Rattle.gx_book.specs.Queue.{is_numbered}
+use Rattle.gx_book.specs.Queue.{is_numbered, is_same}
 use Rattle.gx_market.specs.BookInForce.{book_in_force, rested_in, stock_in_force}
 use Rattle.gx_market.specs.Changes.{resting_of}
-use Rattle.gx_market.specs.Laws.{LiveWaitOrRest, RestingAreLive}
+use Rattle.gx_market.specs.Laws.{BooksAreLive, LiveWaitOrRest, RestingAreLive}
+use Rattle.gx_market.specs.Standing.{IsLiveBook, IsLiveThere, rests_as}
 use Rattle.gx_market.proofs.Booked.{resting_found}
 use Rattle.gx_effects.proofs.Resting.{IsLiving, all_living, same_order}
 use Rattle.gx_effects.proofs.Known.{RestsThere, all_resting}
@@ -141,3 +143,78 @@ pub resting_are_live : RestingAreLive
 resting_are_live policy history legal =
     all_weaker (IsHome policy history) (λ (r : Resting). option_map resting_of (live_numbered (live policy history) r.number) ≡ Some r) (resting_is_live policy history)
     (all_orders (book_in_force policy history)) (all_home policy history legal)
+
+-- ---- whose it is
+
+-- what one alone of them passes, and who passes another test
+any_of_one : (p q : LiveOrder → Bool) (x : LiveOrder) (os : List LiveOrder) → AllByRecursion (λ (o : LiveOrder). p o ≡ true → o ≡ x) os
+    → list_any p (filter q os) ≡ (q x && list_any p os)
+any_of_one p q x [] h = sym (never (q x))
+  where
+    never : (b : Bool) → (b && false) ≡ false
+    never true = refl
+    never false = refl
+any_of_one p q x (o ∷ os) h = at (p o) refl (q o) refl (any_of_one p q x os h.1)
+  where
+    same : p o ≡ true → (b : Bool) → q o ≡ b → q x ≡ b
+    same is b own = sym (ap q (h.0 is)) ∙ own
+
+    at : (a : Bool) → p o ≡ a → (b : Bool) → q o ≡ b → list_any p (filter q os) ≡ (q x && list_any p os)
+        → list_any p (cond b (o ∷ filter q os) (filter q os)) ≡ (q x && (a || list_any p os))
+    at false is true own more = ap (λ (c : Bool). c || list_any p (filter q os)) is ∙ more
+    at false is false own more = more
+    at true is true own more = ap (λ (c : Bool). c || list_any p (filter q os)) is ∙ sym (ap (λ (c : Bool). c && true) (same is true own))
+    at true is false own more = more ∙ ap (λ (c : Bool). c && list_any p os) (same is false own) ∙ sym (ap (λ (c : Bool). c && true) (same is false own))
+
+-- one that is found passes
+any_found : (p test : LiveOrder → Bool) (x : LiveOrder) (os : List LiveOrder) → find test os ≡ Some x → p x ≡ true → list_any p os ≡ true
+any_found p test x [] found passes = cc
+any_found p test x (o ∷ os) found passes = at (test o) found (λ later. any_found p test x os later passes)
+  where
+    always : (b : Bool) → (b || true) ≡ true
+    always true = refl
+    always false = refl
+
+    at : (b : Bool) → cond b (Some o) (find test os) ≡ Some x → (find test os ≡ Some x → list_any p os ≡ true) → (p o || list_any p os) ≡ true
+    at true e deeper = ap (λ (c : Bool). c || list_any p os) (ap p (some_same e) ∙ passes)
+    at false e deeper = ap (λ (c : Bool). p o || c) (deeper e) ∙ always (p o)
+
+-- an order that rests is one of its account, and of no other
+live_there : (policy : PolicyData) (history : List RecordData) (stock : Symbol) (buy : Bool) (x : LiveOrder) → IsLegal policy history → RestsThere policy history stock buy x
+    → IsLiveThere (live policy history) stock buy (resting_of x)
+live_there policy history stock buy x legal rests account =
+    any_of_one as_it (λ (o : LiveOrder). same_account account o.account) x (live policy history)
+    (all_weaker (IsLiving policy history) (λ (o : LiveOrder). as_it o ≡ true → o ≡ x) it_alone (live policy history) (all_living policy history legal))
+    ∙ ap (λ (b : Bool). same_account account x.account && b)
+    (any_found as_it (λ (o : LiveOrder). o.number == x.number) x (live policy history) rests.known.is_found itself)
+    ∙ alone (same_account account x.account)
+    ∙ same_account_flip account x.account
+  where
+    as_it : LiveOrder → Bool
+    as_it = rests_as stock buy (resting_of x)
+
+    alone : (b : Bool) → (b && true) ≡ b
+    alone true = refl
+    alone false = refl
+
+    itself : as_it x ≡ true
+    itself = and_from (is_there stock buy x) (is_same (resting_of x) (resting_of x)) rests.there (and_from (x.number == x.number) (x.terms.price == x.terms.price) (eq-eqb x.number x.number refl) (eq-eqb x.terms.price x.terms.price refl))
+
+    it_alone : (o : LiveOrder) → IsLiving policy history o → as_it o ≡ true → o ≡ x
+    it_alone o lives passes =
+        same_order policy history x o rests.known.is_found lives.found
+        (eqb-true o.number x.number (and_parts (o.number == x.number) (o.terms.price == x.terms.price) (and_parts (is_there stock buy o) (is_same (resting_of o) (resting_of x)) passes).1).0)
+
+pub books_are_live : BooksAreLive
+unfolding book_in_force
+books_are_live policy history legal = by policy.stocks
+  where
+    on_side : (stock : Symbol) (buy : Bool) → AllByRecursion (IsLiveThere (live policy history) stock buy) (rested_in policy history stock buy)
+    on_side stock buy =
+        all_mapped (IsLiveThere (live policy history) stock buy) resting_of (side policy history stock buy)
+        (all_weaker (RestsThere policy history stock buy) (λ (o : LiveOrder). IsLiveThere (live policy history) stock buy (resting_of o)) (λ o rests. live_there policy history stock buy o legal rests)
+        (side policy history stock buy) (all_resting policy history stock buy (legal_is_orderly policy history legal)))
+
+    by : (ss : List Stock) → IsLiveBook (live policy history) (map (stock_in_force policy history) ss)
+    by [] = tt
+    by (s ∷ ss) = (record { buys = on_side s.name true; sells = on_side s.name false }, by ss)

@@ -1,6 +1,6 @@
 -- What becomes of the book by one more record, in the words of the book's calls.
 use Rattle.std.specs.Option.{option_map_or}
-use Rattle.std.specs.Prelude.{ℕ, ◌-◌, nat_lt, List, if◌then◌else◌}
+use Rattle.std.specs.Prelude.{ℕ, ◌-◌, nat_lt, List, fold, if◌then◌else◌}
 use Rattle.gx_desk.specs.declared.Action.{Action}
 use Rattle.gx_desk.specs.declared.Action.TheVariants as actions
 use Rattle.gx_history.specs.declared.live_order.LiveOrder.{LiveOrder}
@@ -24,6 +24,10 @@ put_to_rest o book = with_rested o.terms.stock (is_buy o.terms.side) (resting_of
 -- the order taken off its side of its stock, if it rests
 abbrev pub taken_out : LiveOrder → List StockOrders → List StockOrders
 taken_out o book = on_side o.terms.stock (is_buy o.terms.side) (without_order (resting_of o)) book
+
+-- each of these orders taken out, one after the other
+abbrev pub each_taken_out : List LiveOrder → List StockOrders → List StockOrders
+each_taken_out orders book = fold (λ (b : List StockOrders) (o : LiveOrder). taken_out o b) book orders
 
 -- so many shares of the order are left: it stays where it stands, or goes where none are
 abbrev pub left_with : LiveOrder → ℕ → List StockOrders → List StockOrders

@@ -1,6 +1,8 @@
 -- What the definitions say of every legal history, in the words of the orders and the book that are kept.
 use Rattle.std.specs.Prelude.{◌≡◌, ℕ, ◌<◌, IsTrue, List, [], ◌∷◌, ◌++◌, Some, None, option_map, if◌then◌else◌}
 use Rattle.std.specs.List.{AllByRecursion}
+use Rattle.gx_units.specs.declared.names.AccountName.{AccountName}
+use Rattle.gx_desk.specs.declared.Action.TheVariants as actions
 use Rattle.gx_policy.specs.declared.policy.PolicyData.{PolicyData}
 use Rattle.gx_history.specs.declared.live_order.LiveOrder.{LiveOrder}
 use Rattle.gx_history.specs.declared.moves.Move.{Move}
@@ -15,9 +17,10 @@ use Rattle.gx_book.specs.declared.resting.Resting.{Resting}
 use Rattle.gx_book.specs.Books.{StockOrders, all_orders, empty_book, is_sound_book, order_in, resting_in}
 use Rattle.gx_book.specs.Queue.{IsLatest}
 use Rattle.gx_orders.specs.InForce.{orders_in_force}
-use Rattle.gx_orders.specs.LiveOrders.{first_waiting, live_numbered}
+use Rattle.gx_orders.specs.LiveOrders.{first_waiting, live_numbered, of_account}
 use Rattle.gx_market.specs.BookInForce.{book_in_force}
-use Rattle.gx_market.specs.Changes.{book_moved, resting_of}
+use Rattle.gx_market.specs.Changes.{book_moved, each_taken_out, ended_by, resting_of}
+use Rattle.gx_market.specs.Standing.{IsLiveBook}
 use Rattle.gx_market.specs.Meeting.{match_record, next_met}
 
 -- before any record nothing rests
@@ -72,3 +75,12 @@ RestingAreLive = (policy : PolicyData) (history : List RecordData)
     → IsLegal policy history
     → AllByRecursion (λ (r : Resting). option_map resting_of (live_numbered (live policy history) r.number) ≡ Some r)
     (all_orders (book_in_force policy history))
+
+-- where it rests, and as one of its own account and of no other
+abbrev pub BooksAreLive : Type 0
+BooksAreLive = (policy : PolicyData) (history : List RecordData) → IsLegal policy history → IsLiveBook (live policy history) (book_in_force policy history)
+
+-- the live orders of an account taken out one after the other: that is what a Kill does
+abbrev pub KillTakesLiveOrders : Type 0
+KillTakesLiveOrders = (live : List LiveOrder) (book : List StockOrders) (account : AccountName)
+    → IsLiveBook live book → each_taken_out (of_account account live) book ≡ ended_by (actions.Kill account) book

@@ -1,4 +1,5 @@
 pub mod BookInForce
 pub mod Changes
+pub mod Standing
 pub mod Meeting
 pub mod Laws

@@ -1,7 +1,9 @@
 //! Laws of the definitions, each as what a function without a body ensures.
 
-ghost use Rattle.gx_market.specs.Laws.{BooksAreSound, BooksAreUncrossed, BooksGoOn, FirstIsLatest};
-ghost use Rattle.gx_market.specs.Laws.{LiveWaitOrRest, NextIsMet, NextRecordIsMet, NoneRestsAtFirst, RestingAreLive};
+ghost use Rattle.gx_market.specs.Laws.{BooksAreLive, BooksAreSound, BooksAreUncrossed, BooksGoOn};
+ghost use Rattle.gx_market.specs.Laws.{FirstIsLatest, KillTakesLiveOrders, LiveWaitOrRest};
+ghost use Rattle.gx_market.specs.Laws.{NextIsMet, NextRecordIsMet, NoneRestsAtFirst};
+ghost use Rattle.gx_market.specs.Laws.{RestingAreLive};
 
 /// Before any record nothing rests.
 pub fn book_at_first()
@@ -30,6 +32,14 @@ pub fn next_match_is_found()
 pub fn live_orders_wait_or_rest()
     ensures rest { LiveWaitOrRest }
     ensures live { RestingAreLive }
+{}
+
+/// What rests is a live order, on its side of its stock and of its account. So a Kill that takes
+/// the account's live orders out, one after the other, takes out all that rests of the account,
+/// and nothing else.
+pub fn a_kill_takes_live_orders()
+    ensures live { BooksAreLive }
+    ensures taken { KillTakesLiveOrders }
 {}
 
 /// Each side has the better price first.

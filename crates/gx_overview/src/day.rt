@@ -1,10 +1,13 @@
-//! How far the day is, and who is logged in.
+//! How far the day is, what is left of it, and who is logged in.
 
-ghost use Rattle.std.specs.Prelude.{◌≡◌, map, IfOk};
+ghost use Rattle.std.specs.Prelude.{◌≡◌, ◌-◌, map, IfOk};
+ghost use Rattle.gx_pass.specs.Views.{highest_line};
 ghost use Rattle.gx_overview.specs.Rules.{day_row, user_row};
 
+use gx_history::record::Record;
+use gx_pass::{LAST_LINE, line_in};
 use gx_policy::User;
-use gx_records::ShowsState;
+use gx_records::{ShowsRecords, ShowsState};
 use gx_units::{Moment, OutOfMemory, UserName};
 use std::alloc::Global;
 
@@ -41,6 +44,25 @@ pub fn day_row<G: ShowsState>(gate: &G) -> DayRow
         moment: gate.moment_of_last(),
         is_closed: gate.is_day_closed(),
     }
+}
+
+/// The highest line of these records, 0 where none has one.
+fn highest_line(records: &[Record]) -> u16
+    ensures { result ≡ highest_line records.now }
+{
+    let mut highest = 0;
+    for record in records {
+        highest = highest.max(line_in(&record.content()));
+    }
+    highest
+}
+
+/// How many lines are left: each connection of a server, in all the runs of its day, has one above those before it, and the
+/// last is 65,535.
+pub fn lines_left<G: ShowsRecords>(gate: &G) -> u16
+    ensures { result ≡ 65535 - highest_line (G.seen gate.now).records }
+{
+    LAST_LINE - highest_line(gate.shown_records())
 }
 
 fn user_row<G: ShowsState>(gate: &G, user: &User) -> UserRow

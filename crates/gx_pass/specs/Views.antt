@@ -1,5 +1,5 @@
 -- What seats know, and what splits and joins make of it.
-use Rattle.std.specs.Prelude.{ℕ, ◌+◌, ◌==◌, List, [], ◌∷◌, length, cond}
+use Rattle.std.specs.Prelude.{ℕ, ◌+◌, ◌==◌, List, [], ◌∷◌, cond, fold, length, map, max}
 use Rattle.std.specs.List.{filter}
 use Rattle.atomic_table.specs.Seated.{TableId}
 use Rattle.gx_policy.specs.declared.policy.PolicyData.{PolicyData}
@@ -34,6 +34,10 @@ line_asked (steps.Matching handed) = 0
 -- the line of a record's step
 abbrev pub line_in : RecordData → ℕ
 line_in r = line_asked r.step
+
+-- the highest line of the records, 0 where none has one
+abbrev pub highest_line : List RecordData → ℕ
+highest_line records = fold max 0 (map line_in records)
 
 -- the records of a line
 abbrev pub of_line : ℕ → List RecordData → List RecordData

@@ -7,12 +7,14 @@
 
 mod blank;
 mod keeper;
+mod line;
 mod name;
 mod pass;
 mod view;
 
 pub use blank::Blank;
 pub use keeper::Keeper;
+pub use line::{LAST_LINE, line_in};
 pub use name::GateName;
 pub use pass::{Entered, Pass, PassFault};
 pub use view::{Holds, Keeps};

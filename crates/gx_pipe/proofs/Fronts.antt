@@ -19,9 +19,10 @@ use Rattle.gx_answers.specs.Asking.{asked_by}
 use Rattle.gx_pipe.specs.declared.connection.Connection.{Connection}
 use Rattle.gx_pipe.specs.declared.fault.PipeFault.{PipeFault}
 use Rattle.gx_pipe.specs.Fronts.{AreFirst}
-use Rattle.gx_pipe.specs.Piping.{mark, gate_at, cause_of, Refused, packet_marks, after_logout, logout_of, IsCutShort, IsAfterFault}
+use Rattle.gx_pipe.specs.Piping.{mark, gate_at, cause_of, Refused, packet_marks, logout_of, IsCutShort, IsAfterFault}
 use Rattle.gx_pipe.specs.Serving.{IsOnLine}
-use Rattle.gx_pipe.specs.Transcript.{Run, is_on, on_packet, opened, run_of, finished, pipe}
+use Rattle.gx_session.specs.Events.{is_on}
+use Rattle.gx_pipe.specs.Transcript.{Run, after_step, on_packet, opened, run_of, finished, pipe}
 use Rattle.gx_pipe.proofs.Growing.{finish_on}
 use Rattle.gx_pipe.proofs.Leaving.{line_there}
 use Rattle.gx_pipe.proofs.Marks.{packet_ends, packet_rises}
@@ -33,7 +34,7 @@ abbrev leaving : Connection → Asked
 leaving c = asked_by c.user requests.Logout c.session.heard
 
 -- with the logout of a user who is on behind them
-logged_out_first : (after gate end : GateData) (c : Connection) → IsOnLine gate c → after ≡ after_logout gate (logout_of c) → First.AreFirst gate.records end.records → AreFirst after.records end.records
+logged_out_first : (after gate end : GateData) (c : Connection) → IsOnLine gate c → after ≡ after_step gate (logout_of c) → First.AreFirst gate.records end.records → AreFirst after.records end.records
 unfolding left_of
 logged_out_first after gate end c line out_of way = at (is_on c.session.phase) refl
   where
@@ -47,7 +48,7 @@ logged_out_first after gate end c line out_of way = at (is_on c.session.phase) r
       whole = way.whole;
       last = left_of gate (leaving c) ∷ [];
       stand =
-          ap (λ (g : GateData). g.records) (out_of ∙ ap (after_logout gate) (out true on))
+          ap (λ (g : GateData). g.records) (out_of ∙ ap (after_step gate) (out true on))
           ∙ ap (λ (found : Option RecordData). option_map_or (λ (r : RecordData). gate.records ++ r ∷ []) found gate.records) (left_is gate (leaving c));
       logout = record {
         asked = leaving c;
@@ -61,7 +62,7 @@ logged_out_first after gate end c line out_of way = at (is_on c.session.phase) r
       others = way.others;
       whole = way.whole;
       last = [];
-      stand = ap (λ (g : GateData). g.records) (out_of ∙ ap (after_logout gate) (out false off)) ∙ sym (append-nil gate.records);
+      stand = ap (λ (g : GateData). g.records) (out_of ∙ ap (after_step gate) (out false off)) ∙ sym (append-nil gate.records);
       logout = tt;
     }
 
@@ -110,5 +111,5 @@ records_are_first (Some all) (Some rest) output written before first after fault
     subst (λ bytes. AreFirst after.records (pipe before first bytes).gate.records) (sym f.cut.consumed)
     (logged_out_first after (gate_at cut.stop) (pipe before first ((f.cut.bytes ++ f.cut.piece) ++ rest)).gate cut.stop.known.connection
     (line_there (Some all) (Some rest) output written before first fault f.now f.state f.cut)
-    (f.logged_out ∙ ap (λ g. after_logout g (logout_of f.state)) cut.gate ∙ ap (after_logout (gate_at cut.stop)) cut.logout)
+    (f.logged_out ∙ ap (λ g. after_step g (logout_of f.state)) cut.gate ∙ ap (after_step (gate_at cut.stop)) cut.logout)
     (comes_first (Some all) (Some rest) output written before first fault f.now f.state f.cut rest).records)

@@ -15,12 +15,12 @@ use Rattle.gx_answers.specs.Matches.{settled_gate}
 use Rattle.gx_pipe.specs.declared.connection.Connection.{Connection}
 use Rattle.gx_session.specs.declared.event.Next.{Next}
 use Rattle.gx_session.specs.declared.event.Next.TheVariants as nexts
-use Rattle.gx_session.specs.Events.{asks_step, is_over}
+use Rattle.gx_session.specs.Events.{asks_step, is_over, login_in}
 use Rattle.gx_session.specs.Happenings.{Happening}
 use Rattle.gx_session.specs.Happenings as happens
 use Rattle.gx_pipe.specs.Steps.{login_asked_at}
 use Rattle.gx_session.specs.Table.{turn}
-use Rattle.gx_pipe.specs.Transcript.{Run, acted, on_event, logged_in, login_in, with_login, answered, matched, finished}
+use Rattle.gx_pipe.specs.Transcript.{Run, acted, on_event, logged_in, with_login, answered, matched, finished}
 use Rattle.gx_pipe.proofs.Serving.{left_of, left_is}
 
 abbrev GoesOn : GateData → GateData → Type 0

@@ -12,13 +12,13 @@ use Rattle.gx_session.specs.declared.event.Reply.{Reply}
 use Rattle.gx_pipe.specs.declared.fault.PipeFault.{PipeFault}
 use Rattle.gx_session.specs.declared.session.Phase.{Phase}
 use Rattle.gx_session.specs.declared.session.Phase.TheVariants.{Fresh, Waiting, On, Abandoned, Done}
-use Rattle.gx_session.specs.Events.{asks_step}
+use Rattle.gx_session.specs.Events.{asks_step, is_on}
 use Rattle.gx_session.specs.Happenings.{Happening}
 use Rattle.gx_session.specs.Happenings as happens
-use Rattle.gx_pipe.specs.Piping.{after_logout, gate_at, is_never_refused, logout_of, step_of, IsLeaving, IsCutShort, IsAfterFault}
+use Rattle.gx_pipe.specs.Piping.{gate_at, is_never_refused, logout_of, IsLeaving, IsCutShort, IsAfterFault}
 use Rattle.gx_pipe.specs.Serving.{IsOnLine}
 use Rattle.gx_session.specs.Table.{SessionData, row_in, turn}
-use Rattle.gx_pipe.specs.Transcript.{silent, acted, is_on, on_event, run_of, finished}
+use Rattle.gx_pipe.specs.Transcript.{silent, acted, after_step, step_of, on_event, run_of, finished}
 use Rattle.gx_pipe.proofs.OnLine.{logout_is_granted, run_keeps}
 
 row_leaves : (p : Phase) (e : Happening) (silent quiet : Bool) → IsLeaving e → (row_in p e silent quiet).reply.next ≡ (row_in p happens.End silent quiet).reply.next
@@ -61,12 +61,12 @@ end_asks : (session : SessionData) (moment : ℕ) → AsksAtTheEnd session.phase
 unfolding turn
 end_asks session moment = row_asks session.phase _ _
 
-acted_still : (gate : GateData) (user : UserName) (moment : ℕ) (next : Next) → asks_step next ≡ false → acted gate user moment next ≡ gate
-acted_still gate user moment nexts.Idle h = refl
-acted_still gate user moment nexts.Login h = refl
-acted_still gate user moment (nexts.Act request) h = cc
-acted_still gate user moment nexts.Logout h = cc
-acted_still gate user moment nexts.Close h = refl
+no_step : (user : UserName) (moment : ℕ) (next : Next) → asks_step next ≡ false → step_of user moment next ≡ None
+no_step user moment nexts.Idle h = refl
+no_step user moment nexts.Login h = refl
+no_step user moment (nexts.Act request) h = cc
+no_step user moment nexts.Logout h = cc
+no_step user moment nexts.Close h = refl
 
 logout_when_on : (c : Connection) → is_on c.session.phase ≡ true → logout_of c ≡ Some (asked_by c.user requests.Logout c.session.heard)
 logout_when_on c on = ap (λ b. cond b (Some (asked_by c.user requests.Logout c.session.heard)) None) on
@@ -75,25 +75,19 @@ no_logout : (c : Connection) → is_on c.session.phase ≡ false → logout_of c
 no_logout c off = ap (λ b. cond b (Some (asked_by c.user requests.Logout c.session.heard)) None) off
 
 -- what the session asks for at the end is that logout
-acted_at_the_end : (now : GateData) (c : Connection) (next : Next) → AsksAtTheEnd c.session.phase next → acted now c.user c.session.heard next ≡ after_logout now (logout_of c)
-acted_at_the_end now c next (inl asks) = ap (acted now c.user c.session.heard) asks.0 ∙ ap (after_logout now) (sym (logout_when_on c asks.1))
-acted_at_the_end now c next (inr asks) = acted_still now c.user c.session.heard next asks.0 ∙ ap (after_logout now) (sym (no_logout c asks.1))
-
-refused_at_the_end : (gate : GateData) (c : Connection) (next : Next) → AsksAtTheEnd c.session.phase next → is_never_refused gate (step_of c.user c.session.heard next) ≡ false
-    → is_never_refused gate (logout_of c) ≡ false
-refused_at_the_end gate c next (inl asks) not =
-    ap (is_never_refused gate) (logout_when_on c asks.1) ∙ ap (λ n. is_never_refused gate (step_of c.user c.session.heard n)) (sym asks.0) ∙ not
-refused_at_the_end gate c next (inr asks) not = ap (is_never_refused gate) (no_logout c asks.1)
+step_at_the_end : (c : Connection) (next : Next) → AsksAtTheEnd c.session.phase next → step_of c.user c.session.heard next ≡ logout_of c
+step_at_the_end c next (inl asks) = ap (step_of c.user c.session.heard) asks.0 ∙ sym (logout_when_on c asks.1)
+step_at_the_end c next (inr asks) = no_step c.user c.session.heard next asks.0 ∙ sym (no_logout c asks.1)
 
 -- of a logout that was refused
 pub refused_as_at_the_end : (gate : GateData) (c : Connection) (e : Happening) (reply : Reply) (moment : ℕ) → IsLeaving e → moment ≡ c.session.heard → reply ≡ (turn c.session e moment).reply
     → is_never_refused gate (step_of c.user moment reply.next) ≡ false → is_never_refused gate (logout_of c) ≡ false
 unfolding turn
 refused_as_at_the_end gate c e reply moment k m r not =
-    refused_at_the_end gate c (turn c.session happens.End moment).reply.next (end_asks c.session moment)
-    (ap (λ h. is_never_refused gate (step_of c.user h (turn c.session happens.End moment).reply.next)) (sym m)
+    ap (is_never_refused gate) (sym (step_at_the_end c (turn c.session happens.End moment).reply.next (end_asks c.session moment)))
+    ∙ ap (λ h. is_never_refused gate (step_of c.user h (turn c.session happens.End moment).reply.next)) (sym m)
     ∙ ap (λ x. is_never_refused gate (step_of c.user moment x)) (sym (ap (λ (x : Reply). x.next) r ∙ row_leaves c.session.phase e _ _ k))
-    ∙ not)
+    ∙ not
 
 -- the logout of a user who is on is never refused
 never_refused_when_on : (gate : GateData) (c : Connection) → IsOnLine gate c → is_on c.session.phase ≡ true → is_never_refused gate (logout_of c) ≡ true
@@ -146,7 +140,7 @@ pub after_either : {T E : Type 0} (input left output written : Option (List ℕ)
     → OnErr r (is_on state.session.phase ≡ true) → OnErr r (is_never_refused now (logout_of state) ≡ false) → IsAfterFault input left output written before first after fault
 unfolding finished on_event
 after_either input left output written before first now after state state' fault (Ok x) f ok on not =
-    record { now = now; state = state; cut = f; logged_out = ok ∙ acted_at_the_end now state (turn state.session happens.End state.session.heard).reply.next (end_asks state.session state.session.heard) }
+    record { now = now; state = state; cut = f; logged_out = ok ∙ ap (after_step now) (step_at_the_end state (turn state.session happens.End state.session.heard).reply.next (end_asks state.session state.session.heard)) }
 after_either input left output written before first now after state state' fault (Err x) f ok on not =
     let stop = f.broken.cut.stop in
     let clash : true ≡ false = sym (on_there now state stop.known.connection (gate_at stop) f.broken.cut.gate f.broken.cut.logout (line_there input left output written before first fault now state f) on) ∙ not in

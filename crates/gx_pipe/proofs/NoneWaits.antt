@@ -22,13 +22,13 @@ use Rattle.gx_session.specs.declared.event.Next.{Next}
 use Rattle.gx_session.specs.declared.event.Next.TheVariants as nexts
 use Rattle.gx_session.specs.declared.session.Phase.{Phase}
 use Rattle.gx_session.specs.declared.session.Phase.TheVariants.{Fresh, Waiting, On, Abandoned, Done}
-use Rattle.gx_session.specs.Events.{is_over}
+use Rattle.gx_session.specs.Events.{is_on, is_over, login_in}
 use Rattle.gx_session.specs.Happenings.{Happening}
 use Rattle.gx_session.specs.Happenings as happens
 use Rattle.gx_answers.specs.Asking.{stepped}
 use Rattle.gx_pipe.specs.Steps.{login_asked_at}
 use Rattle.gx_session.specs.Table.{turn}
-use Rattle.gx_pipe.specs.Transcript.{Run, opened_at, silent, and_then, acted, on_event, logged_in, login_in, with_login, answered, matched, unsent, is_on, sent, pulled, ticked, handled, on_packet, run_of}
+use Rattle.gx_pipe.specs.Transcript.{Run, opened_at, silent, and_then, acted, on_event, logged_in, with_login, answered, matched, unsent, sent, pulled, ticked, handled, on_packet, run_of}
 
 -- Each step keeps the records orderly.
 

@@ -1,6 +1,6 @@
 -- A user who is on is logged in on line 1 of the gate, wherever a run stops; so no gate denies his Logout.
 use Rattle.std.proofs.Common.{◌≡◌, ℕ, max, Bool, true, false, cond, List, [], ◌∷◌, ◌++◌, Option, Some, None, refl, sym, ap, ◌∙◌, append_assoc, append-nil}
-use Rattle.std.specs.Prelude.{fold, not, option_map, option_and_then, unwrap_or}
+use Rattle.std.specs.Prelude.{fold, option_map, option_and_then, unwrap_or}
 use Rattle.std.specs.List.{AllByRecursion}
 use Rattle.std.specs.Option.{option_map_or, option_or}
 use Rattle.gx_units.specs.Spelling.{folded_user}

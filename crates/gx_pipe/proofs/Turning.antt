@@ -36,7 +36,7 @@ use Rattle.gx_pipe.specs.Serving.{IsOnLine}
 use Rattle.gx_pipe.proofs.Growing.{event_adds, answer_on, login_adds}
 use Rattle.gx_pipe.proofs.OnLine.{pull_keeps}
 use Rattle.gx_pipe.specs.Faults.{fault_of_send}
-use Rattle.gx_session.specs.Events.{asks_step}
+use Rattle.gx_session.specs.Events.{asks_step, is_on, login_in}
 use Rattle.gx_session.specs.Happenings.{Happening}
 use Rattle.gx_session.specs.Happenings as happens
 use Rattle.gx_pipe.specs.Piping.{Standing, mark, cause_of, Refused, logout_of, IsTaken, IsUnwritten, IsGivenUp, IsTurnGivenUp, GivesAll, reported_of, told_of, pull_marks, StopsIn}
@@ -44,7 +44,7 @@ use Rattle.gx_answers.specs.Asking.{asked_by, stepped}
 use Rattle.gx_pipe.specs.Steps.{login_asked_at, login_told}
 use Rattle.gx_session.specs.Table.{SessionData, row_in, turn}
 use Rattle.gx_session.specs.Sending.{control_bytes, control_text, reports_text}
-use Rattle.gx_pipe.specs.Transcript.{Run, run_at, and_then, with_text, silent, acted, on_event, first_told, logged_in, login_in, with_login, answered, sent, unsent, is_on, pulled}
+use Rattle.gx_pipe.specs.Transcript.{Run, run_at, and_then, with_text, silent, acted, on_event, first_told, logged_in, with_login, answered, sent, unsent, pulled}
 use Rattle.gx_answers.proofs.Stepped.{all_taken}
 
 -- Rows of the table.

@@ -2,7 +2,6 @@
 use Rattle.std.specs.Option.{option_map_or}
 use Rattle.std.specs.Prelude.{◌≡◌, ℕ, ◌+◌, ◌<◌, ◌≤◌, max, Bool, true, false, ◌⊎◌, if◌then◌else◌, IsTrue, IsFalse, is_some, List, [], ◌∷◌, ◌++◌, length, Option, Some, None}
 use Rattle.std.specs.Io.KnownBytes.{Consumes, Appends, IsAtEnd}
-use Rattle.gx_units.specs.declared.names.UserName.{UserName}
 use Rattle.gx_soup.specs.declared.packet.ClientPacket.{ClientPacket}
 use Rattle.gx_soup.specs.Packets.{packets_of}
 use Rattle.gx_soup.specs.Feeding.{Held, HasRead}
@@ -16,33 +15,23 @@ use Rattle.gx_history.specs.declared.record.Request.TheVariants as requests
 use Rattle.gx_answers.specs.Gates.{GateData}
 use Rattle.gx_answers.specs.Matches.{settled_gate, IsSettling}
 use Rattle.gx_answers.specs.Steps.{has_its_places}
-use Rattle.gx_answers.specs.Asking.{asked_by, stepped}
+use Rattle.gx_answers.specs.Asking.{asked_by}
 use Rattle.gx_devices.specs.Devices.{IsFront}
 use Rattle.gx_devices.specs.Stopping.{AreFewer, Cause, Memory, Full, Writing, Reading, IsOfSending, Mark, Stops, trail}
 use Rattle.gx_pipe.specs.declared.connection.Connection.{Connection}
-use Rattle.gx_session.specs.declared.event.Next.{Next}
-use Rattle.gx_session.specs.declared.event.Next.TheVariants as nexts
 use Rattle.gx_pipe.specs.declared.fault.PipeFault.{PipeFault}
 use Rattle.gx_pipe.specs.declared.fault.PipeFault.TheVariants as faults
-use Rattle.gx_session.specs.Events.{asks_step, is_over}
+use Rattle.gx_session.specs.Events.{asks_step, is_on, is_over}
 use Rattle.gx_session.specs.Happenings.{Happening}
 use Rattle.gx_session.specs.Happenings as happens
 use Rattle.gx_pipe.specs.Serving.{IsOnLine}
 use Rattle.gx_session.specs.Table.{turn}
-use Rattle.gx_pipe.specs.Transcript.{Run, and_then, unsent, is_on, ticked, on_event, answered, matched, reported, on_packet, run_of, pipe, is_ended}
+use Rattle.gx_pipe.specs.Transcript.{Run, after_step, and_then, unsent, ticked, on_event, answered, matched, reported, on_packet, run_of, pipe, is_ended}
 
 -- the logout of the user who is logged in, at the moment of the last packet heard
 abbrev pub logout_of : Connection → Option Asked
 logout_of connection =
     if is_on connection.session.phase then Some (asked_by connection.user requests.Logout connection.session.heard) else None
-
--- the step that the session asks for, if it asks for one
-abbrev pub step_of : UserName → ℕ → Next → Option Asked
-step_of user moment (nexts.Act request) = Some (asked_by user request moment)
-step_of user moment nexts.Logout = Some (asked_by user requests.Logout moment)
-step_of user moment nexts.Idle = None
-step_of user moment nexts.Login = None
-step_of user moment nexts.Close = None
 
 -- a granted Kill or Logout, which no gate refuses
 abbrev pub is_never_refused : GateData → Option Asked → Bool
@@ -217,13 +206,9 @@ pub record IsCutShort (input left output written : Option (List ℕ)) (before : 
   pub earlier : Appends output behind (run_of before first bytes).text
   pub broken : Broken before first bytes piece fault now state behind written
 
--- the gate after this logout, if there is one
-abbrev pub after_logout : GateData → Option Asked → GateData
-after_logout gate found = option_map_or (stepped gate) found gate
-
 -- After a fault: where the run stopped, and the gate with the logout of the user who was logged in there.
 pub record IsAfterFault (input left output written : Option (List ℕ)) (before : GateData) (first : ℕ) (after : GateData) (fault : PipeFault) : Type 0 where
   pub now : GateData
   pub state : Connection
   pub cut : IsCutShort input left output written before first fault now state
-  pub logged_out : after ≡ after_logout now (logout_of state)
+  pub logged_out : after ≡ after_step now (logout_of state)

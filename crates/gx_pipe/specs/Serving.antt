@@ -15,7 +15,8 @@ use Rattle.gx_pipe.specs.declared.connection.Connection.{Connection}
 use Rattle.gx_session.specs.declared.session.Phase.{Phase}
 use Rattle.gx_session.specs.declared.session.Phase.TheVariants.{Fresh, Waiting, On, Abandoned, Done}
 use Rattle.gx_session.specs.Sending.{reports_text}
-use Rattle.gx_pipe.specs.Transcript.{Run, is_on}
+use Rattle.gx_session.specs.Events.{is_on}
+use Rattle.gx_pipe.specs.Transcript.{Run}
 
 -- the user's stream
 abbrev pub owed : GateData → UserName → List Report

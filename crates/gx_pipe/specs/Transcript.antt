@@ -1,11 +1,12 @@
 -- The transcript of a connection: the gate and the text that all bytes of its input lead to, by the session table.
-use Rattle.std.specs.Prelude.{ℕ, ◌+◌, ◌-◌, ◌^◌, min, max, Bool, true, false, ◌||◌, if◌then◌else◌, is_some, Option, Some, None, List, [], ◌∷◌, ◌++◌, length, drop, fold}
+use Rattle.std.specs.Prelude.{ℕ, ◌+◌, ◌-◌, ◌^◌, min, max, Bool, ◌||◌, if◌then◌else◌, is_some, Option, Some, None, List, [], ◌∷◌, ◌++◌, length, drop, fold}
+use Rattle.std.specs.Option.{option_map_or}
 use Rattle.gx_units.specs.Spelling.{folded_user}
 use Rattle.gx_units.specs.declared.names.UserName.{UserName}
 use Rattle.gx_soup.specs.declared.packet.LoginRequest.{LoginRequest}
 use Rattle.gx_soup.specs.declared.packet.ClientPacket.{ClientPacket}
-use Rattle.gx_soup.specs.declared.packet.ClientPacket.TheVariants as client
 use Rattle.gx_soup.specs.Packets.{packets_of}
+use Rattle.gx_history.specs.declared.record.Asked.{Asked}
 use Rattle.gx_history.specs.declared.record.Request.TheVariants as requests
 use Rattle.gx_history.specs.declared.report.Report.{Report}
 use Rattle.gx_history.specs.InForce.{is_closed}
@@ -17,9 +18,7 @@ use Rattle.gx_answers.specs.declared.outcome.LoginAnswer.TheVariants as answers
 use Rattle.gx_pipe.specs.declared.connection.Connection.{Connection}
 use Rattle.gx_session.specs.declared.event.Next.{Next}
 use Rattle.gx_session.specs.declared.event.Next.TheVariants as nexts
-use Rattle.gx_session.specs.declared.session.Phase.{Phase}
-use Rattle.gx_session.specs.declared.session.Phase.TheVariants.{Fresh, Waiting, On, Abandoned, Done}
-use Rattle.gx_session.specs.Events.{is_over}
+use Rattle.gx_session.specs.Events.{is_on, is_over, login_in}
 use Rattle.gx_session.specs.Happenings.{Happening}
 use Rattle.gx_session.specs.Happenings as happens
 use Rattle.gx_answers.specs.Asking.{asked_by, stepped}
@@ -47,13 +46,19 @@ silent gate connection = run_at gate connection []
 abbrev pub and_then : Run → (GateData → Connection → Run) → Run
 and_then run more = with_text run.text (more run.gate run.connection)
 
+-- the step that the session asks for, if it asks for one
+abbrev pub step_of : UserName → ℕ → Next → Option Asked
+step_of user moment (nexts.Act request) = Some (asked_by user request moment)
+step_of user moment nexts.Logout = Some (asked_by user requests.Logout moment)
+step_of user moment other = None
+
+-- the gate after this step, if there is one
+abbrev pub after_step : GateData → Option Asked → GateData
+after_step gate found = option_map_or (stepped gate) found gate
+
 -- the gate once the step that the session asks for is made
 abbrev pub acted : GateData → UserName → ℕ → Next → GateData
-acted gate user moment nexts.Idle = gate
-acted gate user moment nexts.Login = gate
-acted gate user moment (nexts.Act request) = stepped gate (asked_by user request moment)
-acted gate user moment nexts.Logout = stepped gate (asked_by user requests.Logout moment)
-acted gate user moment nexts.Close = gate
+acted gate user moment next = after_step gate (step_of user moment next)
 
 abbrev pub by_turn : GateData → Connection → ℕ → Turn → Run
 by_turn gate connection moment t = record {
@@ -77,11 +82,6 @@ logged_in gate connection login moment =
     on_event (stepped gate (login_asked_at gate moment login))
     (record connection { user = login.user; next = first_told (login_told gate moment login) })
     (happens.Answered (login_told gate moment login)) moment
-
--- the login that a packet asks for, where the session wants it made
-abbrev pub login_in : ClientPacket → Next → Option LoginRequest
-login_in (client.Login login) nexts.Login = Some login
-login_in packet next = None
 
 abbrev pub with_login : GateData → Connection → ℕ → Option LoginRequest → Run
 with_login gate connection moment (Some login) = logged_in gate connection login moment
@@ -111,13 +111,6 @@ sent gate connection reports moment =
 -- the user's stream from the next number on
 abbrev pub unsent : GateData → Connection → List Report
 unsent gate connection = drop (connection.next - 1) (stream gate.policy gate.records (folded_user connection.user))
-
-abbrev pub is_on : Phase → Bool
-is_on Fresh = false
-is_on Waiting = false
-is_on On = true
-is_on Abandoned = false
-is_on Done = false
 
 -- where a user is logged in, all reports that are there are sent
 unfoldable pub pulled : GateData → Connection → ℕ → Run

@@ -7,14 +7,14 @@ ghost use Rattle.gx_devices.specs.Stopping.{AreFewer, Mark};
 ghost use Rattle.gx_session.specs.declared.session.Phase.TheVariants.{Waiting};
 ghost use Rattle.gx_pipe.specs.Faults.{IsToldFull, IsToldRightly, IsFinite};
 ghost use Rattle.gx_pipe.specs.Faults.{fault_of_step};
-ghost use Rattle.gx_session.specs.Events.{CanAsk, asks_step, is_over};
+ghost use Rattle.gx_session.specs.Events.{CanAsk, asks_step, is_on};
 ghost use Rattle.gx_session.specs.Happenings.{happening};
-ghost use Rattle.gx_pipe.specs.Piping.{is_never_refused, logout_of, step_of, IsTaken, IsGivenUp};
+ghost use Rattle.gx_pipe.specs.Piping.{is_never_refused, logout_of, IsTaken, IsGivenUp};
 ghost use Rattle.gx_pipe.specs.Piping.{IsTurnGivenUp, Standing, pull_marks, packet_marks};
 ghost use Rattle.gx_pipe.specs.Piping.{StopsIn, GivesAll, IsLeaving, IsMatchedInPart};
 ghost use Rattle.gx_session.specs.Table.{turn};
-ghost use Rattle.gx_pipe.specs.Transcript.{acted, silent, on_event, logged_in, answered};
-ghost use Rattle.gx_pipe.specs.Transcript.{matched, pulled, is_on, handled, opened_at};
+ghost use Rattle.gx_pipe.specs.Transcript.{acted, silent, step_of, on_event, logged_in, answered};
+ghost use Rattle.gx_pipe.specs.Transcript.{matched, pulled, handled, opened_at};
 ghost use Rattle.gx_pipe.specs.Transcript.{run_at, finished, first_told};
 
 use crate::asking::login_step;
@@ -22,7 +22,7 @@ use crate::fault::PipeFault;
 use gx_answers::{AccessGate, LoginAnswer, Pulled, StepFault, asked, count_of};
 use gx_devices::Counted;
 use gx_history::record::Request;
-use gx_session::{Event, Next, Phase, Session, send_control, send_pulled};
+use gx_session::{Event, Next, Session, send_control, send_pulled};
 use gx_soup::{ClientPacket, LoginRequest};
 use gx_units::{OutOfMemory, UserName};
 use std::alloc::Global;
@@ -211,7 +211,7 @@ impl Connection {
             (G.seen gate.old) self.now moment (fault_of_step refused) (G.seen gate.new)) }
         ensures full { IfErr result (IsToldFull (G.seen gate.new)) }
     {
-        if self.is_over() {
+        if self.session.is_over() {
             return Ok(());
         }
         settle(gate, moment)
@@ -251,7 +251,7 @@ impl Connection {
         ensures told { IfErr result (IsToldRightly
             0 0 writer.old.failed writer.new.failed (G.seen gate.new)) }
     {
-        if !self.is_on() {
+        if !self.session.is_on() {
             return Ok(());
         }
         let pulled = self.reports(gate)?;
@@ -288,7 +288,7 @@ impl Connection {
         ensures told { IfErr result (IsToldRightly
             0 0 writer.old.failed writer.new.failed (G.seen gate.new)) }
     {
-        if self.is_over() {
+        if self.session.is_over() {
             return Ok(());
         }
         let moment = self.coming;
@@ -296,26 +296,6 @@ impl Connection {
         self.answer(alloc, gate, packet, moment, writer)?;
         self.match_orders(gate, moment)?;
         self.pull(alloc, gate, moment, writer)
-    }
-
-    /// Whether a user is logged in.
-    fn is_on(&self) -> bool
-        ensures { result ≡ is_on self.now.session.phase }
-    {
-        match self.session.phase() {
-            Phase::On => true,
-            Phase::Fresh | Phase::Waiting | Phase::Abandoned | Phase::Done => false,
-        }
-    }
-
-    /// Whether the session is over.
-    pub(crate) fn is_over(&self) -> bool
-        ensures { result ≡ is_over self.now.session.phase }
-    {
-        match self.session.phase() {
-            Phase::Abandoned | Phase::Done => true,
-            Phase::Fresh | Phase::Waiting | Phase::On => false,
-        }
     }
 
     /// Tells the session that its input has a fault or is at its end, and logs out a user who is on.

@@ -76,7 +76,7 @@ fn exchange<G: AccessGate, W: Write>(
 {
     let fed = feeder.feed(piece)?;
     take_packets(alloc, gate, connection, writer, fed.packets.as_slice())?;
-    Ok(fed.fault.is_some() || connection.is_over())
+    Ok(fed.fault.is_some() || connection.session.is_over())
 }
 
 /// Runs a connection until its end or a fault, with so many reads at most.

@@ -17,6 +17,7 @@ use gx_policy::Policy;
 use gx_records::{ShowsRecords, ShowsState};
 use gx_units::OutOfMemory;
 use std::alloc::Global;
+use std::thread::{Threads, join};
 
 /// The spans of an audit's day.
 fn spans_of(audit: &[u8]) -> Spans {
@@ -76,13 +77,33 @@ fn text_of<G: ShowsRecords + ShowsState>(
     written(alloc, &report, form)
 }
 
+/// A gate behind the audit's records, and whoever looked on while they were made again.
+fn see<G: ShowsRecords + ShowsState>(
+    alloc: Global,
+    policy: &Policy,
+    audit: &[u8],
+    spans: Spans,
+) -> Result<(G, ReportWatch), AuditFault>
+    ensures taken { IfOk result (λ seen. AreTaken
+        (G.seen seen.0).policy seen.1.second.first (G.seen seen.0).records) }
+    ensures fault { IfErr result (λ e. IsAnswer policy.now audit.now (Err e)) }
+{
+    let Ok(mut watch) = watch_of(alloc, policy, audit, spans) else {
+        return Err(AuditFault::OutOfMemory);
+    };
+    let gate = replay_watched(alloc, policy, audit, u64::MAX, &mut watch)?;
+    Ok((gate, watch))
+}
+
 /// The report of an audit's day under the policy, in this form. The audit is in any version, and may be cut in its last
-/// record, as the journal of a server that runs may be. Each step is made again on a gate of its own, a `G`.
+/// record, as the journal of a server that runs may be. Each step is made again on a gate of its own, a `G`, while another
+/// thread, where there is one, digests the audit.
 ///
 /// # Errors
 ///
 /// As of [`check_audit`](gx_audit::check_audit); `Truncated` only where the bytes are too few for a header.
-pub fn day_report<G: ShowsRecords + ShowsState>(
+pub fn day_report<G: ShowsRecords + ShowsState + Send, R: Threads + Sync>(
+    rt: &R,
     alloc: Global,
     policy: &Policy,
     audit: &[u8],
@@ -91,11 +112,17 @@ pub fn day_report<G: ShowsRecords + ShowsState>(
     ensures fault { IfErr result (λ e. IsAnswer policy.now audit.now (Err e)) }
 {
     let spans = spans_of(audit);
-    let Ok(mut watch) = watch_of(alloc, policy, audit, spans) else {
-        return Err(AuditFault::OutOfMemory);
-    };
-    let gate: G = replay_watched(alloc, policy, audit, u64::MAX, &mut watch)?;
-    let text = text_of(alloc, &gate, watch, Digests::of(audit, policy), spans, form);
+    let (seen, digests) = join(
+        rt,
+        || -> Result<(G, ReportWatch), AuditFault>
+            ensures taken { IfOk result (λ seen. AreTaken
+                (G.seen seen.0).policy seen.1.second.first (G.seen seen.0).records) }
+            ensures fault { IfErr result (λ e. IsAnswer policy.entry.now audit.entry.now (Err e)) }
+        { see::<G>(alloc, policy, audit, spans) },
+        || -> Digests { Digests::of(audit, policy) },
+    );
+    let (gate, watch) = seen?;
+    let text = text_of(alloc, &gate, watch, digests, spans, form);
     gate.close();
     match text {
         Ok(text) => Ok(text),

@@ -7,14 +7,11 @@ use Rattle.gx_history.specs.declared.record.Asked.{Asked}
 use Rattle.gx_answers.specs.declared.outcome.Outcome.{Outcome}
 use Rattle.gx_answers.specs.declared.outcome.StepFault.TheVariants as faults
 use Rattle.gx_answers.specs.Gates.{left_by}
-use Rattle.gx_answers.specs.declared.outcome.LoginAnswer.{LoginAnswer}
-use Rattle.gx_answers.specs.declared.outcome.LoginAnswer.TheVariants as answers
-use Rattle.gx_soup.specs.declared.packet.ClientPacket.{ClientPacket}
-use Rattle.gx_soup.specs.declared.packet.ClientPacket.TheVariants as client
 use Rattle.gx_pass.specs.declared.view.Holds.{Holds}
 use Rattle.gx_session.specs.Happenings as happens
 use Rattle.gx_session.specs.declared.session.Phase.{Phase}
 use Rattle.gx_session.specs.declared.session.Phase.TheVariants.{Fresh, Waiting, On, Abandoned, Done}
+use Rattle.gx_session.specs.Outboxes.{left_after}
 use Rattle.gx_session.specs.Table.{row_in, turn, SessionData}
 use Rattle.gx_history.specs.InForce.{line_of}
 use Rattle.gx_units.specs.Spelling.{folded_user}
@@ -24,15 +21,16 @@ use Rattle.gx_door.specs.Acts.{IsLater}
 use Rattle.gx_door.specs.declared.ended.Ended.{Ended}
 use Rattle.gx_door.specs.Matching.{Turns}
 use Rattle.gx_lobby.specs.Watches.{has_news, WatchData}
-use Rattle.gx_session.specs.Events.{is_over}
+use Rattle.gx_session.specs.Events.{is_on, is_over}
+use Rattle.gx_session.specs.declared.event.Sign.{Sign}
+use Rattle.gx_session.specs.declared.outbox.Outbox.{Outbox}
 use Rattle.gx_serve.specs.declared.announcing.EndedOrders.{EndedOrders}
 use Rattle.gx_serve.specs.Announcements.{announced_of, WasAnnounced}
-use Rattle.gx_serve.specs.declared.seat.Sign.{Sign}
 use Rattle.gx_serve.specs.declared.seat.outgoing.Due.{Due}
 use Rattle.gx_serve.specs.declared.seat.outgoing.Due.TheVariants as dues
 use Rattle.gx_serve.specs.Marks.{fetched, FetchedData, Mark}
-use Rattle.gx_serve.specs.Seats.{answer_after, is_on, sign_after, HasLooked, WasTold, WasToldRefusal}
-use Rattle.gx_serve.specs.Seeking.{due_of, is_bare, watch_after, GoesOnWhere, IsOver, LooksWhere, Seeks, Watches, WasPulled, WasSought, WasWatched}
+use Rattle.gx_serve.specs.Seats.{HasLooked, WasTold, WasToldRefusal}
+use Rattle.gx_serve.specs.Seeking.{due_of, is_bare, watch_after, DueElse, IsOver, LooksWhere, Seeks, WasPulled, WasSought, WasWatched}
 use Rattle.gx_serve.specs.Speech.{IsDue, IsShown}
 
 -- a step was made, and what belongs to it is announced
@@ -98,10 +96,10 @@ was_not_on policy user m moment session session' was mid next is watch count tol
 }))
 
 -- the session was told of the time
-pub was_watched : (left : Option Sign) (policy : PolicyData) (user : UserName) (m : Mark) (moment : ℕ) (session ticked session' : SessionData) (was between is : Holds) (watch watch' : WatchData) (due : Due)
-    → WasTold policy user happens.Tick moment session was ticked between → Seeks (sign_after left (turn session happens.Tick moment).reply.send) policy user m moment ticked between watch session' is watch' due
-    → WasWatched left policy user m moment session was watch session' is watch' due
-was_watched left policy user m moment session ticked session' was between is watch watch' due told sought = record { ticked = ticked; between = between; told = told; sought = sought }
+pub was_watched : (left left' : Outbox) (policy : PolicyData) (user : UserName) (m : Mark) (moment : ℕ) (session ticked session' : SessionData) (was between is : Holds) (watch watch' : WatchData) (due : Due)
+    → WasTold policy user happens.Tick moment session was ticked between → Seeks (left_after left (turn session happens.Tick moment).reply.send).sign left' policy user m moment ticked between watch session' is watch' due
+    → WasWatched left left' policy user m moment session was watch session' is watch' due
+was_watched left left' policy user m moment session ticked session' was between is watch watch' due told sought = record { ticked = ticked; between = between; told = told; sought = sought }
 
 -- What is due are the user's reports from the mark on.
 
@@ -130,64 +128,31 @@ looks_due : (on : Bool) (policy : PolicyData) (user : UserName) (m : Mark) (mome
 looks_due true policy user m moment session was watch session' is watch' due pulled = pulled_due policy user m moment session was watch session' is watch' due pulled
 looks_due false policy user m moment session was watch session' is watch' due (stays, nothing) = due_so policy m.user m.next dues.Nothing due nothing tt
 
-goes_due : (over : Bool) (policy : PolicyData) (user : UserName) (m : Mark) (moment : ℕ) (session : SessionData) (was : Holds) (watch : WatchData) (session' : SessionData) (is : Holds) (watch' : WatchData) (due : Due)
-    → GoesOnWhere over policy user m moment session was watch session' is watch' due → IsDue policy m.user m.next due
-goes_due true policy user m moment session was watch session' is watch' due (stays, over) = over_due policy m.user m.next due over
-goes_due false policy user m moment session was watch session' is watch' due looks = looks_due (is_on session.phase) policy user m moment session was watch session' is watch' due looks
+else_due : {Else : Type 0} (left : Option Sign) (left' : Outbox) (over : Bool) (policy : PolicyData) (m : Mark) (session : SessionData) (was : Holds) (watch : WatchData) (session' : SessionData) (is : Holds) (watch' : WatchData) (due : Due)
+    → (Else → IsDue policy m.user m.next due) → DueElse left left' over session was watch session' is watch' due Else → IsDue policy m.user m.next due
+else_due (Some sign) left' over policy m session was watch session' is watch' due by (stays, signs, taken) = due_so policy m.user m.next (dues.Sign sign) due signs tt
+else_due None left' true policy m session was watch session' is watch' due by (stays, over) = over_due policy m.user m.next due over
+else_due None left' false policy m session was watch session' is watch' due by other = by other
 
-seeks_due : (left : Option Sign) (policy : PolicyData) (user : UserName) (m : Mark) (moment : ℕ) (session : SessionData) (was : Holds) (watch : WatchData) (session' : SessionData) (is : Holds) (watch' : WatchData) (due : Due)
-    → Seeks left policy user m moment session was watch session' is watch' due → IsDue policy m.user m.next due
-seeks_due (Some sign) policy user m moment session was watch session' is watch' due (stays, signs) = due_so policy m.user m.next (dues.Sign sign) due signs tt
-seeks_due None policy user m moment session was watch session' is watch' due goes = goes_due (is_over session.phase) policy user m moment session was watch session' is watch' due goes
+seeks_due : (left : Option Sign) (left' : Outbox) (policy : PolicyData) (user : UserName) (m : Mark) (moment : ℕ) (session : SessionData) (was : Holds) (watch : WatchData) (session' : SessionData) (is : Holds) (watch' : WatchData) (due : Due)
+    → Seeks left left' policy user m moment session was watch session' is watch' due → IsDue policy m.user m.next due
+seeks_due left left' policy user m moment session was watch session' is watch' due sought =
+    else_due left left' (is_over session.phase) policy m session was watch session' is watch' due (looks_due (is_on session.phase) policy user m moment session was watch session' is watch' due) sought
 
-watches_due : (over : Bool) (policy : PolicyData) (user : UserName) (m : Mark) (moment : ℕ) (session : SessionData) (was : Holds) (watch : WatchData) (session' : SessionData) (is : Holds) (watch' : WatchData) (due : Due)
-    → Watches over policy user m moment session was watch session' is watch' due → IsDue policy m.user m.next due
-watches_due true policy user m moment session was watch session' is watch' due (stays, over) = over_due policy m.user m.next due over
-watches_due false policy user m moment session was watch session' is watch' due watched =
-    seeks_due (sign_after None (turn session happens.Tick moment).reply.send) policy user m moment watched.ticked watched.between watch session' is watch' due watched.sought
+watched_due : (left left' : Outbox) (policy : PolicyData) (user : UserName) (m : Mark) (moment : ℕ) (session : SessionData) (was : Holds) (watch : WatchData) (session' : SessionData) (is : Holds) (watch' : WatchData) (due : Due)
+    → WasWatched left left' policy user m moment session was watch session' is watch' due → IsDue policy m.user m.next due
+watched_due left left' policy user m moment session was watch session' is watch' due w =
+    seeks_due (left_after left (turn session happens.Tick moment).reply.send).sign left' policy user m moment w.ticked w.between watch session' is watch' due w.sought
 
-pub sought_is_due : (left : Option Sign) (policy : PolicyData) (user : UserName) (m : Mark) (moment : ℕ) (session : SessionData) (was : Holds) (watch : WatchData) (session' : SessionData) (is : Holds) (watch' : WatchData) (due : Due)
-    → WasSought left policy user m moment session was watch session' is watch' due → IsDue policy m.user m.next due
-sought_is_due (Some sign) policy user m moment session was watch session' is watch' due (stays, signs) = due_so policy m.user m.next (dues.Sign sign) due signs tt
-sought_is_due None policy user m moment session was watch session' is watch' due watched = watches_due (is_over session.phase) policy user m moment session was watch session' is watch' due watched
-
--- A packet and a login's answer leave no sign.
-
-packet_row : (left : Option Sign) (phase : Phase) (packet : ClientPacket) (silent quiet : Bool) → sign_after left (row_in phase (happens.Packet packet) silent quiet).reply.send ≡ left
-packet_row left Fresh (client.Login login) silent quiet = refl
-packet_row left Fresh (client.Data payload) silent quiet = refl
-packet_row left Fresh client.Logout silent quiet = refl
-packet_row left Fresh client.Heartbeat silent quiet = refl
-packet_row left Fresh client.Debug silent quiet = refl
-packet_row left Waiting packet silent quiet = refl
-packet_row left On (client.Login login) silent quiet = refl
-packet_row left On (client.Data payload) silent quiet = refl
-packet_row left On client.Logout silent quiet = refl
-packet_row left On client.Heartbeat silent quiet = refl
-packet_row left On client.Debug silent quiet = refl
-packet_row left Abandoned packet silent quiet = refl
-packet_row left Done packet silent quiet = refl
-
-pub packets_leave_no_sign : (left : Option Sign) (session : SessionData) (packet : ClientPacket) (moment : ℕ) → sign_after left (turn session (happens.Packet packet) moment).reply.send ≡ left
-unfolding turn
-packets_leave_no_sign left session packet moment = packet_row left session.phase packet (nat_le 15000000000 (moment - session.heard)) (nat_le 1000000000 (moment - session.sent))
-
-answered_row : (left : Option Sign) (phase : Phase) (answer : LoginAnswer) (silent quiet : Bool) → sign_after left (row_in phase (happens.Answered answer) silent quiet).reply.send ≡ left
-answered_row left Fresh answer silent quiet = refl
-answered_row left Waiting (answers.Accepted name next) silent quiet = refl
-answered_row left Waiting (answers.Rejected reason) silent quiet = refl
-answered_row left On answer silent quiet = refl
-answered_row left Abandoned (answers.Accepted name next) silent quiet = refl
-answered_row left Abandoned (answers.Rejected reason) silent quiet = refl
-answered_row left Done answer silent quiet = refl
-
-pub answers_leave_no_sign : (left : Option Sign) (session : SessionData) (answer : LoginAnswer) (moment : ℕ) → sign_after left (turn session (happens.Answered answer) moment).reply.send ≡ left
-unfolding turn
-answers_leave_no_sign left session answer moment = answered_row left session.phase answer (nat_le 15000000000 (moment - session.heard)) (nat_le 1000000000 (moment - session.sent))
+pub sought_is_due : (left left' : Outbox) (policy : PolicyData) (user : UserName) (m : Mark) (moment : ℕ) (session : SessionData) (was : Holds) (watch : WatchData) (session' : SessionData) (is : Holds) (watch' : WatchData) (due : Due)
+    → WasSought left left' policy user m moment session was watch session' is watch' due → IsDue policy m.user m.next due
+sought_is_due left left' policy user m moment session was watch session' is watch' due sought =
+    else_due left.sign left' (is_over session.phase) policy m session was watch session' is watch' due
+    (watched_due (record left { sign = None }) left' policy user m moment session was watch session' is watch' due) sought
 
 -- As time passes no login is answered.
 
-tick_row : (left : Option LoginAnswer) (phase : Phase) (silent quiet : Bool) → answer_after left (row_in phase happens.Tick silent quiet).reply.send ≡ left
+tick_row : (left : Outbox) (phase : Phase) (silent quiet : Bool) → (left_after left (row_in phase happens.Tick silent quiet).reply.send).answer ≡ left.answer
 tick_row left Fresh true quiet = refl
 tick_row left Fresh false quiet = refl
 tick_row left Waiting true quiet = refl
@@ -198,30 +163,19 @@ tick_row left On false false = refl
 tick_row left Abandoned silent quiet = refl
 tick_row left Done silent quiet = refl
 
-pub ticks_answer_nothing : (left : Option LoginAnswer) (session : SessionData) (moment : ℕ) → answer_after left (turn session happens.Tick moment).reply.send ≡ left
+pub ticks_answer_nothing : (left : Outbox) (session : SessionData) (moment : ℕ) → (left_after left (turn session happens.Tick moment).reply.send).answer ≡ left.answer
 unfolding turn
 ticks_answer_nothing left session moment = tick_row left session.phase (nat_le 15000000000 (moment - session.heard)) (nat_le 1000000000 (moment - session.sent))
 
 -- At the end nothing is answered or sent.
 
-end_row : (left : Option LoginAnswer) (phase : Phase) (silent quiet : Bool) → answer_after left (row_in phase happens.End silent quiet).reply.send ≡ left
+end_row : (left : Outbox) (phase : Phase) (silent quiet : Bool) → left_after left (row_in phase happens.End silent quiet).reply.send ≡ left
 end_row left Fresh silent quiet = refl
 end_row left Waiting silent quiet = refl
 end_row left On silent quiet = refl
 end_row left Abandoned silent quiet = refl
 end_row left Done silent quiet = refl
 
-pub ends_answer_nothing : (left : Option LoginAnswer) (session : SessionData) (moment : ℕ) → answer_after left (turn session happens.End moment).reply.send ≡ left
+pub ends_leave_nothing : (left : Outbox) (session : SessionData) (moment : ℕ) → left_after left (turn session happens.End moment).reply.send ≡ left
 unfolding turn
-ends_answer_nothing left session moment = end_row left session.phase (nat_le 15000000000 (moment - session.heard)) (nat_le 1000000000 (moment - session.sent))
-
-end_sign : (left : Option Sign) (phase : Phase) (silent quiet : Bool) → sign_after left (row_in phase happens.End silent quiet).reply.send ≡ left
-end_sign left Fresh silent quiet = refl
-end_sign left Waiting silent quiet = refl
-end_sign left On silent quiet = refl
-end_sign left Abandoned silent quiet = refl
-end_sign left Done silent quiet = refl
-
-pub ends_leave_no_sign : (left : Option Sign) (session : SessionData) (moment : ℕ) → sign_after left (turn session happens.End moment).reply.send ≡ left
-unfolding turn
-ends_leave_no_sign left session moment = end_sign left session.phase (nat_le 15000000000 (moment - session.heard)) (nat_le 1000000000 (moment - session.sent))
+ends_leave_nothing left session moment = end_row left session.phase (nat_le 15000000000 (moment - session.heard)) (nat_le 1000000000 (moment - session.sent))

@@ -12,11 +12,11 @@ use Rattle.gx_answers.specs.declared.outcome.LoginAnswer.{LoginAnswer}
 use Rattle.gx_answers.specs.declared.outcome.LoginAnswer.TheVariants as answers
 use Rattle.gx_devices.specs.Devices.{IsFront}
 use Rattle.gx_session.specs.declared.event.Control.TheVariants as controls
+use Rattle.gx_session.specs.declared.event.Sign.TheVariants as signs
 use Rattle.gx_session.specs.Sending.{control_bytes, reports_text}
 use Rattle.gx_devices.proofs.Known.{front_behind, front_longer}
 use Rattle.gx_serve.specs.declared.seat.outgoing.Due.{Due}
 use Rattle.gx_serve.specs.declared.seat.outgoing.Due.TheVariants as dues
-use Rattle.gx_serve.specs.declared.seat.Sign.TheVariants as signs
 use Rattle.gx_serve.specs.declared.seat.outgoing.Greeted.{Greeted}
 use Rattle.gx_serve.specs.declared.seat.outgoing.Greeted.TheVariants as greeteds
 use Rattle.gx_serve.specs.declared.seat.outgoing.Finished.{Finished}
@@ -41,7 +41,7 @@ nothing_spoken policy user from = record { parts = []; go_on = refl; whole = ref
 
 -- what is due and not the last is a part
 due_spoken : (policy : PolicyData) (user : UserName) (from : ℕ) (due : Due) → Speech.IsDue policy user from due → Speech.is_last due ≡ false → Speech.IsSpoken policy user from (Speech.due_text due) (Speech.next_after due from)
-due_spoken policy user from (dues.Sign signs.Heartbeat) d e = record { parts = Speech.Beat ∷ []; go_on = refl; whole = sym (append-nil (control_bytes controls.Heartbeat)) }
+due_spoken policy user from (dues.Sign signs.Heartbeat) d e = record { parts = Speech.Beat ∷ []; go_on = refl; whole = sym (append-nil (control_bytes (controls.Sign signs.Heartbeat))) }
 due_spoken policy user from (dues.Sign signs.EndOfSession) d e = cc
 due_spoken policy user from (dues.Reports fetched) d e = record { parts = Speech.Shown fetched.pulled ∷ []; go_on = (d, refl); whole = sym (append-nil (reports_text fetched.pulled.reports)) }
 due_spoken policy user from dues.Nothing d e = record { parts = []; go_on = refl; whole = refl }
@@ -71,14 +71,19 @@ says_more policy user from to before mid after due d e s w = record {
   written = Appends-trans before mid after s.spoken (Speech.due_text due) s.written w;
 }
 
-says_last : (policy : PolicyData) (user : UserName) (from to : ℕ) (before mid after : Option (List ℕ)) (due : Due) → Speech.is_last due ≡ true → Says policy user from to before mid → Appends mid after (Speech.due_text due) → Speech.WasSpoken policy user from before after
-says_last policy user from to before mid after due e s w = record {
+-- a text behind what was written
+behind : (whole : Bool) (front text : List ℕ) (before mid after : Option (List ℕ)) → Appends before mid front → Speech.Writes whole mid after text → Speech.Writes whole before after (front ++ text)
+behind true front text before mid after f w = Appends-trans before mid after front text f w
+behind false front text before mid after f w = front_behind front text before mid after f w
+
+says_last : (whole : Bool) (policy : PolicyData) (user : UserName) (from to : ℕ) (before mid after : Option (List ℕ)) (due : Due) → Speech.is_last due ≡ true → Says policy user from to before mid → Speech.Writes whole mid after (Speech.due_text due) → Speech.WasSpoken whole policy user from before after
+says_last whole policy user from to before mid after due e s w = record {
   to = to;
   spoken = s.spoken;
   speech = s.speech;
   ending = Speech.due_text due;
   ends = due_ends due e;
-  written = Appends-trans before mid after s.spoken (Speech.due_text due) s.written w;
+  written = behind whole s.spoken (Speech.due_text due) before mid after s.written w;
 }
 
 -- the same, of what the functions answered
@@ -90,40 +95,30 @@ due_still policy user user' from due same d = subst (λ u. Speech.IsDue policy u
 pub goes_further : (policy : PolicyData) (user : UserName) (from to next : ℕ) (before mid after : Option (List ℕ)) (due : Due) (last : Bool) → Speech.IsDue policy user to due → last ≡ Speech.is_last due → last ≡ false → next ≡ Speech.next_after due to → Says policy user from to before mid → Appends mid after (Speech.due_text due) → Says policy user from next before after
 goes_further policy user from to next before mid after due last d l e n s w = subst (λ k. Says policy user from k before after) (sym n) (says_more policy user from to before mid after due d (sym l ∙ e) s w)
 
-pub ends_there : (policy : PolicyData) (user : UserName) (from to : ℕ) (before mid after : Option (List ℕ)) (due : Due) (last : Bool) → last ≡ Speech.is_last due → last ≡ true → Says policy user from to before mid → Appends mid after (Speech.due_text due) → Speech.WasSpoken policy user from before after
-ends_there policy user from to before mid after due last l e s w = says_last policy user from to before mid after due (sym l ∙ e) s w
+pub ends_there : (policy : PolicyData) (user : UserName) (from to : ℕ) (before mid after : Option (List ℕ)) (due : Due) (last : Bool) → last ≡ Speech.is_last due → last ≡ true → Says policy user from to before mid → Appends mid after (Speech.due_text due) → Speech.WasSpoken true policy user from before after
+ends_there policy user from to before mid after due last l e s w = says_last true policy user from to before mid after due (sym l ∙ e) s w
 
-pub is_cut_off : (policy : PolicyData) (user : UserName) (from to : ℕ) (before mid after : Option (List ℕ)) (due : Due) → Speech.IsDue policy user to due → Says policy user from to before mid → IsFront mid after (Speech.due_text due) → Speech.WasCutOff policy user from before after
-is_cut_off policy user from to before mid after due d s f = elim (Speech.is_last due) as (λ b. Speech.is_last due ≡ b → Speech.WasCutOff policy user from before after) [
-  | true ↦ λ e. record {
-    to = to;
-    spoken = s.spoken;
-    speech = s.speech;
-    ending = Speech.due_text due;
-    ends = due_ends due e;
-    front = front_behind s.spoken (Speech.due_text due) before mid after s.written f;
-  }
+pub is_cut_off : (policy : PolicyData) (user : UserName) (from to : ℕ) (before mid after : Option (List ℕ)) (due : Due) → Speech.IsDue policy user to due → Says policy user from to before mid → IsFront mid after (Speech.due_text due) → Speech.WasSpoken false policy user from before after
+is_cut_off policy user from to before mid after due d s f = elim (Speech.is_last due) as (λ b. Speech.is_last due ≡ b → Speech.WasSpoken false policy user from before after) [
+  | true ↦ λ e. says_last false policy user from to before mid after due e s f
   | false ↦ λ e. record {
     to = Speech.next_after due to;
     spoken = s.spoken ++ Speech.due_text due;
     speech = spoken_on policy user from to (Speech.next_after due to) s.spoken (Speech.due_text due) s.speech (due_spoken policy user to due d e);
     ending = [];
     ends = inl refl;
-    front = front_longer (s.spoken ++ Speech.due_text due) [] before after (front_behind s.spoken (Speech.due_text due) before mid after s.written f);
+    written = front_longer (s.spoken ++ Speech.due_text due) [] before after (front_behind s.spoken (Speech.due_text due) before mid after s.written f);
   }
 ] refl
 
 -- The whole of it, by what came of the login.
 
-pub nothing_said : (policy : PolicyData) (output : Option (List ℕ)) → Speech.WasSaid policy output output
-nothing_said policy output = record { text = []; said = inl refl; written = Appends-nil output }
-
-pub is_said : (policy : PolicyData) (finished : Finished) (before after : Option (List ℕ)) → Speech.IsGreeted before after (greeteds.Over finished) → Speech.WasSaid policy before after
+pub is_said : (policy : PolicyData) (finished : Finished) (before after : Option (List ℕ)) → Speech.IsGreeted before after (greeteds.Over finished) → Speech.WasSaid true policy before after
 is_said policy finished before after (inl w) = record { text = []; said = inl refl; written = w }
-is_said policy finished before after (inr (reason, w)) = record { text = control_bytes (controls.Rejected reason); said = inr (inl (reason, refl)); written = w }
+is_said policy finished before after (inr (reason, w)) = record { text = control_bytes (controls.Answer (answers.Rejected reason)); said = inr (inl (reason, refl)); written = w }
 
-pub is_greeted : (user : UserName) (answer : LoginAnswer) (greeted : Greeted) (before after : Option (List ℕ)) → Appends before after (control_bytes (Speech.answer_control answer)) → Speech.Begins user answer greeted → Speech.IsGreeted before after greeted
-is_greeted user (answers.Accepted session next) (greeteds.On m) before after w b = (session, subst (λ n. Appends before after (control_bytes (controls.Accepted session n))) (sym (ap (λ k. k.next) b)) w)
+pub is_greeted : (user : UserName) (answer : LoginAnswer) (greeted : Greeted) (before after : Option (List ℕ)) → Appends before after (control_bytes (controls.Answer answer)) → Speech.Begins user answer greeted → Speech.IsGreeted before after greeted
+is_greeted user (answers.Accepted session next) (greeteds.On m) before after w b = (session, subst (λ n. Appends before after (control_bytes (controls.Answer (answers.Accepted session n)))) (sym (ap (λ k. k.next) b)) w)
 is_greeted user (answers.Accepted session next) (greeteds.Over finished) before after w b = absurd b
 is_greeted user (answers.Accepted session next) greeteds.Cut before after w b = absurd b
 is_greeted user (answers.Rejected reason) (greeteds.On m) before after w b = absurd b
@@ -133,7 +128,7 @@ is_greeted user (answers.Rejected reason) greeteds.Cut before after w b = absurd
 blank_user : UserName
 blank_user = record { bytes = codes "      " }
 
-answer_said : (policy : PolicyData) (answer : LoginAnswer) → Speech.IsConversation policy (control_bytes (Speech.answer_control answer))
+answer_said : (policy : PolicyData) (answer : LoginAnswer) → Speech.IsConversation policy (control_bytes (controls.Answer answer))
 answer_said policy (answers.Rejected reason) = inr (inl (reason, refl))
 answer_said policy (answers.Accepted session next) = inr (inr (record {
   user = blank_user;
@@ -144,13 +139,13 @@ answer_said policy (answers.Accepted session next) = inr (inr (record {
   speech = nothing_spoken policy blank_user next;
   ending = [];
   ends = inl refl;
-  whole = sym (append-nil (control_bytes (controls.Accepted session next) ++ []) ∙ append-nil (control_bytes (controls.Accepted session next)));
+  whole = sym (append-nil (control_bytes (controls.Answer (answers.Accepted session next)) ++ []) ∙ append-nil (control_bytes (controls.Answer (answers.Accepted session next))));
 }))
 
-pub answer_cut : (policy : PolicyData) (before after : Option (List ℕ)) → Speech.IsGreeted before after greeteds.Cut → Speech.WasCut policy before after
-answer_cut policy before after (answer, f) = record { text = control_bytes (Speech.answer_control answer); said = answer_said policy answer; front = f }
+pub answer_cut : (policy : PolicyData) (before after : Option (List ℕ)) → Speech.IsGreeted before after greeteds.Cut → Speech.WasSaid false policy before after
+answer_cut policy before after (answer, f) = record { text = control_bytes (controls.Answer answer); said = answer_said policy answer; written = f }
 
-welcome : (policy : PolicyData) (user : UserName) (session : SessionName) (first to : ℕ) (spoken ending : List ℕ) → Speech.IsSpoken policy user first spoken to → Speech.IsEnding ending → Speech.IsConversation policy (control_bytes (controls.Accepted session first) ++ (spoken ++ ending))
+welcome : (policy : PolicyData) (user : UserName) (session : SessionName) (first to : ℕ) (spoken ending : List ℕ) → Speech.IsSpoken policy user first spoken to → Speech.IsEnding ending → Speech.IsConversation policy (control_bytes (controls.Answer (answers.Accepted session first)) ++ (spoken ++ ending))
 welcome policy user session first to spoken ending s e = inr (inr (record {
   user = user;
   session = session;
@@ -160,21 +155,14 @@ welcome policy user session first to spoken ending s e = inr (inr (record {
   speech = s;
   ending = ending;
   ends = e;
-  whole = sym (append_assoc (control_bytes (controls.Accepted session first)) spoken ending);
+  whole = sym (append_assoc (control_bytes (controls.Answer (answers.Accepted session first))) spoken ending);
 }))
 
-pub whole_said : (policy : PolicyData) (user : UserName) (first : ℕ) (before mid after : Option (List ℕ)) → ((session : SessionName) × Appends before mid (control_bytes (controls.Accepted session first))) → Speech.WasSpoken policy user first mid after → Speech.WasSaid policy before after
-whole_said policy user first before mid after (session, g) s = record {
-  text = control_bytes (controls.Accepted session first) ++ (s.spoken ++ s.ending);
+pub rest_said : (whole : Bool) (policy : PolicyData) (user : UserName) (first : ℕ) (before mid after : Option (List ℕ)) → ((session : SessionName) × Appends before mid (control_bytes (controls.Answer (answers.Accepted session first)))) → Speech.WasSpoken whole policy user first mid after → Speech.WasSaid whole policy before after
+rest_said whole policy user first before mid after (session, g) s = record {
+  text = control_bytes (controls.Answer (answers.Accepted session first)) ++ (s.spoken ++ s.ending);
   said = welcome policy user session first s.to s.spoken s.ending s.speech s.ends;
-  written = Appends-trans before mid after _ _ g s.written;
-}
-
-pub rest_cut : (policy : PolicyData) (user : UserName) (first : ℕ) (before mid after : Option (List ℕ)) → ((session : SessionName) × Appends before mid (control_bytes (controls.Accepted session first))) → Speech.WasCutOff policy user first mid after → Speech.WasCut policy before after
-rest_cut policy user first before mid after (session, g) s = record {
-  text = control_bytes (controls.Accepted session first) ++ (s.spoken ++ s.ending);
-  said = welcome policy user session first s.to s.spoken s.ending s.speech s.ends;
-  front = front_behind (control_bytes (controls.Accepted session first)) (s.spoken ++ s.ending) before mid after g s.front;
+  written = behind whole (control_bytes (controls.Answer (answers.Accepted session first))) (s.spoken ++ s.ending) before mid after g s.written;
 }
 
 -- Nothing was sent.

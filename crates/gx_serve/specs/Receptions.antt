@@ -9,6 +9,7 @@ use Rattle.gx_answers.specs.declared.outcome.LoginAnswer.TheVariants as answers
 use Rattle.gx_devices.specs.Devices.{IsFront}
 use Rattle.gx_pass.specs.declared.view.Holds.{Holds}
 use Rattle.gx_pass.specs.Views.{mine}
+use Rattle.gx_session.specs.declared.event.Control.TheVariants as controls
 use Rattle.gx_session.specs.Sending.{control_bytes}
 use Rattle.gx_door.specs.Callers.{caller_of}
 use Rattle.gx_door.specs.declared.caller.Caller.TheVariants as callers
@@ -16,7 +17,6 @@ use Rattle.gx_serve.specs.declared.receiving.Gone.{Gone}
 use Rattle.gx_serve.specs.declared.receiving.Gone.TheVariants as gones
 use Rattle.gx_serve.specs.declared.receiving.Received.{Received}
 use Rattle.gx_serve.specs.declared.receiving.Received.TheVariants as receiveds
-use Rattle.gx_serve.specs.Speech.{answer_control}
 
 -- a user with the right password has a new line, and it is known who he is; whoever has none is known to have none
 abbrev pub WasReceived : {T : Type 0} → PolicyData → (T → Holds) → Received T → Type 0
@@ -28,7 +28,7 @@ WasReceived policy held (receiveds.Gone gone) = Unit {0}
 -- the answer was written, or a front of it
 abbrev pub WasTurnedOff : LoginAnswer → Option (List ℕ) → Option (List ℕ) → Type 0
 WasTurnedOff answer before after =
-    Appends before after (control_bytes (answer_control answer)) ⊎ IsFront before after (control_bytes (answer_control answer))
+    Appends before after (control_bytes (controls.Answer answer)) ⊎ IsFront before after (control_bytes (controls.Answer answer))
 
 -- a rejection for want of a password was written, or a front of it; nothing, where its login is not on record
 abbrev pub WasTurnedAway : Option (List ℕ) → Option (List ℕ) → Gone → Type 0

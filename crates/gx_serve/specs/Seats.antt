@@ -1,58 +1,30 @@
 -- What becomes of a session that two threads share, of its pass, and of what it asks to send.
 use Rattle.std.specs.Prelude.{◌≡◌, ℕ, ◌⊎◌, Bool, true, false, Option, Some, None}
+use Rattle.std.specs.Option.{option_map_or}
 use Rattle.gx_units.specs.declared.names.UserName.{UserName}
 use Rattle.gx_policy.specs.declared.policy.PolicyData.{PolicyData}
 use Rattle.gx_history.specs.declared.record.Asked.{Asked}
 use Rattle.gx_history.specs.declared.record.Request.{Request}
 use Rattle.gx_history.specs.declared.record.Request.TheVariants as requests
 use Rattle.gx_answers.specs.declared.outcome.LoginAnswer.{LoginAnswer}
-use Rattle.gx_answers.specs.declared.outcome.LoginAnswer.TheVariants as answers
 use Rattle.gx_answers.specs.declared.outcome.Outcome.{Outcome}
 use Rattle.gx_answers.specs.declared.outcome.StepFault.{StepFault}
 use Rattle.gx_answers.specs.Gates.{left_by}
 use Rattle.gx_soup.specs.declared.packet.ClientPacket.{ClientPacket}
-use Rattle.gx_soup.specs.declared.packet.ClientPacket.TheVariants as client
 use Rattle.gx_soup.specs.declared.packet.LoginRequest.{LoginRequest}
 use Rattle.gx_pass.specs.declared.view.Holds.{Holds}
 use Rattle.gx_pass.specs.Views.{mine}
 use Rattle.gx_door.specs.Acts.{asked_on, gate_met, login_on, AddsOwn, IsLater, IsToldFull, LogsIn, MayBeRefused}
 use Rattle.gx_door.specs.Matching.{Matches, Turns}
 use Rattle.gx_door.specs.declared.ended.Ended.{Ended}
-use Rattle.gx_session.specs.declared.event.Control.{Control}
-use Rattle.gx_session.specs.declared.event.Control.TheVariants as controls
 use Rattle.gx_session.specs.declared.event.Next.{Next}
-use Rattle.gx_session.specs.declared.event.Next.TheVariants.{Idle, Login, Act, Logout, Close}
-use Rattle.gx_serve.specs.declared.seat.Sign.{Sign}
-use Rattle.gx_serve.specs.declared.seat.Sign.TheVariants as signs
-use Rattle.gx_session.specs.declared.session.Phase.{Phase}
-use Rattle.gx_session.specs.declared.session.Phase.TheVariants.{Fresh, Waiting, On, Abandoned, Done}
+use Rattle.gx_session.specs.declared.event.Next.TheVariants.{Act, Logout}
+use Rattle.gx_session.specs.declared.outbox.Outbox.{Outbox}
+use Rattle.gx_session.specs.Events.{login_in}
 use Rattle.gx_session.specs.Happenings.{Happening}
 use Rattle.gx_session.specs.Happenings as happens
+use Rattle.gx_session.specs.Outboxes.{left_after}
 use Rattle.gx_session.specs.Table.{SessionData, turn}
-
--- the answer that is left to be sent, once a session has asked for this packet or for none
-abbrev pub answer_after : Option LoginAnswer → Option Control → Option LoginAnswer
-answer_after left None = left
-answer_after left (Some (controls.Accepted session next)) = Some (answers.Accepted session next)
-answer_after left (Some (controls.Rejected reason)) = Some (answers.Rejected reason)
-answer_after left (Some controls.Heartbeat) = left
-answer_after left (Some controls.EndOfSession) = left
-
--- and what else is left
-abbrev pub sign_after : Option Sign → Option Control → Option Sign
-sign_after left None = left
-sign_after left (Some (controls.Accepted session next)) = left
-sign_after left (Some (controls.Rejected reason)) = left
-sign_after left (Some controls.Heartbeat) = Some signs.Heartbeat
-sign_after left (Some controls.EndOfSession) = Some signs.EndOfSession
-
--- a user is logged in
-abbrev pub is_on : Phase → Bool
-is_on Fresh = false
-is_on Waiting = false
-is_on On = true
-is_on Abandoned = false
-is_on Done = false
 
 -- the step was made: its record is one more of the pass's own, behind all that had been met
 pub record WasMade (policy : PolicyData) (a : Asked) (was is : Holds) : Type 0 where
@@ -89,11 +61,8 @@ WasLoggedOut policy user moment was is =
 
 -- the logout that a session asks for
 abbrev pub Outs : Next → PolicyData → UserName → ℕ → Holds → Holds → Type 0
-Outs Idle policy user moment was is = is ≡ was
-Outs Login policy user moment was is = is ≡ was
-Outs (Act request) policy user moment was is = is ≡ was
 Outs Logout policy user moment was is = WasLoggedOut policy user moment was is
-Outs Close policy user moment was is = is ≡ was
+Outs other policy user moment was is = is ≡ was
 
 -- the session was told of this refusal at this moment, and the logout that it then asks for was made
 pub record WasToldRefusal (policy : PolicyData) (user : UserName) (fault : StepFault) (moment : ℕ) (session : SessionData) (was : Holds) (session' : SessionData) (is : Holds) : Type 0 where
@@ -109,13 +78,11 @@ pub record WasGivenUp (policy : PolicyData) (user : UserName) (request : Request
 
 -- the step that a session asks for was made, or it was told of its refusal
 abbrev pub Follows : Next → PolicyData → UserName → ℕ → SessionData → Holds → SessionData → Holds → Type 0
-Follows Idle policy user moment session was session' is = (session' ≡ session) × (is ≡ was)
-Follows Login policy user moment session was session' is = (session' ≡ session) × (is ≡ was)
 Follows (Act request) policy user moment session was session' is =
     ((session' ≡ session) × WasTurned policy (asked_on was.line user request moment) was is)
     ⊎ WasGivenUp policy user request moment session was session' is
 Follows Logout policy user moment session was session' is = (session' ≡ session) × WasLoggedOut policy user moment was is
-Follows Close policy user moment session was session' is = (session' ≡ session) × (is ≡ was)
+Follows other policy user moment session was session' is = (session' ≡ session) × (is ≡ was)
 
 -- the session was told of an event at this moment, and what it then asks for was done
 abbrev pub WasTold : PolicyData → UserName → Happening → ℕ → SessionData → Holds → SessionData → Holds → Type 0
@@ -128,16 +95,16 @@ Heeds true policy user moment session was session' is = WasTold policy user happ
 Heeds false policy user moment session was session' is = (session' ≡ session) × (is ≡ was)
 
 -- the login was made, and the session was told of what the gate answered
-pub record WasLoggedIn (policy : PolicyData) (login : LoginRequest) (moment : ℕ) (session : SessionData) (was : Holds) (left : Option LoginAnswer) (session' : SessionData) (is : Holds) (left' : Option LoginAnswer) : Type 0 where
+pub record WasLoggedIn (policy : PolicyData) (login : LoginRequest) (moment : ℕ) (session : SessionData) (was : Holds) (left : Outbox) (session' : SessionData) (is : Holds) (left' : Outbox) : Type 0 where
   pub answer : LoginAnswer
   pub between : Holds
   pub later : IsLater policy was between
   pub logs : LogsIn policy was between (login_on policy was.line login.user login.password login.session login.wanted moment) login.wanted answer
   pub told : WasTold policy login.user (happens.Answered answer) moment session between session' is
-  pub sends : left' ≡ answer_after left (turn session (happens.Answered answer) moment).reply.send
+  pub sends : left' ≡ left_after left (turn session (happens.Answered answer) moment).reply.send
 
 -- the login was refused, and the session was told of that
-pub record WasTurnedAway (policy : PolicyData) (login : LoginRequest) (moment : ℕ) (session : SessionData) (was : Holds) (left : Option LoginAnswer) (session' : SessionData) (is : Holds) (left' : Option LoginAnswer) : Type 0 where
+pub record WasTurnedAway (policy : PolicyData) (login : LoginRequest) (moment : ℕ) (session : SessionData) (was : Holds) (left : Outbox) (session' : SessionData) (is : Holds) (left' : Outbox) : Type 0 where
   pub fault : StepFault
   pub between : Holds
   pub later : IsLater policy was between
@@ -147,44 +114,25 @@ pub record WasTurnedAway (policy : PolicyData) (login : LoginRequest) (moment : 
   pub sends : left' ≡ left
 
 -- what came of a login
-abbrev pub WasAnswered : PolicyData → LoginRequest → ℕ → SessionData → Holds → Option LoginAnswer → SessionData → Holds → Option LoginAnswer → Type 0
+abbrev pub WasAnswered : PolicyData → LoginRequest → ℕ → SessionData → Holds → Outbox → SessionData → Holds → Outbox → Type 0
 WasAnswered policy login moment session was left session' is left' =
     WasLoggedIn policy login moment session was left session' is left'
     ⊎ WasTurnedAway policy login moment session was left session' is left'
 
--- what came of a packet with which a session asks for a login
-abbrev pub Admits : ClientPacket → PolicyData → ℕ → SessionData → Holds → Option LoginAnswer → SessionData → Holds → Option LoginAnswer → Type 0
-Admits (client.Login login) policy moment session was left session' is left' = WasAnswered policy login moment session was left session' is left'
-Admits (client.Data payload) policy moment session was left session' is left' = (session' ≡ session) × (is ≡ was)
-Admits client.Logout policy moment session was left session' is left' = (session' ≡ session) × (is ≡ was)
-Admits client.Heartbeat policy moment session was left session' is left' = (session' ≡ session) × (is ≡ was)
-Admits client.Debug policy moment session was left session' is left' = (session' ≡ session) × (is ≡ was)
-
--- what a session asked for on a packet was done
-abbrev pub Serves : Next → ClientPacket → PolicyData → UserName → ℕ → SessionData → Holds → Option LoginAnswer → SessionData → Holds → Option LoginAnswer → Type 0
-Serves Idle packet policy user moment session was left session' is left' = Follows Idle policy user moment session was session' is
-Serves Login packet policy user moment session was left session' is left' = Admits packet policy moment session was left session' is left'
-Serves (Act request) packet policy user moment session was left session' is left' = Follows (Act request) policy user moment session was session' is
-Serves Logout packet policy user moment session was left session' is left' = Follows Logout policy user moment session was session' is
-Serves Close packet policy user moment session was left session' is left' = Follows Close policy user moment session was session' is
+-- what a session asked for on a packet was done: this login, if it is one
+abbrev pub Serves : Option LoginRequest → Next → PolicyData → UserName → ℕ → SessionData → Holds → Outbox → SessionData → Holds → Outbox → Type 0
+Serves (Some login) next policy user moment session was left session' is left' = WasAnswered policy login moment session was left session' is left'
+Serves None next policy user moment session was left session' is left' = Follows next policy user moment session was session' is × (left' ≡ left)
 
 -- the session was told of a packet at this moment, and what it then asks for was done
-abbrev pub WasTaken : PolicyData → UserName → ClientPacket → ℕ → SessionData → Holds → Option LoginAnswer → SessionData → Holds → Option LoginAnswer → Type 0
+abbrev pub WasTaken : PolicyData → UserName → ClientPacket → ℕ → SessionData → Holds → Outbox → SessionData → Holds → Outbox → Type 0
 WasTaken policy user packet moment session was left session' is left' =
-    Serves (turn session (happens.Packet packet) moment).reply.next packet policy user moment (turn session (happens.Packet packet) moment).session was
-    (answer_after left (turn session (happens.Packet packet) moment).reply.send) session' is left'
+    let t = turn session (happens.Packet packet) moment in
+    Serves (login_in packet t.reply.next) t.reply.next policy user moment t.session was (left_after left t.reply.send) session' is left'
 
 -- who is asked for from then on
 abbrev pub user_after : Next → ClientPacket → UserName → UserName
-user_after Login (client.Login login) user = login.user
-user_after Login (client.Data payload) user = user
-user_after Login client.Logout user = user
-user_after Login client.Heartbeat user = user
-user_after Login client.Debug user = user
-user_after Idle packet user = user
-user_after (Act request) packet user = user
-user_after Logout packet user = user
-user_after Close packet user = user
+user_after next packet user = option_map_or (λ (login : LoginRequest). login.user) (login_in packet next) user
 
 -- the pass has met more, and none of its own
 pub record HasLooked (was is : Holds) : Type 0 where

@@ -1,5 +1,5 @@
 -- What a writer is given to do: the answer to a login, and then what is due to its user.
-use Rattle.std.specs.Prelude.{◌≡◌, ◌≢◌, ◌==◌, ℕ, ◌⊎◌, Bool, true, false, ◌&&◌, not, cond, IsFalse, IsTrue, Option, Some, None, length}
+use Rattle.std.specs.Prelude.{◌≡◌, ◌≢◌, ◌==◌, ℕ, ◌⊎◌, Bool, true, false, ◌&&◌, not, cond, IsFalse, IsTrue, Option, Some, None, Result, Ok, Err, length}
 use Rattle.gx_units.specs.declared.names.UserName.{UserName}
 use Rattle.gx_units.specs.Spelling.{folded_user}
 use Rattle.gx_policy.specs.declared.policy.PolicyData.{PolicyData}
@@ -11,24 +11,24 @@ use Rattle.gx_pass.specs.declared.view.Holds.{Holds}
 use Rattle.gx_pass.specs.Views.{retold}
 use Rattle.gx_door.specs.Acts.{IsLater}
 use Rattle.gx_lobby.specs.Watches.{has_news, watch_of, WatchData}
-use Rattle.gx_session.specs.Events.{is_over}
+use Rattle.gx_session.specs.declared.event.Sign.{Sign}
+use Rattle.gx_session.specs.declared.outbox.Outbox.{Outbox}
+use Rattle.gx_session.specs.Events.{is_on, is_over}
 use Rattle.gx_session.specs.Happenings as happens
+use Rattle.gx_session.specs.Outboxes.{left_after}
 use Rattle.gx_session.specs.Table.{SessionData, turn}
-use Rattle.gx_serve.specs.declared.seat.Sign.{Sign}
-use Rattle.gx_serve.specs.declared.seat.Sign.TheVariants as signs
 use Rattle.gx_serve.specs.declared.seat.outgoing.Due.{Due}
 use Rattle.gx_serve.specs.declared.seat.outgoing.Due.TheVariants as dues
-use Rattle.gx_serve.specs.declared.seat.outgoing.Greeting.{Greeting}
-use Rattle.gx_serve.specs.declared.seat.outgoing.Greeting.TheVariants as greetings
-use Rattle.gx_serve.specs.Marks.{fetched, given, FetchedData, Mark}
-use Rattle.gx_serve.specs.Seats.{is_on, sign_after, HasLooked, WasTold, WasToldRefusal}
+use Rattle.gx_serve.specs.declared.seat.outgoing.Finished.{Finished}
+use Rattle.gx_serve.specs.Marks.{fetched, given, FetchedData, Given, Mark}
+use Rattle.gx_serve.specs.Seats.{HasLooked, WasTold, WasToldRefusal}
 use Rattle.gx_serve.specs.Speech.{IsShown}
 
 -- there is nothing to greet with: for good where the session is over, else for now
-abbrev pub IsQuiet : Bool → Greeting → Type 0
-IsQuiet over (greetings.Answer answered) = ⊥
-IsQuiet over greetings.Nothing = over ≡ false
-IsQuiet over (greetings.Over finished) = over ≡ true
+abbrev pub IsQuiet : Bool → Option (Result Given Finished) → Type 0
+IsQuiet over None = over ≡ false
+IsQuiet over (Some (Ok answered)) = ⊥
+IsQuiet over (Some (Err finished)) = over ≡ true
 
 -- before a login is answered the session is told of the time, unless it is over
 abbrev pub Ticks : Bool → PolicyData → UserName → ℕ → SessionData → Holds → SessionData → Holds → Type 0
@@ -37,9 +37,9 @@ Ticks false policy user moment session was session' is = WasTold policy user hap
 
 -- what the writer does before the login is answered: he sends the answer that is left; else the time is told, and there is
 -- nothing, for good once the session is over
-abbrev pub WasGreeted : Option LoginAnswer → PolicyData → UserName → ℕ → SessionData → Holds → SessionData → Holds → Greeting → Type 0
+abbrev pub WasGreeted : Option LoginAnswer → PolicyData → UserName → ℕ → SessionData → Holds → SessionData → Holds → Option (Result Given Finished) → Type 0
 WasGreeted (Some answer) policy user moment session was session' is greeting =
-    ((session' ≡ session) × (is ≡ was)) × (greeting ≡ greetings.Answer (given user answer))
+    ((session' ≡ session) × (is ≡ was)) × (greeting ≡ Some (Ok (given user answer)))
 WasGreeted None policy user moment session was session' is greeting =
     Ticks (is_over session.phase) policy user moment session was session' is × IsQuiet (is_over session'.phase) greeting
 
@@ -49,11 +49,6 @@ IsOver (dues.Sign sign) = ⊥
 IsOver (dues.Reports found) = ⊥
 IsOver dues.Nothing = ⊥
 IsOver (dues.Over finished) = Unit {0}
-
--- it ends the session
-abbrev pub is_ending : Sign → Bool
-is_ending signs.Heartbeat = false
-is_ending signs.EndOfSession = true
 
 -- a pull brought nothing, and more may come
 abbrev pub is_bare : FetchedData → Bool
@@ -112,34 +107,28 @@ abbrev pub LooksWhere : Bool → PolicyData → UserName → Mark → ℕ → Se
 LooksWhere true policy user m moment session was watch session' is watch' due = WasPulled policy user m moment session was watch session' is watch' due
 LooksWhere false policy user m moment session was watch session' is watch' due = Stays session was watch session' is watch' × (due ≡ dues.Nothing)
 
--- nothing is due any more once the session is over; else reports are looked for
-abbrev pub GoesOnWhere : Bool → PolicyData → UserName → Mark → ℕ → SessionData → Holds → WatchData → SessionData → Holds → WatchData → Due → Type 0
-GoesOnWhere true policy user m moment session was watch session' is watch' due = Stays session was watch session' is watch' × IsOver due
-GoesOnWhere false policy user m moment session was watch session' is watch' due =
-    LooksWhere (is_on session.phase) policy user m moment session was watch session' is watch' due
+-- the packet that is left is due, and left no more; else nothing any more once the session is over; else this holds
+abbrev pub DueElse : Option Sign → Outbox → Bool → SessionData → Holds → WatchData → SessionData → Holds → WatchData → Due → Type 0 → Type 0
+DueElse (Some sign) left' over session was watch session' is watch' due Else = Stays session was watch session' is watch' × (due ≡ dues.Sign sign) × (left'.sign ≡ None)
+DueElse None left' true session was watch session' is watch' due Else = Stays session was watch session' is watch' × IsOver due
+DueElse None left' false session was watch session' is watch' due Else = Else
 
--- the packet that is left is due; else what else there is
-abbrev pub Seeks : Option Sign → PolicyData → UserName → Mark → ℕ → SessionData → Holds → WatchData → SessionData → Holds → WatchData → Due → Type 0
-Seeks (Some sign) policy user m moment session was watch session' is watch' due = Stays session was watch session' is watch' × (due ≡ dues.Sign sign)
-Seeks None policy user m moment session was watch session' is watch' due =
-    GoesOnWhere (is_over session.phase) policy user m moment session was watch session' is watch' due
+-- and else reports are looked for
+abbrev pub Seeks : Option Sign → Outbox → PolicyData → UserName → Mark → ℕ → SessionData → Holds → WatchData → SessionData → Holds → WatchData → Due → Type 0
+Seeks left left' policy user m moment session was watch session' is watch' due =
+    DueElse left left' (is_over session.phase) session was watch session' is watch' due
+    (LooksWhere (is_on session.phase) policy user m moment session was watch session' is watch' due)
 
 -- the session was told of the time, and what it then asks to send is due, or else what there is
-pub record WasWatched (left : Option Sign) (policy : PolicyData) (user : UserName) (m : Mark) (moment : ℕ) (session : SessionData) (was : Holds) (watch : WatchData) (session' : SessionData) (is : Holds) (watch' : WatchData) (due : Due) : Type 0 where
+pub record WasWatched (left left' : Outbox) (policy : PolicyData) (user : UserName) (m : Mark) (moment : ℕ) (session : SessionData) (was : Holds) (watch : WatchData) (session' : SessionData) (is : Holds) (watch' : WatchData) (due : Due) : Type 0 where
   pub ticked : SessionData
   pub between : Holds
   pub told : WasTold policy user happens.Tick moment session was ticked between
-  pub sought : Seeks (sign_after left (turn session happens.Tick moment).reply.send) policy user m moment ticked between watch session' is watch' due
-
--- what is done for a user before all else is over: the session is told of the time
-abbrev pub Watches : Bool → PolicyData → UserName → Mark → ℕ → SessionData → Holds → WatchData → SessionData → Holds → WatchData → Due → Type 0
-Watches true policy user m moment session was watch session' is watch' due = Stays session was watch session' is watch' × IsOver due
-Watches false policy user m moment session was watch session' is watch' due =
-    WasWatched None policy user m moment session was watch session' is watch' due
+  pub sought : Seeks (left_after left (turn session happens.Tick moment).reply.send).sign left' policy user m moment ticked between watch session' is watch' due
 
 -- what the writer does for a user: he sends the packet that is left; once the session is over nothing more; else the session is
 -- told of the time, and he sends what it then asks for, or the user's reports, where there are any
-abbrev pub WasSought : Option Sign → PolicyData → UserName → Mark → ℕ → SessionData → Holds → WatchData → SessionData → Holds → WatchData → Due → Type 0
-WasSought (Some sign) policy user m moment session was watch session' is watch' due = Stays session was watch session' is watch' × (due ≡ dues.Sign sign)
-WasSought None policy user m moment session was watch session' is watch' due =
-    Watches (is_over session.phase) policy user m moment session was watch session' is watch' due
+abbrev pub WasSought : Outbox → Outbox → PolicyData → UserName → Mark → ℕ → SessionData → Holds → WatchData → SessionData → Holds → WatchData → Due → Type 0
+WasSought left left' policy user m moment session was watch session' is watch' due =
+    DueElse left.sign left' (is_over session.phase) session was watch session' is watch' due
+    (WasWatched (record left { sign = None }) left' policy user m moment session was watch session' is watch' due)

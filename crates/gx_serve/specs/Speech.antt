@@ -14,31 +14,20 @@ use Rattle.gx_answers.specs.declared.outcome.LoginAnswer.{LoginAnswer}
 use Rattle.gx_answers.specs.declared.outcome.LoginAnswer.TheVariants as answers
 use Rattle.gx_answers.specs.declared.pulled.Pulled.{Pulled}
 use Rattle.gx_devices.specs.Devices.{IsFront}
-use Rattle.gx_session.specs.declared.event.Control.{Control}
 use Rattle.gx_session.specs.declared.event.Control.TheVariants as controls
+use Rattle.gx_session.specs.declared.event.Sign.{Sign}
+use Rattle.gx_session.specs.declared.event.Sign.TheVariants as signs
 use Rattle.gx_session.specs.Sending.{control_bytes, reports_text}
 use Rattle.gx_door.specs.Acts.{gate_at, most_pulled, IsPulled}
 use Rattle.gx_serve.specs.declared.seat.outgoing.Due.{Due}
 use Rattle.gx_serve.specs.declared.seat.outgoing.Due.TheVariants as dues
-use Rattle.gx_serve.specs.declared.seat.Sign.{Sign}
-use Rattle.gx_serve.specs.declared.seat.Sign.TheVariants as signs
 use Rattle.gx_serve.specs.Marks.{mark}
 use Rattle.gx_serve.specs.declared.seat.outgoing.Greeted.{Greeted}
 use Rattle.gx_serve.specs.declared.seat.outgoing.Greeted.TheVariants as greeteds
 
--- the packet of a login's answer
-abbrev pub answer_control : LoginAnswer → Control
-answer_control (answers.Accepted session next) = controls.Accepted session next
-answer_control (answers.Rejected reason) = controls.Rejected reason
-
--- the packet of a sign
-abbrev pub sign_control : Sign → Control
-sign_control signs.Heartbeat = controls.Heartbeat
-sign_control signs.EndOfSession = controls.EndOfSession
-
 -- what is written of what is due: a packet of the session's own, or one for each report
 abbrev pub due_text : Due → List ℕ
-due_text (dues.Sign sign) = control_bytes (sign_control sign)
+due_text (dues.Sign sign) = control_bytes (controls.Sign sign)
 due_text (dues.Reports fetched) = reports_text fetched.pulled.reports
 due_text dues.Nothing = []
 due_text (dues.Over finished) = []
@@ -57,10 +46,14 @@ IsDue policy user from (dues.Reports fetched) = IsShown policy user from fetched
 IsDue policy user from dues.Nothing = Unit {0}
 IsDue policy user from (dues.Over finished) = Unit {0}
 
+-- it ends the session
+abbrev pub is_ending : Sign → Bool
+is_ending signs.Heartbeat = false
+is_ending signs.EndOfSession = true
+
 -- nothing is sent behind it
 abbrev pub is_last : Due → Bool
-is_last (dues.Sign signs.Heartbeat) = false
-is_last (dues.Sign signs.EndOfSession) = true
+is_last (dues.Sign sign) = is_ending sign
 is_last (dues.Reports fetched) = false
 is_last dues.Nothing = false
 is_last (dues.Over finished) = true
@@ -78,7 +71,7 @@ pub data Part : Type 0 where
   Shown : Pulled → Part
 
 abbrev pub part_text : Part → List ℕ
-part_text Beat = control_bytes controls.Heartbeat
+part_text Beat = control_bytes (controls.Sign signs.Heartbeat)
 part_text (Shown pulled) = reports_text pulled.reports
 
 -- the parts are heartbeats, and the user's reports from this number on, each once and in order, up to that number
@@ -95,7 +88,7 @@ pub record IsSpoken (policy : PolicyData) (user : UserName) (from : ℕ) (text :
 
 -- the end of the session was written, or nothing
 abbrev pub IsEnding : List ℕ → Type 0
-IsEnding text = (text ≡ []) ⊎ (text ≡ control_bytes controls.EndOfSession)
+IsEnding text = (text ≡ []) ⊎ (text ≡ control_bytes (controls.Sign signs.EndOfSession))
 
 -- a login that was accepted: its answer, its user's reports from the number that it names on, and perhaps the end of the
 -- session
@@ -108,49 +101,39 @@ pub record IsWelcome (policy : PolicyData) (text : List ℕ) : Type 0 where
   pub speech : IsSpoken policy user first spoken to
   pub ending : List ℕ
   pub ends : IsEnding ending
-  pub whole : text ≡ (control_bytes (controls.Accepted session first) ++ spoken) ++ ending
+  pub whole : text ≡ (control_bytes (controls.Answer (answers.Accepted session first)) ++ spoken) ++ ending
 
 -- what a connection is sent: nothing, the rejection of its login, or its acceptance and what follows
 abbrev pub IsConversation : PolicyData → List ℕ → Type 0
 IsConversation policy text =
-    (text ≡ []) ⊎ (((reason : LoginRejection) × (text ≡ control_bytes (controls.Rejected reason))) ⊎ IsWelcome policy text)
+    (text ≡ []) ⊎ (((reason : LoginRejection) × (text ≡ control_bytes (controls.Answer (answers.Rejected reason)))) ⊎ IsWelcome policy text)
 
--- it was written whole
-pub record WasSaid (policy : PolicyData) (before after : Option (List ℕ)) : Type 0 where
+-- the text was written whole, or a front of it
+abbrev pub Writes : Bool → Option (List ℕ) → Option (List ℕ) → List ℕ → Type 0
+Writes true before after text = Appends before after text
+Writes false before after text = IsFront before after text
+
+-- it was written whole, or a front of it
+pub record WasSaid (whole : Bool) (policy : PolicyData) (before after : Option (List ℕ)) : Type 0 where
   pub text : List ℕ
   pub said : IsConversation policy text
-  pub written : Appends before after text
+  pub written : Writes whole before after text
 
--- a front of it was written
-pub record WasCut (policy : PolicyData) (before after : Option (List ℕ)) : Type 0 where
-  pub text : List ℕ
-  pub said : IsConversation policy text
-  pub front : IsFront before after text
-
--- to this user such parts were written, and perhaps the end of the session
-pub record WasSpoken (policy : PolicyData) (user : UserName) (from : ℕ) (before after : Option (List ℕ)) : Type 0 where
+-- to this user such parts were written, and perhaps the end of the session, whole or a front of them
+pub record WasSpoken (whole : Bool) (policy : PolicyData) (user : UserName) (from : ℕ) (before after : Option (List ℕ)) : Type 0 where
   pub to : ℕ
   pub spoken : List ℕ
   pub speech : IsSpoken policy user from spoken to
   pub ending : List ℕ
   pub ends : IsEnding ending
-  pub written : Appends before after (spoken ++ ending)
-
--- a front of such parts was written
-pub record WasCutOff (policy : PolicyData) (user : UserName) (from : ℕ) (before after : Option (List ℕ)) : Type 0 where
-  pub to : ℕ
-  pub spoken : List ℕ
-  pub speech : IsSpoken policy user from spoken to
-  pub ending : List ℕ
-  pub ends : IsEnding ending
-  pub front : IsFront before after (spoken ++ ending)
+  pub written : Writes whole before after (spoken ++ ending)
 
 -- the answer to a login was written, or a front of it
 abbrev pub IsGreeted : Option (List ℕ) → Option (List ℕ) → Greeted → Type 0
-IsGreeted before after (greeteds.On m) = (session : SessionName) × Appends before after (control_bytes (controls.Accepted session m.next))
+IsGreeted before after (greeteds.On m) = (session : SessionName) × Appends before after (control_bytes (controls.Answer (answers.Accepted session m.next)))
 IsGreeted before after (greeteds.Over finished) =
-    Appends before after [] ⊎ ((reason : LoginRejection) × Appends before after (control_bytes (controls.Rejected reason)))
-IsGreeted before after greeteds.Cut = (answer : LoginAnswer) × IsFront before after (control_bytes (answer_control answer))
+    Appends before after [] ⊎ ((reason : LoginRejection) × Appends before after (control_bytes (controls.Answer (answers.Rejected reason))))
+IsGreeted before after greeteds.Cut = (answer : LoginAnswer) × IsFront before after (control_bytes (controls.Answer answer))
 
 -- what comes of a login that a user was answered so
 abbrev pub Begins : UserName → LoginAnswer → Greeted → Type 0

@@ -6,7 +6,7 @@ ghost use Rattle.gx_serve.specs.Takings.{IsTakenIn};
 ghost use Rattle.gx_serve.specs.Marks.{mark_sent};
 ghost use Rattle.gx_serve.specs.Speech.{IsDue};
 
-use crate::seat::outgoing::{Answered, Bookmark, Due, Fetched, Finished, Greeting};
+use crate::seat::outgoing::{Answered, Bookmark, Due, Fetched, Finished};
 use crate::seat::taking::Taken;
 use crate::seat::{Break, BrokenOff, Ended, Seat};
 use gx_door::{Caller, Dial, Door};
@@ -204,14 +204,14 @@ impl<T: Drop> Link<T> {
         ended
     }
 
-    /// What the writer does before the login is answered. The session is told of the server's end, where that was asked
-    /// for.
+    /// What the writer does before the login is answered: the answer that it sends, or that the session is over; `None` for
+    /// nothing for now. The session is told of the server's end, where that was asked for.
     fn greet<D: Door<Ticket = T>, R: Wait + Clock + Dial>(
         &self,
         rt: &R,
         door: &D,
         stop: &Stop,
-    ) -> Greeting {
+    ) -> Option<Result<Answered, Finished>> {
         let mut seat = self.seat.lock(rt);
         let moment = rt.moment();
         let heeded = seat.heed(rt, door, stop.is_asked(), moment);
@@ -228,11 +228,10 @@ impl<T: Drop> Link<T> {
         chime: &Chime,
     ) -> Result<Answered, Finished> {
         for _ in rt.forever() {
-            match self.greet(rt, door, stop) {
-                Greeting::Answer(answered) => return Ok(answered),
-                Greeting::Over(finished) => return Err(finished),
-                Greeting::Nothing => chime.hear(rt, Duration::from_millis(REST)),
+            if let Some(found) = self.greet(rt, door, stop) {
+                return found;
             }
+            chime.hear(rt, Duration::from_millis(REST));
         }
         unreachable!()
     }

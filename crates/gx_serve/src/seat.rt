@@ -1,15 +1,16 @@
 //! What the two threads of a connection share under its lock.
 
-ghost use Rattle.std.specs.Prelude.{◌≡◌, IsFalse, IsTrue, is_some, true, None, IfErr, IfOk, OnOk};
+ghost use Rattle.std.specs.Prelude.{◌≡◌, IsFalse, IsTrue, is_some, true, IfErr, IfOk, OnOk};
 ghost use Rattle.gx_history.specs.declared.record.Request.TheVariants as requests;
 ghost use Rattle.gx_history.specs.Showing.{has_its_first};
 ghost use Rattle.gx_lobby.specs.Watches.{watch_of};
 ghost use Rattle.gx_session.specs.Events.{is_over, CanAsk};
 ghost use Rattle.gx_session.specs.Happenings.{happening};
 ghost use Rattle.gx_session.specs.Happenings as happens;
+ghost use Rattle.gx_session.specs.Outboxes.{empty, left_after};
 ghost use Rattle.gx_session.specs.Table.{turn, new_session};
 ghost use Rattle.gx_door.specs.Acts.{asked_on};
-ghost use Rattle.gx_serve.specs.Seats.{answer_after, is_on, sign_after, user_after};
+ghost use Rattle.gx_serve.specs.Seats.{user_after};
 ghost use Rattle.gx_door.specs.Acts.{gate_met, met};
 ghost use Rattle.gx_answers.specs.Matches.{matching_of};
 ghost use Rattle.gx_serve.specs.Announcements.{Announces, WasAnnounced};
@@ -24,11 +25,11 @@ pub mod taking;
 
 use crate::announcing::{Announced, EndedOrders, announced_of};
 use crate::conduct::Conduct;
-use gx_answers::{LoginAnswer, StepFault};
+use gx_answers::StepFault;
 use gx_door::{Caller, Dial, Door};
 use gx_history::record::Request;
 use gx_lobby::{Asked, Rung, Watch};
-use gx_session::{Control, Event, Next, Phase, Session};
+use gx_session::{Event, Next, Outbox, Session};
 use gx_soup::{ClientPacket, LoginRequest};
 use gx_units::{Moment, UserName};
 use std::marker::Model;
@@ -36,15 +37,6 @@ use std::sync::Wait;
 
 /// So many matching steps are made at most behind a request's step, before others come in between.
 pub(crate) const STEPS: u64 = 8;
-
-/// What a session asks to send once its login was answered, besides reports.
-#[derive(Clone, Copy)]
-pub enum Sign {
-    /// A Server Heartbeat.
-    Heartbeat,
-    /// An End of Session.
-    EndOfSession,
-}
 
 /// What breaks a session off, other than a packet or the end of its input.
 #[derive(Clone, Copy)]
@@ -152,10 +144,7 @@ pub struct Seat<T: Drop> {
     user: UserName,
     /// Taken out for each call of the gate.
     pass: Option<T>,
-    /// The answer to the login, where the writer has not taken it.
-    answer: Option<LoginAnswer>,
-    /// What else the session asked to send, and the writer has not taken.
-    sign: Option<Sign>,
+    outbox: Outbox,
     /// The reader has ended.
     deaf: bool,
     /// The writer has looked for reports since the last step that was made with the pass, and left none.
@@ -175,42 +164,20 @@ impl<T: Drop> Seat<T> {
     pub fn new<R: Dial>(_rt: &R, pass: T, caller: Caller, moment: Moment) -> Seat<T>
         requires clock { R.shown moment }
         ensures session { result.session ≡ new_session moment }
-        ensures answer { result.answer ≡ None }
-        ensures sign { result.sign ≡ None }
+        ensures outbox { result.outbox ≡ empty }
         ensures watch { result.watch ≡ watch_of 0 true }
     {
         Seat {
             session: Session::new(moment),
             user: UserName { bytes: *b"      " },
             pass: Some(pass),
-            answer: None,
-            sign: None,
+            outbox: Outbox::new(),
             deaf: false,
             looked: false,
             is_settled: false,
             doubted: false,
             watch: Watch::new(),
             conduct: Conduct::new(caller),
-        }
-    }
-
-    /// Whether the session is over.
-    pub fn is_over(&self) -> bool
-        ensures { result ≡ is_over self.now.session.phase }
-    {
-        match self.session.phase() {
-            Phase::Abandoned | Phase::Done => true,
-            Phase::Fresh | Phase::Waiting | Phase::On => false,
-        }
-    }
-
-    /// Whether a user is logged in.
-    pub fn is_on(&self) -> bool
-        ensures { result ≡ is_on self.now.session.phase }
-    {
-        match self.session.phase() {
-            Phase::On => true,
-            Phase::Fresh | Phase::Waiting | Phase::Abandoned | Phase::Done => false,
         }
     }
 
@@ -223,7 +190,7 @@ impl<T: Drop> Seat<T> {
 
     /// Whether a user is logged in for whom the writer has still to look for reports.
     pub fn is_owed(&self) -> bool {
-        self.is_on() && !self.looked
+        self.session.is_on() && !self.looked
     }
 
     /// Makes the request's step, and the matching steps that it asks for, unless they are many. Answers what is to be
@@ -250,8 +217,7 @@ impl<T: Drop> Seat<T> {
             → matching_of (gate_met D.policy (met D.held self.new.pass)) ≡ None) }
         ensures user { self.new.user ≡ self.old.user }
         ensures session { self.new.session ≡ self.old.session }
-        ensures answer { self.new.answer ≡ self.old.answer }
-        ensures sign { self.new.sign ≡ self.old.sign }
+        ensures outbox { self.new.outbox ≡ self.old.outbox }
         ensures watch { self.new.watch ≡ self.old.watch }
     {
         let Some(pass) = self.pass.take() else {
@@ -278,8 +244,7 @@ impl<T: Drop> Seat<T> {
             (met D.held self.old.pass) (met D.held self.new.pass) }
         ensures user { self.new.user ≡ self.old.user }
         ensures session { self.new.session ≡ self.old.session }
-        ensures answer { self.new.answer ≡ self.old.answer }
-        ensures sign { self.new.sign ≡ self.old.sign }
+        ensures outbox { self.new.outbox ≡ self.old.outbox }
         ensures watch { self.new.watch ≡ self.old.watch }
     {
         let Some(pass) = self.pass.take() else {
@@ -302,33 +267,12 @@ impl<T: Drop> Seat<T> {
             self.old.session (met D.held self.old.pass)
             self.new.session (met D.held self.new.pass) }
         ensures user { self.new.user ≡ self.old.user }
-        ensures answer { self.new.answer ≡ self.old.answer }
-        ensures sign { self.new.sign ≡ self.old.sign }
+        ensures outbox { self.new.outbox ≡ self.old.outbox }
         ensures watch { self.new.watch ≡ self.old.watch }
     {
         match self.session.on(Event::Refused(fault), moment).next {
             Next::Logout => self.log_out(rt, door, moment),
             Next::Idle | Next::Login | Next::Act(_) | Next::Close => {}
-        }
-    }
-
-    /// Leaves a packet to be sent, if there is one.
-    fn leave(&mut self, send: Option<Control>)
-        ensures user { self.new.user ≡ self.old.user }
-        ensures pass { self.new.pass ≡ self.old.pass }
-        ensures session { self.new.session ≡ self.old.session }
-        ensures answer { self.new.answer ≡ answer_after self.old.answer send }
-        ensures sign { self.new.sign ≡ sign_after self.old.sign send }
-        ensures watch { self.new.watch ≡ self.old.watch }
-    {
-        match send {
-            Some(Control::Accepted(session, next)) => {
-                self.answer = Some(LoginAnswer::Accepted { session, next });
-            }
-            Some(Control::Rejected(reason)) => self.answer = Some(LoginAnswer::Rejected(reason)),
-            Some(Control::Heartbeat) => self.sign = Some(Sign::Heartbeat),
-            Some(Control::EndOfSession) => self.sign = Some(Sign::EndOfSession),
-            None => {}
         }
     }
 
@@ -349,8 +293,7 @@ impl<T: Drop> Seat<T> {
             self.old.session (met D.held self.old.pass)
             self.new.session (met D.held self.new.pass) }
         ensures user { self.new.user ≡ self.old.user }
-        ensures answer { self.new.answer ≡ self.old.answer }
-        ensures sign { self.new.sign ≡ self.old.sign }
+        ensures outbox { self.new.outbox ≡ self.old.outbox }
         ensures watch { self.new.watch ≡ self.old.watch }
     {
         match next {
@@ -391,14 +334,12 @@ impl<T: Drop> Seat<T> {
             self.old.session (met D.held self.old.pass)
             self.new.session (met D.held self.new.pass) }
         ensures user { self.new.user ≡ self.old.user }
-        ensures answer { self.new.answer ≡ answer_after self.old.answer
-            (turn self.old.session (happening event.entry) moment).reply.send }
-        ensures sign { self.new.sign ≡ sign_after self.old.sign
+        ensures outbox { self.new.outbox ≡ left_after self.old.outbox
             (turn self.old.session (happening event.entry) moment).reply.send }
         ensures watch { self.new.watch ≡ self.old.watch }
     {
         let reply = self.session.on(event, moment);
-        self.leave(reply.send);
+        self.outbox.leave(reply.send);
         let ended = self.follow(rt, door, reply.next, moment);
         (reply.next, ended)
     }
@@ -417,9 +358,7 @@ impl<T: Drop> Seat<T> {
             self.old.session (met D.held self.old.pass)
             self.new.session (met D.held self.new.pass) }
         ensures user { self.new.user ≡ self.old.user }
-        ensures answer { self.new.answer ≡ answer_after self.old.answer
-            (turn self.old.session (break_of cause) moment).reply.send }
-        ensures sign { self.new.sign ≡ sign_after self.old.sign
+        ensures outbox { self.new.outbox ≡ left_after self.old.outbox
             (turn self.old.session (break_of cause) moment).reply.send }
         ensures watch { self.new.watch ≡ self.old.watch }
     {
@@ -428,7 +367,7 @@ impl<T: Drop> Seat<T> {
     }
 
     /// Tells the session of the server's end, where it was asked for.
-    #[tactic(auto, using(crate::proofs::Sitting::ends_answer_nothing, crate::proofs::Sitting::ends_leave_no_sign))]
+    #[tactic(auto, using(crate::proofs::Sitting::ends_leave_nothing))]
     pub fn heed<D: Door<Ticket = T>, R: Wait + Dial>(
         &mut self,
         rt: &R,
@@ -441,8 +380,7 @@ impl<T: Drop> Seat<T> {
             self.old.session (met D.held self.old.pass)
             self.new.session (met D.held self.new.pass) }
         ensures user { self.new.user ≡ self.old.user }
-        ensures answer { self.new.answer ≡ self.old.answer }
-        ensures sign { self.new.sign ≡ self.old.sign }
+        ensures outbox { self.new.outbox ≡ self.old.outbox }
         ensures watch { self.new.watch ≡ self.old.watch }
     {
         if asked.is_yes() {
@@ -452,7 +390,7 @@ impl<T: Drop> Seat<T> {
     }
 
     /// The reader has ended: its input has no more, and the session is told so.
-    #[tactic(auto, using(crate::proofs::Sitting::ends_answer_nothing, crate::proofs::Sitting::ends_leave_no_sign))]
+    #[tactic(auto, using(crate::proofs::Sitting::ends_leave_nothing))]
     pub fn end<D: Door<Ticket = T>, R: Wait + Dial>(
         &mut self,
         rt: &R,
@@ -465,8 +403,7 @@ impl<T: Drop> Seat<T> {
             self.old.session (met D.held self.old.pass)
             self.new.session (met D.held self.new.pass) }
         ensures user { self.new.user ≡ self.old.user }
-        ensures answer { self.new.answer ≡ self.old.answer }
-        ensures sign { self.new.sign ≡ self.old.sign }
+        ensures outbox { self.new.outbox ≡ self.old.outbox }
         ensures watch { self.new.watch ≡ self.old.watch }
     {
         self.tell(rt, door, Event::End, moment);
@@ -474,7 +411,6 @@ impl<T: Drop> Seat<T> {
         Ended { _told: () }
     }
 
-    #[tactic(auto, using(crate::proofs::Sitting::answers_leave_no_sign))]
     fn log_in<D: Door<Ticket = T>, R: Wait + Dial>(
         &mut self,
         rt: &R,
@@ -484,10 +420,9 @@ impl<T: Drop> Seat<T> {
     )
         requires clock { R.shown moment }
         ensures answered { WasAnswered D.policy login.now moment
-            self.old.session (met D.held self.old.pass) self.old.answer
-            self.new.session (met D.held self.new.pass) self.new.answer }
+            self.old.session (met D.held self.old.pass) self.old.outbox
+            self.new.session (met D.held self.new.pass) self.new.outbox }
         ensures user { self.new.user ≡ login.now.user }
-        ensures sign { self.new.sign ≡ self.old.sign }
     {
         let Some(pass) = self.pass.take() else {
             unreachable!()
@@ -512,7 +447,6 @@ impl<T: Drop> Seat<T> {
     }
 
     /// Tells the session of a packet, and does what it asks for. Answers what is to be announced.
-    #[tactic(auto, using(crate::proofs::Sitting::packets_leave_no_sign))]
     fn serve<D: Door<Ticket = T>, R: Wait + Dial>(
         &mut self,
         rt: &R,
@@ -528,11 +462,10 @@ impl<T: Drop> Seat<T> {
             (met D.held self.old.pass)
             self.new.session (met D.held self.new.pass) result }
         ensures taken { WasTaken D.policy self.old.user packet.now moment
-            self.old.session (met D.held self.old.pass) self.old.answer
-            self.new.session (met D.held self.new.pass) self.new.answer }
+            self.old.session (met D.held self.old.pass) self.old.outbox
+            self.new.session (met D.held self.new.pass) self.new.outbox }
         ensures user { self.new.user ≡ user_after
             (turn self.old.session (happens.Packet packet.now) moment).reply.next packet.now self.old.user }
-        ensures sign { self.new.sign ≡ self.old.sign }
     {
         let (next, ended) = self.tell(rt, door, Event::Packet(packet), moment);
         match (next, packet) {
@@ -562,17 +495,16 @@ impl<T: Drop> Seat<T> {
             self.new.session (met D.held self.new.pass) result.ended }
         ensures over { result.over ≡ is_over self.new.session.phase }
         ensures taken { WasTaken D.policy self.old.user packet.now moment
-            self.old.session (met D.held self.old.pass) self.old.answer
-            self.new.session (met D.held self.new.pass) self.new.answer }
+            self.old.session (met D.held self.old.pass) self.old.outbox
+            self.new.session (met D.held self.new.pass) self.new.outbox }
         ensures user { self.new.user ≡ user_after
             (turn self.old.session (happens.Packet packet.now) moment).reply.next packet.now self.old.user }
-        ensures sign { self.new.sign ≡ self.old.sign }
     {
         let ended = self.serve(rt, door, packet, moment);
         Told {
             event: Event::Packet(packet),
             ended,
-            over: self.is_over(),
+            over: self.session.is_over(),
         }
     }
 }

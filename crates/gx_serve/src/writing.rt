@@ -1,18 +1,18 @@
 //! The writer of a connection.
 
-ghost use Rattle.std.specs.Prelude.{◌≡◌, ◌-◌, ◌^◌, ◌<◌, is_some, IfErr, IfNone, IfSome, IsFalse, IsTrue, OnOk, OnErr};
+ghost use Rattle.std.specs.Prelude.{◌≡◌, ◌-◌, ◌^◌, ◌<◌, is_some, IfErr, OnOk, OnErr};
 ghost use Rattle.std.specs.Io.KnownBytes.{Appends};
 ghost use Rattle.gx_devices.specs.Devices.{IsFront};
 ghost use Rattle.gx_session.specs.Faults.{IsBlamed};
 ghost use Rattle.gx_session.specs.Sending.{control_bytes};
-ghost use Rattle.gx_serve.specs.Speech.{answer_control, due_text, is_last, next_after, sign_control};
+ghost use Rattle.gx_serve.specs.Speech.{due_text, is_last, next_after};
 ghost use Rattle.gx_serve.specs.Tellings.{told_of};
 ghost use Rattle.gx_serve.specs.Breaks.{break_of};
-ghost use Rattle.gx_serve.specs.Speech.{IfOn, IsGreeted, WasCut, WasCutOff, WasSaid, WasSpoken};
+ghost use Rattle.gx_serve.specs.Speech.{IfOn, IsGreeted, WasSaid, WasSpoken};
 
 use crate::link::Link;
+use crate::seat::Break;
 use crate::seat::outgoing::{Bookmark, Due, Finished, Greeted};
-use crate::seat::{Break, Sign};
 use gx_answers::{LoginAnswer, StepFault};
 use gx_devices::Counted;
 use gx_door::{Dial, Door};
@@ -23,32 +23,13 @@ use std::io::Write;
 use std::sync::Wait;
 use std::time::{Clock, Duration};
 
-/// Why nothing more is sent.
-#[derive(Clone, Copy)]
-pub(crate) enum Unsent {
-    /// A packet was not sent.
-    Fault(SendFault),
-    /// What was done is not kept, and so told to nobody.
-    Unkept,
-}
-
-/// The packet of a login's answer.
-fn answer_control(answer: LoginAnswer) -> Control
-    ensures { result ≡ answer_control answer }
+/// What breaks a session off where a packet was not sent.
+fn cause_of(fault: SendFault) -> Break
+    ensures { break_of result ≡ told_of fault }
 {
-    match answer {
-        LoginAnswer::Accepted { session, next } => Control::Accepted(session, next),
-        LoginAnswer::Rejected(reason) => Control::Rejected(reason),
-    }
-}
-
-/// The packet of a sign.
-fn sign_control(sign: Sign) -> Control
-    ensures { result ≡ sign_control sign }
-{
-    match sign {
-        Sign::Heartbeat => Control::Heartbeat,
-        Sign::EndOfSession => Control::EndOfSession,
+    match fault {
+        SendFault::OutOfMemory => Break::Refused(StepFault::OutOfMemory),
+        SendFault::WriteFailed => Break::Fault,
     }
 }
 
@@ -64,7 +45,7 @@ fn send<O: Write>(alloc: Global, due: &Due, writer: &mut Counted<O>) -> Result<(
     ensures told { IfErr result (IsBlamed writer.old.failed writer.new.failed) }
 {
     match due {
-        Due::Sign(signed) => send_control(alloc, sign_control(signed.sign()), writer),
+        Due::Sign(signed) => send_control(alloc, Control::Sign(signed.sign()), writer),
         Due::Reports(fetched) => send_pulled(alloc, fetched.pulled(), writer),
         Due::Nothing | Due::Over(_) => Ok(()),
     }
@@ -87,7 +68,7 @@ fn may_send<D: Door, R: Wait>(rt: &R, door: &D, stop: &Stop, due: &Due) -> bool 
     }
 }
 
-/// Sends what is due, reports once all that was done is kept.
+/// Sends what is due, reports once all that was done is kept. At `Err` it answers what breaks the session off.
 #[tactic(auto, using(crate::proofs::Speaking::nothing_sent))]
 fn send_kept<D: Door, O: Write, R: Wait>(
     rt: &R,
@@ -96,7 +77,7 @@ fn send_kept<D: Door, O: Write, R: Wait>(
     stop: &Stop,
     due: &Due,
     writer: &mut Counted<O>,
-) -> Result<(), Unsent>
+) -> Result<(), Break>
     requires { writer.old.failed < 2 ^ 64 - 1 }
     ensures sent { OnOk result (Appends
         (O.contents writer.old.device) (O.contents writer.new.device) (due_text due.now)) }
@@ -105,15 +86,15 @@ fn send_kept<D: Door, O: Write, R: Wait>(
     ensures kept { OnOk result (writer.new.failed ≡ writer.old.failed) }
 {
     if !may_send(rt, door, stop, due) {
-        return Err(Unsent::Unkept);
+        return Err(Break::Fault);
     }
     match send(alloc, due, writer) {
         Ok(()) => Ok(()),
-        Err(fault) => Err(Unsent::Fault(fault)),
+        Err(fault) => Err(cause_of(fault)),
     }
 }
 
-/// Sends the answer to a login, once all that was done is kept.
+/// Sends the answer to a login, once all that was done is kept. At `Err` it answers what breaks the session off.
 #[tactic(auto, using(crate::proofs::Speaking::nothing_sent))]
 pub(crate) fn send_answer<D: Door, O: Write, R: Wait>(
     rt: &R,
@@ -122,20 +103,20 @@ pub(crate) fn send_answer<D: Door, O: Write, R: Wait>(
     stop: &Stop,
     answer: LoginAnswer,
     writer: &mut Counted<O>,
-) -> Result<(), Unsent>
+) -> Result<(), Break>
     requires { writer.old.failed < 2 ^ 64 - 1 }
     ensures sent { OnOk result (Appends (O.contents writer.old.device)
-        (O.contents writer.new.device) (control_bytes (answer_control answer))) }
+        (O.contents writer.new.device) (control_bytes (Control.Answer answer))) }
     ensures front { OnErr result (IsFront (O.contents writer.old.device)
-        (O.contents writer.new.device) (control_bytes (answer_control answer))) }
+        (O.contents writer.new.device) (control_bytes (Control.Answer answer))) }
     ensures kept { OnOk result (writer.new.failed ≡ writer.old.failed) }
 {
     if !is_kept(rt, door, stop) {
-        return Err(Unsent::Unkept);
+        return Err(Break::Fault);
     }
-    match send_control(alloc, answer_control(answer), writer) {
+    match send_control(alloc, Control::Answer(answer), writer) {
         Ok(()) => Ok(()),
-        Err(fault) => Err(Unsent::Fault(fault)),
+        Err(fault) => Err(cause_of(fault)),
     }
 }
 
@@ -167,16 +148,6 @@ fn go_on<D: Door, R: Wait + Clock + Dial>(
     }
 }
 
-/// What breaks a session off where a packet was not sent.
-fn cause_of(unsent: Unsent) -> Break
-    ensures { break_of result ≡ told_of unsent }
-{
-    match unsent {
-        Unsent::Fault(SendFault::OutOfMemory) => Break::Refused(StepFault::OutOfMemory),
-        Unsent::Fault(SendFault::WriteFailed) | Unsent::Unkept => Break::Fault,
-    }
-}
-
 /// Waits for the answer to the login, and sends it once all that was done is kept.
 #[tactic(auto, using(crate::proofs::Speaking::is_greeted))]
 fn write_answer<D: Door, O: Write, R: Wait + Clock + Dial>(
@@ -199,8 +170,8 @@ fn write_answer<D: Door, O: Write, R: Wait + Clock + Dial>(
     };
     match send_answer(rt, alloc, door, stop, answered.answer(), writer) {
         Ok(()) => answered.sent(),
-        Err(unsent) => {
-            link.break_off(rt, door, cause_of(unsent));
+        Err(cause) => {
+            link.break_off(rt, door, cause);
             Greeted::Cut
         }
     }
@@ -219,16 +190,14 @@ fn write_reports<D: Door, O: Write, R: Wait + Clock + Dial>(
     writer: &mut Counted<O>,
 ) -> Option<Finished>
     requires { writer.old.failed < 2 ^ 64 - 1 }
-    ensures spoken { IsTrue (is_some result) → WasSpoken D.policy bookmark.user bookmark.next
-        (O.contents writer.old.device) (O.contents writer.new.device) }
-    ensures front { IsFalse (is_some result) → WasCutOff D.policy bookmark.user bookmark.next
+    ensures spoken { WasSpoken (is_some result) D.policy bookmark.user bookmark.next
         (O.contents writer.old.device) (O.contents writer.new.device) }
 {
     let mut bookmark = bookmark;
     for _ in rt.forever() {
         let due = link.await_due(rt, door, stop, chime, &bookmark);
-        if let Err(unsent) = send_kept(rt, alloc, door, stop, &due, writer) {
-            link.break_off(rt, door, cause_of(unsent));
+        if let Err(cause) = send_kept(rt, alloc, door, stop, &due, writer) {
+            link.break_off(rt, door, cause);
             return None;
         }
         if let Some(finished) = go_on(rt, door, chime, link, due, &mut bookmark) {
@@ -253,9 +222,7 @@ pub fn write_on<D: Door, O: Write, R: Wait + Clock + Dial>(
     writer: &mut Counted<O>,
 ) -> Option<Finished>
     requires { writer.old.failed < 2 ^ 64 - 1 }
-    ensures said { IsTrue (is_some result) → WasSaid D.policy
-        (O.contents writer.old.device) (O.contents writer.new.device) }
-    ensures front { IsFalse (is_some result) → WasCut D.policy
+    ensures said { WasSaid (is_some result) D.policy
         (O.contents writer.old.device) (O.contents writer.new.device) }
 {
     match write_answer(rt, alloc, door, stop, chime, link, writer) {

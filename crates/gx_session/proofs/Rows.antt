@@ -11,7 +11,7 @@ use Rattle.gx_session.specs.declared.session.Phase.{Phase}
 use Rattle.gx_session.specs.declared.session.Phase.TheVariants.{Fresh, Waiting, On, Abandoned, Done}
 use Rattle.gx_session.specs.declared.session.Row.{Row}
 use Rattle.gx_session.specs.Table.{SessionData, fresh_packet, on_packet, row_in, turn, new_session}
-use Rattle.gx_session.specs.Events.{Timed, replies, is_over, is_last, is_parting, is_wordless, is_no_answer, is_acceptance, asks_login, asks_logout}
+use Rattle.gx_session.specs.Events.{Timed, replies, is_on, is_over, is_last, is_parting, is_wordless, is_no_answer, is_acceptance, asks_login, asks_logout}
 
 -- After a logout or a close the session is over.
 
@@ -116,24 +116,14 @@ all_parting session (x ∷ hs) h =
 
 abbrev logins_left : Phase → ℕ
 logins_left Fresh = 1
-logins_left Waiting = 0
-logins_left On = 0
-logins_left Abandoned = 0
-logins_left Done = 0
+logins_left other = 0
 
 abbrev late_left : Phase → ℕ
-late_left Fresh = 0
-late_left Waiting = 0
-late_left On = 0
 late_left Abandoned = 1
-late_left Done = 0
+late_left other = 0
 
 abbrev users_on : Phase → ℕ
-users_on Fresh = 0
-users_on Waiting = 0
-users_on On = 1
-users_on Abandoned = 0
-users_on Done = 0
+users_on phase = cond (is_on phase) 1 0
 
 counted : {X : Type 0} (p : X → Bool) → (x : X) (xs : List X) → count_by p (x ∷ xs) ≡ cond (p x) 1 0 + count_by p xs
 counted p x xs = sum_by-cons (λ y. cond (p y) 1 0) x xs

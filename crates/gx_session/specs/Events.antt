@@ -1,5 +1,8 @@
 -- What follows a row of happens.
-use Rattle.std.specs.Prelude.{ℕ, Bool, true, false, ◌&&◌, is_none, List, [], ◌∷◌, IsTrue}
+use Rattle.std.specs.Prelude.{ℕ, Bool, true, false, ◌&&◌, not, is_none, Option, Some, None, List, [], ◌∷◌, IsTrue}
+use Rattle.gx_soup.specs.declared.packet.ClientPacket.{ClientPacket}
+use Rattle.gx_soup.specs.declared.packet.ClientPacket.TheVariants as client
+use Rattle.gx_soup.specs.declared.packet.LoginRequest.{LoginRequest}
 use Rattle.gx_history.specs.Showing.{has_its_first}
 use Rattle.gx_answers.specs.declared.outcome.LoginAnswer.{LoginAnswer}
 use Rattle.gx_answers.specs.declared.outcome.LoginAnswer.TheVariants as answers
@@ -9,7 +12,7 @@ use Rattle.gx_session.specs.declared.event.Next.{Next}
 use Rattle.gx_session.specs.declared.event.Next.TheVariants.{Idle, Login, Act, Logout, Close}
 use Rattle.gx_session.specs.declared.event.Reply.{Reply}
 use Rattle.gx_session.specs.declared.session.Phase.{Phase}
-use Rattle.gx_session.specs.declared.session.Phase.TheVariants.{Fresh, Waiting, On, Abandoned, Done}
+use Rattle.gx_session.specs.declared.session.Phase.TheVariants.{On, Abandoned, Done}
 use Rattle.gx_session.specs.Table.{SessionData, turn}
 
 -- an event and its moment
@@ -22,17 +25,15 @@ abbrev pub replies : SessionData → List Timed → List Reply
 replies session [] = []
 replies session (h ∷ hs) = (turn session h.event h.moment).reply ∷ replies (turn session h.event h.moment).session hs
 
--- the session after events
-abbrev pub session_after : SessionData → List Timed → SessionData
-session_after session [] = session
-session_after session (h ∷ hs) = session_after (turn session h.event h.moment).session hs
+-- a user is logged in
+abbrev pub is_on : Phase → Bool
+is_on On = true
+is_on other = false
 
 abbrev pub is_over : Phase → Bool
-is_over Fresh = false
-is_over Waiting = false
-is_over On = false
 is_over Abandoned = true
 is_over Done = true
+is_over other = false
 
 abbrev pub is_login : Next → Bool
 is_login Idle = false
@@ -53,6 +54,11 @@ asks_login reply = is_login reply.next
 
 abbrev pub asks_logout : Reply → Bool
 asks_logout reply = is_logout reply.next
+
+-- the login that a packet asks for, where the session wants it made
+abbrev pub login_in : ClientPacket → Next → Option LoginRequest
+login_in (client.Login login) Login = Some login
+login_in packet next = None
 
 -- what it asks for is a step of a gate
 abbrev pub asks_step : Next → Bool
@@ -86,21 +92,13 @@ is_late (Act request) = false
 is_late Logout = true
 is_late Close = false
 
--- no step of a user's
-abbrev pub is_stepless : Next → Bool
-is_stepless Idle = true
-is_stepless Login = true
-is_stepless (Act request) = false
-is_stepless Logout = false
-is_stepless Close = true
-
 -- nothing is sent, and at most a logout is asked
 abbrev pub is_parting : Reply → Bool
 is_parting reply = is_none reply.send && is_late reply.next
 
 -- nothing is sent, and no request or logout is asked
 abbrev pub is_wordless : Reply → Bool
-is_wordless reply = is_none reply.send && is_stepless reply.next
+is_wordless reply = is_none reply.send && not (asks_step reply.next)
 
 abbrev pub is_no_answer : Happening → Bool
 is_no_answer (happens.Packet packet) = true

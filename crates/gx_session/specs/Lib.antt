@@ -1,5 +1,6 @@
 pub mod Happenings
 pub mod Table
 pub mod Events
+pub mod Outboxes
 pub mod Sending
 pub mod Faults

@@ -6,6 +6,7 @@ use Rattle.gx_history.specs.Payloads.{request_of}
 use Rattle.gx_answers.specs.declared.outcome.LoginAnswer.TheVariants as answers
 use Rattle.gx_session.specs.declared.event.Control.{Control}
 use Rattle.gx_session.specs.declared.event.Control.TheVariants as controls
+use Rattle.gx_session.specs.declared.event.Sign.TheVariants as signs
 use Rattle.gx_session.specs.declared.event.Next.{Next}
 use Rattle.gx_session.specs.declared.event.Next.TheVariants.{Idle, Login, Act, Logout, Close}
 use Rattle.gx_session.specs.declared.event.Reply.{Reply}
@@ -52,8 +53,8 @@ fresh_row happens.End silent = row Done None Close
 -- a login has come, and its answer has not
 abbrev pub waiting_row : Happening → Bool → Row
 waiting_row (happens.Packet packet) silent = row Waiting None Idle
-waiting_row (happens.Answered (answers.Accepted name next)) silent = row On (Some (controls.Accepted name next)) Idle
-waiting_row (happens.Answered (answers.Rejected reason)) silent = row Done (Some (controls.Rejected reason)) Close
+waiting_row (happens.Answered (answers.Accepted name next)) silent = row On (Some (controls.Answer (answers.Accepted name next))) Idle
+waiting_row (happens.Answered (answers.Rejected reason)) silent = row Done (Some (controls.Answer (answers.Rejected reason))) Close
 waiting_row (happens.Refused fault) silent = row Abandoned None Close
 waiting_row (happens.Pulled count ended) silent = row Waiting None Idle
 waiting_row happens.Tick silent = if silent then row Abandoned None Close else row Waiting None Idle
@@ -72,8 +73,8 @@ abbrev pub on_row : Happening → Bool → Bool → Row
 on_row (happens.Packet packet) silent quiet = on_packet packet
 on_row (happens.Answered answer) silent quiet = row On None Idle
 on_row (happens.Refused fault) silent quiet = row Done None Logout
-on_row (happens.Pulled count ended) silent quiet = if ended then row Done (Some controls.EndOfSession) Logout else row On None Idle
-on_row happens.Tick silent quiet = if silent then row Done None Logout else (if quiet then row On (Some controls.Heartbeat) Idle else row On None Idle)
+on_row (happens.Pulled count ended) silent quiet = if ended then row Done (Some (controls.Sign signs.EndOfSession)) Logout else row On None Idle
+on_row happens.Tick silent quiet = if silent then row Done None Logout else (if quiet then row On (Some (controls.Sign signs.Heartbeat)) Idle else row On None Idle)
 on_row happens.Fault silent quiet = row Done None Logout
 on_row happens.End silent quiet = row Done None Logout
 

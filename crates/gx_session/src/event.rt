@@ -3,7 +3,6 @@
 use gx_answers::{LoginAnswer, StepFault};
 use gx_history::record::Request;
 use gx_soup::ClientPacket;
-use gx_units::{LoginRejection, SessionName};
 
 /// What happens to a session.
 #[derive(Clone, Copy)]
@@ -24,17 +23,22 @@ pub enum Event<'a> {
     End,
 }
 
-/// A packet of the session's own.
+/// What a session sends besides the answer to its login and reports.
 #[derive(Clone, Copy, PartialEq, Eq)]
-pub enum Control {
-    /// Login Accepted: the session, and the number of the next report.
-    Accepted(SessionName, u64),
-    /// Login Rejected.
-    Rejected(LoginRejection),
+pub enum Sign {
     /// Server Heartbeat.
     Heartbeat,
     /// End of Session.
     EndOfSession,
+}
+
+/// A packet of the session's own.
+#[derive(Clone, Copy, PartialEq, Eq)]
+pub enum Control {
+    /// Login Accepted or Login Rejected.
+    Answer(LoginAnswer),
+    /// Any other.
+    Sign(Sign),
 }
 
 /// What the caller does next, once the packet is sent.

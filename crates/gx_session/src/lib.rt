@@ -5,13 +5,15 @@
 mod event;
 mod fault;
 mod laws;
+mod outbox;
 mod sending;
 mod session;
 
-pub use event::{Control, Event, Next, Reply};
+pub use event::{Control, Event, Next, Reply, Sign};
 pub use fault::SendFault;
 pub use laws::{
     ended_sessions_are_silent, no_logout_without_a_login, one_login, silent_before_an_answer,
 };
+pub use outbox::Outbox;
 pub use sending::{send_control, send_pulled};
 pub use session::{Phase, Session};

@@ -6,9 +6,9 @@ ghost use Rattle.gx_devices.specs.Devices.{IsFront};
 ghost use Rattle.gx_session.specs.Faults.{IsBlamed};
 ghost use Rattle.gx_session.specs.Sending.{control_bytes, report_packet, reports_text};
 
-use crate::event::Control;
+use crate::event::{Control, Sign};
 use crate::fault::SendFault;
-use gx_answers::Pulled;
+use gx_answers::{LoginAnswer, Pulled};
 use gx_devices::{Counted, write_whole};
 use gx_history::report::Report;
 use gx_ouch::MESSAGE_ROOM;
@@ -81,10 +81,12 @@ pub fn send_control<W: Write>(
     ensures told { IfErr result (IsBlamed writer.old.failed writer.new.failed) }
 {
     let packet = match control {
-        Control::Accepted(name, next) => ServerPacket::Accepted(name, next),
-        Control::Rejected(reason) => ServerPacket::Rejected(reason),
-        Control::Heartbeat => ServerPacket::Heartbeat,
-        Control::EndOfSession => ServerPacket::EndOfSession,
+        Control::Answer(LoginAnswer::Accepted { session, next }) => {
+            ServerPacket::Accepted(session, next)
+        }
+        Control::Answer(LoginAnswer::Rejected(reason)) => ServerPacket::Rejected(reason),
+        Control::Sign(Sign::Heartbeat) => ServerPacket::Heartbeat,
+        Control::Sign(Sign::EndOfSession) => ServerPacket::EndOfSession,
     };
     let bytes = encode(alloc, &packet)?;
     write_whole(writer, bytes.as_slice())?;

@@ -6,9 +6,9 @@ ghost use Rattle.gx_session.specs.Table.{is_silent, fresh_packet, fresh_row, wai
 ghost use Rattle.gx_session.specs.Table.{abandoned_row, row, row_at, is_sending, heard_after, sent_after};
 ghost use Rattle.gx_session.specs.Table.{turn, new_session, rest_of};
 ghost use Rattle.gx_session.specs.Happenings.{happening};
-ghost use Rattle.gx_session.specs.Events.{CanAsk};
+ghost use Rattle.gx_session.specs.Events.{is_on, is_over, CanAsk};
 
-use crate::event::{Control, Event, Next, Reply};
+use crate::event::{Control, Event, Next, Reply, Sign};
 use gx_answers::LoginAnswer;
 use gx_history::record::Request;
 use gx_soup::ClientPacket;
@@ -95,13 +95,11 @@ fn waiting_row(event: Event<'_>, silent: bool) -> Row
     ensures able { CanAsk result.reply.next }
 {
     match event {
-        Event::Answered(LoginAnswer::Accepted { session, next }) => Row::new(
-            Phase::On,
-            Some(Control::Accepted(session, next)),
-            Next::Idle,
-        ),
-        Event::Answered(LoginAnswer::Rejected(reason)) => {
-            Row::new(Phase::Done, Some(Control::Rejected(reason)), Next::Close)
+        Event::Answered(answer @ LoginAnswer::Accepted { .. }) => {
+            Row::new(Phase::On, Some(Control::Answer(answer)), Next::Idle)
+        }
+        Event::Answered(answer @ LoginAnswer::Rejected(_)) => {
+            Row::new(Phase::Done, Some(Control::Answer(answer)), Next::Close)
         }
         Event::Tick if !silent => Row::stay(Phase::Waiting),
         Event::Tick | Event::Refused(_) | Event::Fault | Event::End => {
@@ -130,11 +128,15 @@ fn on_row(event: Event<'_>, silent: bool, quiet: bool) -> Row
 {
     match event {
         Event::Packet(packet) => on_packet(packet),
-        Event::Pulled { ended: true, .. } => {
-            Row::new(Phase::Done, Some(Control::EndOfSession), Next::Logout)
-        }
+        Event::Pulled { ended: true, .. } => Row::new(
+            Phase::Done,
+            Some(Control::Sign(Sign::EndOfSession)),
+            Next::Logout,
+        ),
         Event::Tick if silent => Row::leave(Phase::Done, Next::Logout),
-        Event::Tick if quiet => Row::new(Phase::On, Some(Control::Heartbeat), Next::Idle),
+        Event::Tick if quiet => {
+            Row::new(Phase::On, Some(Control::Sign(Sign::Heartbeat)), Next::Idle)
+        }
         Event::Refused(_) | Event::Fault | Event::End => Row::leave(Phase::Done, Next::Logout),
         Event::Answered(_) | Event::Pulled { .. } | Event::Tick => Row::stay(Phase::On),
     }
@@ -218,11 +220,18 @@ impl Session {
         patience.min(HEARTBEAT.saturating_sub(moment.saturating_sub(self.sent)))
     }
 
-    /// How far the session has come.
-    pub fn phase(&self) -> Phase
-        ensures { result ≡ self.now.phase }
+    /// Whether a user is logged in.
+    pub fn is_on(&self) -> bool
+        ensures { result ≡ is_on self.now.phase }
     {
-        self.phase
+        matches!(self.phase, Phase::On)
+    }
+
+    /// Whether the session is over.
+    pub fn is_over(&self) -> bool
+        ensures { result ≡ is_over self.now.phase }
+    {
+        matches!(self.phase, Phase::Abandoned | Phase::Done)
     }
 
     fn row(&self, event: Event<'_>, moment: u64) -> Row

@@ -1,14 +1,16 @@
 -- The lines of records that were there before, in the keeper's hand.
-use Rattle.std.proofs.Common.{◌≡◌, ◌≢◌, ℕ, zero, suc, ◌+◌, ◌<◌, ◌≤◌, max, pred, List, [], ◌∷◌, ◌++◌, take, drop, refl, sym, ap, ◌∙◌, subst, inl, inr, arith}
+use Rattle.std.proofs.Common.{◌≡◌, ◌≢◌, ℕ, zero, suc, ◌+◌, ◌<◌, ◌≤◌, fold, map, max, pred, List, [], ◌∷◌, ◌++◌, take, drop, refl, sym, ap, ◌∙◌, subst, inl, inr, arith}
 use Rattle.std.proofs.Math.Seq.{take-add}
+use Rattle.std.proofs.lemmas.List.{map-append}
+use Rattle.std.proofs.lemmas.List.Sums.{fold-append}
 use mathlib.Core.Logic.{dite}
 use native.Mathlib.Decide.{ℕ_discrete}
 use Rattle.gx_history.specs.declared.record.RecordData.{RecordData}
 use Rattle.gx_policy.specs.Lists.{slice}
 use Rattle.gx_pass.specs.declared.view.Keeps.{Keeps}
 use Rattle.gx_pass.specs.Rules.{Has, MayNote}
-use Rattle.gx_pass.specs.Views.{keeps, line_in}
-use Rattle.gx_shared.specs.Lines.{IsResuming, highest_line, lines_to}
+use Rattle.gx_pass.specs.Views.{highest_line, keeps, line_in}
+use Rattle.gx_shared.specs.Lines.{IsResuming, lines_to}
 
 -- a keeper that has nothing yet
 pub begins : (k : Keeps) → k ≡ keeps [] [] 0 → IsResuming k
@@ -39,8 +41,9 @@ may_note issued line was hand is most = subst (λ (lines : List ℕ). MayNote li
 
 -- the highest line of one more record
 pub highest_more : (records : List RecordData) (r : RecordData) → highest_line (records ++ r ∷ []) ≡ max (highest_line records) (line_in r)
-highest_more [] r = omega arith
-highest_more (first ∷ records) r = ap (λ (n : ℕ). max (line_in first) n) (highest_more records r) ∙ omega arith
+highest_more records r =
+    ap (fold max 0) (map-append line_in records (r ∷ []))
+    ∙ fold-append max 0 (map line_in records) (line_in r ∷ [])
 
 before_next : (done : ℕ) → pred (max 1 (done + 1)) ≡ done
 before_next done = grind arith

@@ -1,26 +1,16 @@
 //! The keeper of a history that was there before it.
 
 ghost use Rattle.std.specs.Prelude.{◌≡◌, ◌+◌, ◌<◌, ◌^◌, ◌++◌, ◌∷◌, [], length, max, IfOk, OnOk};
-ghost use Rattle.gx_pass.specs.Views.{line_in};
-ghost use Rattle.gx_shared.specs.Lines.{highest_line, lines_to, IsResuming};
+ghost use Rattle.gx_pass.specs.Views.{highest_line};
+ghost use Rattle.gx_shared.specs.Lines.{lines_to, IsResuming};
 
 use gx_answers::AccessGate;
-use gx_history::record::{Record, RecordData, Step};
-use gx_pass::{Blank, GateName, Keeper, PassFault};
+use gx_history::record::{Record, RecordData};
+use gx_pass::{Blank, GateName, Keeper, PassFault, line_in};
 use gx_units::OutOfMemory;
 
 /// So many records are asked for at once.
 const PORTION: u64 = 256;
-
-/// The line of a record's step, 0 where it is nobody's.
-fn line_in(noted: &RecordData) -> u16
-    ensures { result ≡ line_in noted.now }
-{
-    match noted.step {
-        Step::Asked(asked) => asked.line,
-        Step::Matching(_) => 0,
-    }
-}
 
 /// Issues one more line, whose pass stays in the keeper's hand.
 #[tactic(auto, using(crate::proofs::Noted::one_more_line))]

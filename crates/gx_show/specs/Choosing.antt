@@ -1,17 +1,17 @@
 -- Which records of a day are shown.
-use Rattle.std.specs.Prelude.{ℕ, Bool, true, false, ◌&&◌, ◌||◌, ◌==◌, nat_le, not, List, Option, option_and_then, unwrap_or}
-use Rattle.std.specs.List.{filter_map, list_any}
+use Rattle.std.specs.Prelude.{ℕ, Bool, true, false, ◌&&◌, ◌||◌, ◌==◌, nat_le, not, List, Option, option_and_then}
+use Rattle.std.specs.List.{filter_map}
 use Rattle.std.specs.Option.{option_map_or}
 use Rattle.gx_units.specs.declared.names.AccountName.{AccountName}
 use Rattle.gx_units.specs.declared.names.RuleId.{RuleId}
 use Rattle.gx_units.specs.declared.names.Symbol.{Symbol}
 use Rattle.gx_units.specs.declared.names.UserName.{UserName}
-use Rattle.gx_units.specs.Names.{same_account, same_rule, same_stock, same_token, same_user}
+use Rattle.gx_units.specs.Names.{same_account, same_rule, same_stock, same_user}
 use Rattle.gx_desk.specs.declared.Action.{Action}
 use Rattle.gx_desk.specs.declared.Action.TheVariants as actions
 use Rattle.gx_policy.specs.declared.policy.FileRule.{FileRule}
 use Rattle.gx_policy.specs.declared.policy.PolicyData.{PolicyData}
-use Rattle.gx_policy.specs.Lists.{behind_last, each_with_earlier, where_true}
+use Rattle.gx_policy.specs.Lists.{each_with_earlier, where_true}
 use Rattle.gx_policy.specs.People.{account_of, covers, rule_in}
 use Rattle.gx_policy.specs.RuleNames.{rule_id}
 use Rattle.gx_history.specs.declared.record.Asked.{Asked}
@@ -20,9 +20,9 @@ use Rattle.gx_history.specs.declared.record.Request.{Request}
 use Rattle.gx_history.specs.declared.record.Request.TheVariants as requests
 use Rattle.gx_history.specs.declared.record.Verdict.{Verdict}
 use Rattle.gx_history.specs.declared.record.Verdict.TheVariants as verdicts
-use Rattle.gx_history.specs.Orders.{ends_account, expires}
-use Rattle.gx_history.specs.Requests.{action_of, asked, granted, granted_action, is_order, named_token}
+use Rattle.gx_history.specs.Requests.{action_of, asked, named_token}
 use Rattle.gx_show.specs.declared.choice.Choice.{Choice}
+use Rattle.gx_show.specs.declared.choice.OrderLife.{OrderLife}
 use Rattle.gx_show.specs.declared.known_order.KnownOrder.{KnownOrder}
 use Rattle.gx_show.specs.Known.{has_number, known_orders, made, numbered, under}
 
@@ -120,35 +120,9 @@ abbrev pub is_denied : Verdict → Bool
 is_denied (verdicts.Denied rule) = true
 is_denied other = false
 
--- a granted Replace of the order, Kill of its account or Close Day
-abbrev pub ends_by_request : KnownOrder → UserName → Request → Bool
-ends_by_request o user (requests.Replace m) = same_user user o.user && same_token m.existing_token o.token
-ends_by_request o user (requests.Command c) = ends_account o.account c.action
-ends_by_request o user other = false
-
--- the record ends the order: such a request is granted, or the order expires
-abbrev pub ends_order : KnownOrder → RecordData → Bool
-ends_order o r = expires o.number r.verdict || option_map_or (λ (a : Asked). ends_by_request o a.user a.request) (granted r) false
-
--- the record grants an order under this number
-abbrev pub grants_order : ℕ → RecordData → Bool
-grants_order number r = r.number == number && option_map_or (λ (a : Asked). is_order a.request) (granted r) false
-
--- the records behind the one that granted the order
-abbrev pub since_order : ℕ → List RecordData → List RecordData
-since_order number earlier = unwrap_or (behind_last (grants_order number) earlier) earlier
-
--- the order of this number has ended before: a record since the one that granted it has ended it
-unfoldable pub is_over : PolicyData → List RecordData → ℕ → Bool
-is_over policy earlier number = is_such (λ (o : KnownOrder). list_any (ends_order o) (since_order number earlier)) (numbered (known_orders policy earlier) number)
-
--- a granted Kill of the order's account, or Close Day
-abbrev pub ends_account_of : RecordData → KnownOrder → Bool
-ends_account_of r o = option_map_or (ends_account o.account) (granted_action r) false
-
--- the record speaks of the order of this number, or is the Kill or Close Day that it ended by
-abbrev pub concerns_order : PolicyData → List KnownOrder → Bool → RecordData → ℕ → Bool
-concerns_order policy known over r number = speaks_of policy known r (has_number number) || (not over && is_such (ends_account_of r) (numbered known number))
+-- the record speaks of the order, or is the Kill or Close Day that it ended by
+abbrev pub concerns_order : PolicyData → List KnownOrder → RecordData → OrderLife → Bool
+concerns_order policy known r life = speaks_of policy known r (has_number life.number) || option_map_or (λ (end : ℕ). end == r.number) life.ended_by false
 
 -- what is asked for passes the test; whatever nobody asks for passes
 abbrev pub is_wanted : {X : Type 0} → (X → Bool) → Option X → Bool
@@ -158,23 +132,19 @@ is_wanted test asked_for = option_map_or test asked_for true
 abbrev pub is_in_span : Choice → RecordData → Bool
 is_in_span choice r = nat_le choice.from r.moment && (nat_le r.moment choice.to && (not choice.only_denied || is_denied r.verdict))
 
--- the record is asked for, by the orders before it and whether the order asked for has ended before
-abbrev pub is_asked_for : PolicyData → Choice → List KnownOrder → Bool → RecordData → Bool
-is_asked_for policy choice known over r =
+-- the record is asked for, by the orders before it
+abbrev pub is_asked_for : PolicyData → Choice → List KnownOrder → RecordData → Bool
+is_asked_for policy choice known r =
     is_in_span choice r
     && (is_wanted (concerns_account policy known r) choice.account
     && (is_wanted (concerns_user policy known r) choice.user
-    && (is_wanted (concerns_order policy known over r) choice.order
+    && (is_wanted (concerns_order policy known r) choice.order
     && (is_wanted (concerns_stock policy known r) choice.stock
     && is_wanted (concerns_rule r) choice.rule))))
 
--- the order that is asked for has ended before
-abbrev pub is_order_over : PolicyData → Choice → List RecordData → Bool
-is_order_over policy choice earlier = option_map_or (is_over policy earlier) choice.order false
-
 -- the record, behind these, concerns all that is asked for
 abbrev pub is_chosen : PolicyData → Choice → List RecordData → RecordData → Bool
-is_chosen policy choice earlier r = is_asked_for policy choice (known_orders policy earlier) (is_order_over policy choice earlier) r
+is_chosen policy choice earlier r = is_asked_for policy choice (known_orders policy earlier) r
 
 -- the chosen records of a day, in their order
 unfoldable pub chosen : PolicyData → Choice → List RecordData → List RecordData

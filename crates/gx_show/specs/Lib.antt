@@ -6,4 +6,3 @@ pub mod Rows
 pub mod Testing
 pub mod Asking
 pub mod Choosing
-pub mod Ending

@@ -2,6 +2,15 @@
 
 use gx_units::{AccountName, RuleId, Symbol, UserName};
 
+/// An order, and how it ended.
+#[derive(Clone, Copy)]
+pub struct OrderLife {
+    /// The number of the record that made it.
+    pub number: u64,
+    /// The number of the granted Kill or Close Day that it ended by; None where it did not end so.
+    pub ended_by: Option<u64>,
+}
+
 /// Which records are asked for: those that concern all that is named here, and all records where nothing is.
 #[derive(Clone, Copy)]
 pub struct Choice {
@@ -9,9 +18,9 @@ pub struct Choice {
     pub account: Option<AccountName>,
     /// What the user asked for, and what became of his orders. His name is in upper case.
     pub user: Option<UserName>,
-    /// The life of the order of this number: the record that made it, each request that names it, what it came to in
-    /// matching, and the Kill or Close Day that it ended by.
-    pub order: Option<u64>,
+    /// The life of the order: the record that made it, each request that names it, what it came to in matching, and the
+    /// Kill or Close Day that it ended by.
+    pub order: Option<OrderLife>,
     /// Enters in the stock, what concerns orders in it, and the commands that put it on a list or take it off.
     pub stock: Option<Symbol>,
     /// Denials by the rule, and commands on it.

@@ -1,14 +1,11 @@
 //! The records of a day that are asked for.
 
-ghost use Rattle.std.specs.Prelude.{◌≡◌, IfOk, OnOk, [], ◌∷◌, ◌++◌, false, option_to_list, if◌then◌else◌};
-ghost use Rattle.std.specs.Option.{option_map_or};
-ghost use Rattle.gx_show.specs.Ending.{over_after};
+ghost use Rattle.std.specs.Prelude.{◌≡◌, IfOk, OnOk, [], ◌∷◌, ◌++◌, option_to_list, if◌then◌else◌};
 ghost use Rattle.gx_show.specs.Known.{made};
 ghost use Rattle.gx_show.specs.Choosing.{chosen, concerns_account, concerns_order, concerns_rule, concerns_stock, concerns_user, denies_by, is_asked_for, is_in_span, is_in_stock, is_of_account, is_wanted, trades_for};
 
-use crate::choice::Choice;
+use crate::choice::{Choice, OrderLife};
 use crate::commands::{action_of, acts_on, is_on_rule, lists};
-use crate::ending::{is_end_of, over_after};
 use crate::known_order::OrderTest;
 use crate::known_orders::KnownOrders;
 use crate::making::{account_of, asked_in, made, speaks_of};
@@ -70,18 +67,12 @@ fn concerns_user(policy: &Policy, known: &KnownOrders, shown: &RecordData, user:
     speaks_of(policy, known, shown, OrderTest::OfUser(user))
 }
 
-/// Whether the record speaks of the order of this number, or is the Kill or Close Day that it ended by.
-fn concerns_order(
-    policy: &Policy,
-    known: &KnownOrders,
-    over: bool,
-    shown: &RecordData,
-    number: u64,
-) -> bool
-    ensures { result ≡ concerns_order policy.now known.now over shown.now number }
+/// Whether the record speaks of the order, or is the Kill or Close Day that it ended by.
+fn concerns_order(policy: &Policy, known: &KnownOrders, shown: &RecordData, life: OrderLife) -> bool
+    ensures { result ≡ concerns_order policy.now known.now shown.now life }
 {
-    speaks_of(policy, known, shown, OrderTest::Numbered(number))
-        || is_end_of(known, over, shown, number)
+    speaks_of(policy, known, shown, OrderTest::Numbered(life.number))
+        || life.ended_by.is_some_and(|end| end == shown.number)
 }
 
 /// Whether the request is an Enter in the stock, or a command that names it.
@@ -183,14 +174,13 @@ fn is_of_wanted_user(
 fn is_of_wanted_order(
     policy: &Policy,
     known: &KnownOrders,
-    over: bool,
     shown: &RecordData,
-    order: Option<u64>,
+    order: Option<OrderLife>,
 ) -> bool
-    ensures { result ≡ is_wanted (concerns_order policy.now known.now over shown.now) order }
+    ensures { result ≡ is_wanted (concerns_order policy.now known.now shown.now) order }
 {
     match order {
-        Some(number) => concerns_order(policy, known, over, shown, number),
+        Some(life) => concerns_order(policy, known, shown, life),
         None => true,
     }
 }
@@ -220,15 +210,9 @@ fn is_of_wanted_rule(shown: &RecordData, rule: Option<RuleId>) -> bool
     }
 }
 
-/// Whether the record is asked for, by the orders before it and whether the order asked for has ended before.
-fn is_asked_for(
-    policy: &Policy,
-    choice: &Choice,
-    known: &KnownOrders,
-    over: bool,
-    shown: &RecordData,
-) -> bool
-    ensures { result ≡ is_asked_for policy.now choice.now known.now over shown.now }
+/// Whether the record is asked for, by the orders before it.
+fn is_asked_for(policy: &Policy, choice: &Choice, known: &KnownOrders, shown: &RecordData) -> bool
+    ensures { result ≡ is_asked_for policy.now choice.now known.now shown.now }
 {
     if !is_in_span(choice, shown) {
         return false;
@@ -239,24 +223,13 @@ fn is_asked_for(
     if !is_of_wanted_user(policy, known, shown, choice.user) {
         return false;
     }
-    if !is_of_wanted_order(policy, known, over, shown, choice.order) {
+    if !is_of_wanted_order(policy, known, shown, choice.order) {
         return false;
     }
     if !is_of_wanted_stock(policy, known, shown, choice.stock) {
         return false;
     }
     is_of_wanted_rule(shown, choice.rule)
-}
-
-/// Whether the order that is asked for has ended once the record is behind those before it.
-fn order_over_after(choice: &Choice, known: &KnownOrders, over: bool, shown: &RecordData) -> bool
-    ensures { result
-        ≡ option_map_or (over_after known.now over shown.now) choice.now.order false }
-{
-    match choice.order {
-        Some(number) => over_after(known, over, shown, number),
-        None => false,
-    }
 }
 
 /// Puts the order that the record makes behind the others, if it makes one.
@@ -293,13 +266,11 @@ pub fn chosen_records(
     ensures { IfOk result (λ found. found.items ≡ chosen policy.now choice.now records.now) }
 {
     let mut known = KnownOrders::new(alloc);
-    let mut over = false;
     let mut found = Vec::new(alloc);
     for record in records {
         let shown = record.content();
-        let is_wanted = is_asked_for(policy, choice, &known, over, &shown);
+        let is_wanted = is_asked_for(policy, choice, &known, &shown);
         keep(&mut found, *record, is_wanted)?;
-        over = order_over_after(choice, &known, over, &shown);
         note(policy, &mut known, &shown)?;
     }
     Ok(found)

@@ -5,7 +5,6 @@ mod asking;
 mod choice;
 mod choosing;
 mod commands;
-mod ending;
 mod known_order;
 mod known_orders;
 mod making;
@@ -16,7 +15,7 @@ mod style;
 mod table;
 
 pub use asking::{AskedNames, UnknownName, choice_of, is_known_in_capitals};
-pub use choice::Choice;
+pub use choice::{Choice, OrderLife};
 pub use choosing::chosen_records;
 pub use known_order::KnownOrder;
 pub use naming::{account_in, rule_known, stock_in, user_known};

@@ -7,7 +7,7 @@ use crate::numbers::append_integer;
 use gx_history::live_order::LiveOrder;
 use gx_overview::accounts::{AccountRow, account_rows};
 use gx_overview::commands::{GrantedCommand, granted_commands};
-use gx_overview::day::{DayRow, UserRow, day_row, user_rows};
+use gx_overview::day::{DayRow, UserRow, day_row, lines_left, user_rows};
 use gx_overview::executed::{Executed, ExecutedRow, executed_rows};
 use gx_overview::rules::{
     GrossRow, LimitRow, ListingRow, NetRow, gross_rows, limit_rows, listing_rows, net_rows,
@@ -77,13 +77,20 @@ fn append_command(text: &mut Vec<u8>, command: Option<&GrantedCommand>) -> Resul
     append(text, b"}")
 }
 
-fn append_day(text: &mut Vec<u8>, session: &[u8], day: &DayRow) -> Result<(), OutOfMemory> {
+fn append_day(
+    text: &mut Vec<u8>,
+    session: &[u8],
+    day: &DayRow,
+    lines: u16,
+) -> Result<(), OutOfMemory> {
     append(text, b"{\"session\":")?;
     append_json_name(text, session)?;
     append(text, b",\"record\":")?;
     append_number(text, day.records)?;
     append(text, b",\"records_left\":")?;
     append_number(text, day.left)?;
+    append(text, b",\"lines_left\":")?;
+    append_number(text, u64::from(lines))?;
     append(text, b",\"at\":")?;
     append_time(text, day.moment)?;
     append(text, b",\"closed\":")?;
@@ -391,7 +398,7 @@ fn append_state<G: ShowsRecords + ShowsState>(
     requires { commands.now ≡ granted_commands (G.seen gate.now).records }
 {
     let session = gate.policy().session();
-    append_day(text, &session.bytes, &day_row(gate))?;
+    append_day(text, &session.bytes, &day_row(gate), lines_left(gate))?;
     append_people(text, alloc, gate)?;
     append_all_accounts(text, alloc, gate, commands)?;
     append_all_rules(text, alloc, gate, commands)?;

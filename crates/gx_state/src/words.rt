@@ -9,7 +9,7 @@ use crate::numbers::{
 use crate::orders::append_order_lines;
 use gx_overview::accounts::{AccountRow, account_rows};
 use gx_overview::commands::{GrantedCommand, granted_commands};
-use gx_overview::day::{DayRow, UserRow, day_row, user_rows};
+use gx_overview::day::{DayRow, UserRow, day_row, lines_left, user_rows};
 use gx_overview::executed::{Executed, ExecutedRow, executed_rows};
 use gx_overview::rules::{
     GrossRow, LimitRow, ListingRow, NetRow, gross_rows, limit_rows, listing_rows, net_rows,
@@ -21,7 +21,12 @@ use gx_units::{AccountName, OutOfMemory, RuleId};
 use std::alloc::Global;
 
 /// The first line: the day, its last record, and how far it is.
-fn append_day(text: &mut Vec<u8>, session: &[u8], day: &DayRow) -> Result<(), OutOfMemory> {
+fn append_day(
+    text: &mut Vec<u8>,
+    session: &[u8],
+    day: &DayRow,
+    lines: u16,
+) -> Result<(), OutOfMemory> {
     append_name(text, session)?;
     append(text, b"  record ")?;
     append_number(text, day.records)?;
@@ -36,7 +41,9 @@ fn append_day(text: &mut Vec<u8>, session: &[u8], day: &DayRow) -> Result<(), Ou
         },
     )?;
     append_number(text, day.left)?;
-    append(text, b" more records may come\n")
+    append(text, b" more records and ")?;
+    append_number(text, u64::from(lines))?;
+    append(text, b" more lines may come\n")
 }
 
 /// Who is logged in, and on which line.
@@ -357,7 +364,7 @@ fn append_state<G: ShowsRecords + ShowsState>(
     requires { commands.now ≡ granted_commands (G.seen gate.now).records }
 {
     let session = gate.policy().session();
-    append_day(text, &session.bytes, &day_row(gate))?;
+    append_day(text, &session.bytes, &day_row(gate), lines_left(gate))?;
     append_people(text, alloc, gate)?;
     append_all_accounts(text, alloc, gate, commands)?;
     append_all_rules(text, alloc, gate, commands)?;

@@ -2,7 +2,7 @@
 
 use crate::texts::{Told, halves, spelled_by};
 use gx_answers::{LoginAnswer, StepFault};
-use gx_session::{Control, Event, Next, Reply, Session};
+use gx_session::{Control, Event, Next, Reply, Session, Sign};
 use gx_soup::{ClientPacket, LoginRequest, Payload};
 use gx_units::{LoginRejection, OutOfMemory, Password, SessionName, UserName};
 use std::alloc::Global;
@@ -64,10 +64,10 @@ fn event_of(word: &str, count: &str) -> Option<Event<'static>> {
 fn sent_text(send: Option<Control>) -> &'static str {
     match send {
         None => "",
-        Some(Control::Accepted(_, _)) => "send accepted, ",
-        Some(Control::Rejected(_)) => "send rejected, ",
-        Some(Control::Heartbeat) => "send heartbeat, ",
-        Some(Control::EndOfSession) => "send end of session, ",
+        Some(Control::Answer(LoginAnswer::Accepted { .. })) => "send accepted, ",
+        Some(Control::Answer(LoginAnswer::Rejected(_))) => "send rejected, ",
+        Some(Control::Sign(Sign::Heartbeat)) => "send heartbeat, ",
+        Some(Control::Sign(Sign::EndOfSession)) => "send end of session, ",
     }
 }
 

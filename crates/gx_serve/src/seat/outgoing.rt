@@ -8,19 +8,20 @@ ghost use Rattle.gx_door.specs.declared.fault.PullFault.TheVariants as pull_faul
 ghost use Rattle.gx_door.specs.Acts.{IsLater};
 ghost use Rattle.gx_session.specs.Events.{is_over};
 ghost use Rattle.gx_session.specs.Happenings as happens;
+ghost use Rattle.gx_session.specs.Outboxes.{left_after};
 ghost use Rattle.gx_session.specs.Table.{turn};
 ghost use Rattle.gx_serve.specs.Marks.{mark_sent, watch_sent};
-ghost use Rattle.gx_serve.specs.Seats.{answer_after, is_on, sign_after, HasLooked, WasTold};
+ghost use Rattle.gx_serve.specs.Seats.{HasLooked, WasTold};
 ghost use Rattle.gx_door.specs.Acts.{met};
-ghost use Rattle.gx_serve.specs.Seeking.{due_of, is_ending, watch_after, IsQuiet, WasGreeted, WasPulled, WasSought, WasWatched, GoesOnWhere};
-ghost use Rattle.gx_serve.specs.Speech.{Begins, IsDue, IsShown};
+ghost use Rattle.gx_serve.specs.Seeking.{due_of, watch_after, IsQuiet, Seeks, WasGreeted, WasPulled, WasSought, WasWatched};
+ghost use Rattle.gx_serve.specs.Speech.{is_ending, Begins, IsDue, IsShown};
 ghost use Rattle.gx_serve.specs.Tellings.{sent_of};
 
-use crate::seat::{Heeded, Seat, Sign};
+use crate::seat::{Heeded, Seat};
 use gx_answers::{LoginAnswer, Pulled, StepFault};
 use gx_door::{Dial, Door, PullFault};
 use gx_lobby::Watch;
-use gx_session::Event;
+use gx_session::{Event, Sign};
 use gx_units::{Moment, UserName};
 use std::marker::Model;
 use std::sync::Wait;
@@ -93,7 +94,7 @@ pub struct Signed {
 }
 
 impl Model for Signed {
-    ghost use Rattle.gx_serve.specs.declared.seat.Sign.{Sign};
+    ghost use Rattle.gx_session.specs.declared.event.Sign.{Sign};
 
     ghost Value = { Sign };
 
@@ -159,17 +160,6 @@ pub enum Greeted {
     Cut,
 }
 
-/// What the writer does before a login is answered.
-#[derive(Drop)]
-pub enum Greeting {
-    /// Sends the answer to a login.
-    Answer(Answered),
-    /// Nothing for now.
-    Nothing,
-    /// Nothing any more: the session is over, and its login was not answered.
-    Over(Finished),
-}
-
 /// What the writer does for a user who was logged in.
 #[derive(Drop)]
 pub enum Due {
@@ -204,47 +194,48 @@ impl<T: Drop> Seat<T> {
         rt: &R,
         door: &D,
         moment: Moment,
-    ) -> Greeting
+    ) -> Option<Result<Answered, Finished>>
         requires clock { R.shown moment }
         ensures quiet { IsQuiet (is_over self.new.session.phase) result }
         ensures told { WasTold D.policy self.old.user happens.Tick moment
             self.old.session (met D.held self.old.pass)
             self.new.session (met D.held self.new.pass) }
         ensures user { self.new.user ≡ self.old.user }
-        ensures answer { self.new.answer ≡ self.old.answer }
+        ensures answer { self.new.outbox.answer ≡ self.old.outbox.answer }
     {
         self.tell(rt, door, Event::Tick, moment);
-        if self.is_over() {
-            Greeting::Over(Finished { _seen: () })
+        if self.session.is_over() {
+            Some(Err(Finished { _seen: () }))
         } else {
-            Greeting::Nothing
+            None
         }
     }
 
-    /// What the writer does before the login is answered: it answers it, or looks at the time. The session was told of
-    /// the server's end, where that was asked for.
+    /// What the writer does before the login is answered: it answers it, or looks at the time. Answers what it is to send,
+    /// or that the session is over; `None` for nothing for now. The session was told of the server's end, where that was
+    /// asked for.
     pub fn greet<D: Door<Ticket = T>, R: Wait + Dial>(
         &mut self,
         rt: &R,
         door: &D,
         _heeded: Heeded,
         moment: Moment,
-    ) -> Greeting
+    ) -> Option<Result<Answered, Finished>>
         requires clock { R.shown moment }
-        ensures greeted { WasGreeted self.old.answer D.policy self.old.user moment
+        ensures greeted { WasGreeted self.old.outbox.answer D.policy self.old.user moment
             self.old.session (met D.held self.old.pass)
             self.new.session (met D.held self.new.pass) result }
-        ensures taken { self.new.answer ≡ None }
+        ensures taken { self.new.outbox.answer ≡ None }
         ensures user { self.new.user ≡ self.old.user }
     {
-        match self.answer.take() {
-            Some(answer) => Greeting::Answer(Answered {
+        match self.outbox.answer.take() {
+            Some(answer) => Some(Ok(Answered {
                 user: self.user,
                 answer,
-            }),
+            })),
             None => {
-                if self.is_over() {
-                    Greeting::Over(Finished { _seen: () })
+                if self.session.is_over() {
+                    Some(Err(Finished { _seen: () }))
                 } else {
                     self.tick(rt, door, moment)
                 }
@@ -257,8 +248,7 @@ impl<T: Drop> Seat<T> {
         ensures told { met D.held self.new.pass ≡ retold (met D.held self.old.pass) result }
         ensures user { self.new.user ≡ self.old.user }
         ensures session { self.new.session ≡ self.old.session }
-        ensures answer { self.new.answer ≡ self.old.answer }
-        ensures sign { self.new.sign ≡ self.old.sign }
+        ensures outbox { self.new.outbox ≡ self.old.outbox }
         ensures watch { self.new.watch ≡ self.old.watch }
     {
         let Some(mut pass) = self.pass.take() else {
@@ -285,8 +275,7 @@ impl<T: Drop> Seat<T> {
         ensures looked { HasLooked (met D.held self.old.pass) (met D.held self.new.pass) }
         ensures user { self.new.user ≡ self.old.user }
         ensures session { self.new.session ≡ self.old.session }
-        ensures answer { self.new.answer ≡ self.old.answer }
-        ensures sign { self.new.sign ≡ self.old.sign }
+        ensures outbox { self.new.outbox ≡ self.old.outbox }
         ensures watch { self.new.watch ≡ self.old.watch }
     {
         let Some(pass) = self.pass.take() else {
@@ -342,16 +331,15 @@ impl<T: Drop> Seat<T> {
         moment: Moment,
     ) -> Due
         requires clock { R.shown moment }
-        ensures sought { GoesOnWhere (is_over self.old.session.phase) D.policy
-            self.old.user bookmark.now moment
+        ensures sought { Seeks None self.new.outbox D.policy self.old.user bookmark.now moment
             self.old.session (met D.held self.old.pass) self.old.watch
             self.new.session (met D.held self.new.pass) self.new.watch result }
         ensures user { self.new.user ≡ self.old.user }
     {
-        if self.is_over() {
+        if self.session.is_over() {
             return Due::Over(Finished { _seen: () });
         }
-        if self.is_on() {
+        if self.session.is_on() {
             self.pull(rt, door, bookmark, moment)
         } else {
             Due::Nothing
@@ -368,13 +356,14 @@ impl<T: Drop> Seat<T> {
         moment: Moment,
     ) -> Due
         requires clock { R.shown moment }
-        ensures watched { WasWatched self.old.sign D.policy self.old.user bookmark.now moment
+        ensures watched { WasWatched self.old.outbox self.new.outbox
+            D.policy self.old.user bookmark.now moment
             self.old.session (met D.held self.old.pass) self.old.watch
             self.new.session (met D.held self.new.pass) self.new.watch result }
         ensures user { self.new.user ≡ self.old.user }
     {
         self.tell(rt, door, Event::Tick, moment);
-        match self.sign.take() {
+        match self.outbox.sign.take() {
             Some(sign) => Due::Sign(Signed { sign }),
             None => self.seek(rt, door, bookmark, moment),
         }
@@ -392,15 +381,16 @@ impl<T: Drop> Seat<T> {
         moment: Moment,
     ) -> Due
         requires clock { R.shown moment }
-        ensures sought { WasSought self.old.sign D.policy self.old.user bookmark.now moment
+        ensures sought { WasSought self.old.outbox self.new.outbox
+            D.policy self.old.user bookmark.now moment
             self.old.session (met D.held self.old.pass) self.old.watch
             self.new.session (met D.held self.new.pass) self.new.watch result }
         ensures user { self.new.user ≡ self.old.user }
     {
-        match self.sign.take() {
+        match self.outbox.sign.take() {
             Some(sign) => Due::Sign(Signed { sign }),
             None => {
-                if self.is_over() {
+                if self.session.is_over() {
                     Due::Over(Finished { _seen: () })
                 } else {
                     self.watch_on(rt, door, bookmark, moment)
@@ -424,9 +414,7 @@ impl<T: Drop> Seat<T> {
             self.old.session (met D.held self.old.pass)
             self.new.session (met D.held self.new.pass) }
         ensures user { self.new.user ≡ self.old.user }
-        ensures answer { self.new.answer ≡ answer_after self.old.answer
-            (turn self.old.session (sent_of fetched.pulled) moment).reply.send }
-        ensures sign { self.new.sign ≡ sign_after self.old.sign
+        ensures outbox { self.new.outbox ≡ left_after self.old.outbox
             (turn self.old.session (sent_of fetched.pulled) moment).reply.send }
         ensures watch { self.new.watch ≡ watch_sent fetched }
     {

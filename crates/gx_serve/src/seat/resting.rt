@@ -15,8 +15,7 @@ impl<T: Drop> Seat<T> {
         ensures user { self.new.user ≡ self.old.user }
         ensures session { self.new.session ≡ self.old.session }
         ensures pass { self.new.pass ≡ self.old.pass }
-        ensures answer { self.new.answer ≡ self.old.answer }
-        ensures sign { self.new.sign ≡ self.old.sign }
+        ensures outbox { self.new.outbox ≡ self.old.outbox }
         ensures watch { self.new.watch ≡ self.old.watch }
     {
         let silent = self.session.is_silent(moment);

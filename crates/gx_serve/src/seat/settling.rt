@@ -31,8 +31,7 @@ impl<T: Drop> Seat<T> {
         ensures own { mine (met D.held self.new.pass) ≡ mine (met D.held self.old.pass) }
         ensures user { self.new.user ≡ self.old.user }
         ensures session { self.new.session ≡ self.old.session }
-        ensures answer { self.new.answer ≡ self.old.answer }
-        ensures sign { self.new.sign ≡ self.old.sign }
+        ensures outbox { self.new.outbox ≡ self.old.outbox }
         ensures watch { self.new.watch ≡ self.old.watch }
     {
         if self.is_settled {

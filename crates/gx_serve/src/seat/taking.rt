@@ -24,8 +24,7 @@ impl<T: Drop> Seat<T> {
     fn exclusion<D: Door<Ticket = T>>(&mut self, door: &D) -> Option<Exclusion>
         ensures user { self.new.user ≡ self.old.user }
         ensures session { self.new.session ≡ self.old.session }
-        ensures answer { self.new.answer ≡ self.old.answer }
-        ensures sign { self.new.sign ≡ self.old.sign }
+        ensures outbox { self.new.outbox ≡ self.old.outbox }
         ensures watch { self.new.watch ≡ self.old.watch }
     {
         let length = self.length(door);

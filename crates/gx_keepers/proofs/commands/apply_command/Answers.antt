@@ -1,5 +1,6 @@
 use Rattle.gx_keepers.proofs.Commanded.{command_goes_on, command_places, has_room_for, has_setting}
 use Rattle.gx_keepers.specs.Ends.{owed_by_next}
+use Rattle.gx_keepers.proofs.Ending.{book_is_live}
 use Rattle.gx_keepers.proofs.Rooms.{both_keep_room, sent_keeps_room, telling_all_keeps_room}
 use Rattle.gx_keepers.proofs.commands.apply_command.Goals as goal
 use Rattle.gx_history.specs.declared.moves.Move.TheVariants as moves
@@ -15,6 +16,9 @@ pub tell_of_command-requires : goal.tell_of_command-requires
 tell_of_command-requires c =
     command_places c.args.next.policy.now c.args.next.history.now.records c.args.next.left.now c.args.officer c.args.c.now c.args.keepers.now _ _ _ _ (day_so c.args.next.left.now c.args.next.moves.now (moves.Commands c.args.officer c.args.c.now) c.args.keepers.now.day _ c.requires.commands c.apply.ensures) c.granted_code-code.ensures c.in_ok-set.ensures.streams
     (takes_so c.args.next.policy.now c.args.next.history.now.records c.args.next.moves.now (moves.Commands c.args.officer c.args.c.now) c.args.next.left.now c.args.keepers.now c.requires.commands c.requires.takes) c.requires.places c.rules.ensures.sound
+
+pub end_orders-requires : goal.end_orders-requires
+end_orders-requires c = book_is_live c.args.next.policy.now c.args.next.history.now.records c.args.next.moves.now c.args.next.left.now c.args.keepers.now c.requires.takes
 
 pub returns-clause-ok : goal.returns-clause-ok
 returns-clause-ok c =

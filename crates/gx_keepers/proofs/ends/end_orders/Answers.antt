@@ -2,7 +2,7 @@ use Rattle.std.proofs.Common.{List, subst}
 use Rattle.gx_history.specs.declared.live_order.LiveOrder.{LiveOrder}
 use Rattle.gx_ledger.specs.Following.{ClosesAll}
 use Rattle.gx_keepers.proofs.Commanded.{none_ends_by_default}
-use Rattle.gx_keepers.proofs.Ending.{close_day_closes, kill_closes}
+use Rattle.gx_keepers.proofs.Ending.{close_day_closes, kill_closes, kill_takes_out}
 use Rattle.gx_keepers.proofs.Figuring.{none_to_close}
 use Rattle.gx_keepers.proofs.ends.end_orders.Goals as goal
 
@@ -10,6 +10,10 @@ pub returns-in-Kill-clause-closed : goal.returns-in-Kill-clause-closed
 returns-in-Kill-clause-closed c =
     kill_closes c.args.action.now c.in-Kill.account c.args.orders.now.live c.args.ledger.now c.close_each.new.ledger c.in-Kill.is
     (subst (λ (os : List LiveOrder). ClosesAll os c.args.ledger.now c.close_each.new.ledger) c.live_of.ensures c.close_each.ensures)
+
+pub returns-in-Kill-clause-taken : goal.returns-in-Kill-clause-taken
+returns-in-Kill-clause-taken c =
+    kill_takes_out c.args.action.now c.in-Kill.account c.args.orders.now.live c.live_of-in-Kill.result c.args.book.now c.take_each_out.new.book c.in-Kill.is c.requires c.live_of-in-Kill.ensures c.take_each_out.ensures
 
 pub returns-in-CloseDay-clause-closed : goal.returns-in-CloseDay-clause-closed
 returns-in-CloseDay-clause-closed c =

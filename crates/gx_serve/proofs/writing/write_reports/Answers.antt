@@ -2,11 +2,11 @@ use Rattle.std.proofs.Common.{◌∙◌, refl}
 use Rattle.gx_serve.proofs.Speaking.{due_still, ends_there, goes_further, is_cut_off}
 use Rattle.gx_serve.proofs.writing.write_reports.Goals as goal
 
-pub returns-in-Err-clause-front : goal.returns-in-Err-clause-front
-returns-in-Err-clause-front g c = λ _. is_cut_off _ _ _ _ _ _ _ c.await_due-due.result (due_still _ _ _ _ _ c.loop.invariant.user c.await_due-due.ensures) c.loop.invariant.says c.in-Err.ensures.front
+pub returns-in-Err : goal.returns-in-Err
+returns-in-Err g c = record { spoken = is_cut_off _ _ _ _ _ _ _ c.await_due-due.result (due_still _ _ _ _ _ c.loop.invariant.user c.await_due-due.ensures) c.loop.invariant.says c.in-Err.ensures.front }
 
-pub returns-in-Some-go_on-clause-spoken : goal.returns-in-Some-go_on-clause-spoken
-returns-in-Some-go_on-clause-spoken g c = λ _. ends_there _ _ _ _ _ _ _ c.await_due-due.result _ c.in-Some-go_on.ensures.last refl c.loop.invariant.says c.in_default.ensures.sent
+pub returns-in-Some-go_on : goal.returns-in-Some-go_on
+returns-in-Some-go_on g c = record { spoken = ends_there _ _ _ _ _ _ _ c.await_due-due.result _ c.in-Some-go_on.ensures.last refl c.loop.invariant.says c.in_default.ensures.sent }
 
 pub loop-preserved : goal.loop-preserved
 loop-preserved g c = record {

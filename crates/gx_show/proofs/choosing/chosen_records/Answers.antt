@@ -1,13 +1,12 @@
 use Rattle.std.proofs.Common.{◌∙◌, sym, ap, arith, ◌≡◌, get_or, [], ◌∷◌, ◌++◌, cond}
 use Rattle.gx_history.specs.declared.record.RecordData.{RecordData}
 use Rattle.gx_show.proofs.KnownNext.{known_none}
-use Rattle.gx_show.proofs.ChosenNext.{chosen_more, chosen_none, known_more, none_over, over_more}
+use Rattle.gx_show.proofs.ChosenNext.{chosen_more, chosen_none, known_more}
 use Rattle.gx_show.proofs.choosing.chosen_records.Goals as goal
 
 pub loop-record-init : goal.loop-record-init
 loop-record-init c = record {
   known = c.new-known.ensures ∙ sym (known_none c.args.policy.now);
-  over = sym (none_over c.args.policy.now c.args.choice.now);
   found = c.new-found.ensures.items ∙ sym (chosen_none c.args.policy.now c.args.choice.now);
 }
 
@@ -18,11 +17,8 @@ loop-record-preserved c =
       known =
           known_more c.args.policy.now c.args.records.now c.loop-record.record-index c.content-shown.result c.record-item.result c.loop-record.known c.note.new.known (omega arith) at
           c.loop-record.invariant.known c.in_ok-note.ensures;
-      over =
-          over_more c.args.policy.now c.args.choice.now c.args.records.now c.loop-record.record-index c.content-shown.result c.record-item.result c.loop-record.known c.loop-record.over c.order_over_after-over.result
-          (omega arith) at c.loop-record.invariant.known c.loop-record.invariant.over c.order_over_after-over.ensures;
       found =
-          chosen_more c.args.policy.now c.args.choice.now c.args.records.now c.loop-record.record-index c.content-shown.result c.record-item.result c.loop-record.known c.loop-record.over c.is_asked_for-is_wanted.result
-          c.loop-record.found.items c.keep.new.found.items (omega arith) at c.loop-record.invariant.known c.loop-record.invariant.over c.loop-record.invariant.found c.is_asked_for-is_wanted.ensures
+          chosen_more c.args.policy.now c.args.choice.now c.args.records.now c.loop-record.record-index c.content-shown.result c.record-item.result c.loop-record.known c.is_asked_for-is_wanted.result
+          c.loop-record.found.items c.keep.new.found.items (omega arith) at c.loop-record.invariant.known c.loop-record.invariant.found c.is_asked_for-is_wanted.ensures
           (c.in_ok-keep.ensures ∙ ap (λ (r : RecordData). c.loop-record.found.items ++ cond c.is_asked_for-is_wanted.result (r ∷ []) []) (sym c.content-shown.ensures.same));
     }

@@ -1,8 +1,6 @@
 use Rattle.std.proofs.Common.{◌≡◌, ◌∙◌, ap, sym}
-use Rattle.gx_history.specs.declared.record.Step.TheVariants as steps
-use Rattle.gx_history.specs.Asking.{facts}
 use Rattle.gx_history.specs.Showing.{answers}
-use Rattle.gx_history.specs.Verdicts.{facts_now, moment_of, verdict}
+use Rattle.gx_history.specs.Verdicts.{facts_now, verdict}
 use Rattle.gx_history_laws.proofs.Showable.{verdict_is_shown}
 use Rattle.gx_decide.proofs.Agreeing.{decided_is_the_verdict}
 use Rattle.gx_answers.specs.Gates.{GateData}
@@ -15,9 +13,7 @@ returns-clause-verdict c =
     let keepers = c.self.inside.keepers in
     let in_force = c.self.invariant.kept.in_force in
     let known : c.args.known.now ≡ facts_now policy records c.args.a.now =
-    c.requires.known
-    ∙ ap (λ (g : GateData). facts g.policy g.records c.args.a.now c.args.moment) (sym c.self.view_is)
-    ∙ ap (facts policy records c.args.a.now) (c.requires.moment ∙ ap (λ (g : GateData). moment_of g.records (steps.Asked c.args.a.now)) (sym c.self.view_is)) in
+    c.requires.known ∙ ap (λ (g : GateData). facts_now g.policy g.records c.args.a.now) (sym c.self.view_is) in
     decided_is_the_verdict policy records keepers.people keepers.rules keepers.ledger c.args.known.now c.args.a.now c.decide.result
     c.rules.ensures.sound c.self.invariant.kept.legal in_force.people in_force.rules known in_force.ledger c.decide.ensures.decided
     ∙ ap (λ (g : GateData). verdict g.policy g.records c.args.a.now) c.self.view_is

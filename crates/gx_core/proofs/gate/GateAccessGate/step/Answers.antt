@@ -22,11 +22,11 @@ use Rattle.gx_core.proofs.gate.GateAccessGate.step.Goals as goal
 
 pub returns-clause-judged : goal.returns-clause-judged
 returns-clause-judged c =
-    subst (λ (g : GateData). IsJudged g c.args.a c.judge-judged.result.outcome.verdict) c.self.view_is
+    subst (λ (g : GateData). IsJudged g c.args.a c.judge-outcome.result.verdict) c.self.view_is
     (record {
-      granted = granted_exactly c.self.inside.policy c.self.inside.history.records c.args.a (left_by c.args.a c.judge-judged.result.outcome) (ap (λ (g : GateData). next_of g c.args.a) c.self.view_is ∙ c.judge-judged.ensures.next);
+      granted = granted_exactly c.self.inside.policy c.self.inside.history.records c.args.a (left_by c.args.a c.judge-outcome.result) (ap (λ (g : GateData). next_of g c.args.a) c.self.view_is ∙ c.judge-outcome.ensures.next);
       denied = λ (name : RuleName) h.
-          denied_names_first c.self.inside.policy c.self.inside.history.records c.args.a (left_by c.args.a c.judge-judged.result.outcome) name (ap (λ (g : GateData). next_of g c.args.a) c.self.view_is ∙ c.judge-judged.ensures.next) h;
+          denied_names_first c.self.inside.policy c.self.inside.history.records c.args.a (left_by c.args.a c.judge-outcome.result) name (ap (λ (g : GateData). next_of g c.args.a) c.self.view_is ∙ c.judge-outcome.ensures.next) h;
     })
 
 pub returns-clause-effect : goal.returns-clause-effect
@@ -35,21 +35,21 @@ returns-clause-effect c =
     (c.push_reserved.ensures.records
     ∙ ap (λ (records : List RecordData). records ++ c.new-record.result ∷ []) c.keep_for.ensures.records
     ∙ ap (λ (r : RecordData). c.self.inside.history.records ++ r ∷ []) (c.new-record.ensures ∙ c.record_of-entry.ensures))
-    ∙ world_next c.self.inside.policy c.self.inside.history.records (steps.Asked c.args.a) (left_by c.args.a c.judge-judged.result.outcome) c.self.invariant.kept.legal
-    (ap (λ (g : GateData). next_of g c.args.a) c.self.view_is ∙ c.judge-judged.ensures.next)
-    ∙ ap (λ (g : GateData). moved_by g (left_by c.args.a c.judge-judged.result.outcome)) c.self.view_is
+    ∙ world_next c.self.inside.policy c.self.inside.history.records (steps.Asked c.args.a) (left_by c.args.a c.judge-outcome.result) c.self.invariant.kept.legal
+    (ap (λ (g : GateData). next_of g c.args.a) c.self.view_is ∙ c.judge-outcome.ensures.next)
+    ∙ ap (λ (g : GateData). moved_by g (left_by c.args.a c.judge-outcome.result)) c.self.view_is
 
 pub returns-clause-may_move : goal.returns-clause-may_move
 returns-clause-may_move c =
-    subst (λ (g : GateData). MayMoveBy g (left_by c.args.a c.judge-judged.result.outcome)) c.self.view_is
-    (may_move c.self.inside.policy c.self.inside.history.records (steps.Asked c.args.a) (left_by c.args.a c.judge-judged.result.outcome) c.self.invariant.kept.legal
-    (ap (λ (g : GateData). next_of g c.args.a) c.self.view_is ∙ c.judge-judged.ensures.next))
+    subst (λ (g : GateData). MayMoveBy g (left_by c.args.a c.judge-outcome.result)) c.self.view_is
+    (may_move c.self.inside.policy c.self.inside.history.records (steps.Asked c.args.a) (left_by c.args.a c.judge-outcome.result) c.self.invariant.kept.legal
+    (ap (λ (g : GateData). next_of g c.args.a) c.self.view_is ∙ c.judge-outcome.ensures.next))
 
 pub returns-clause-lifted_by : goal.returns-clause-lifted_by
 returns-clause-lifted_by c =
     rw (← c.self.view_is) (λ (account : AccountName) killed lifted.
-    kill_ends_by_lift c.self.inside.policy c.self.inside.history.records (left_by c.args.a c.judge-judged.result.outcome) account c.self.invariant.kept.legal
-    (record { is_next = (ap (λ (g : GateData). next_of g c.args.a) c.self.view_is ∙ c.judge-judged.ensures.next); fits_day = asked_fits c.self.inside.policy c.self.inside.history.records c.args.a (left_by c.args.a c.judge-judged.result.outcome) c.self.inside.history.spare c.keep_for.new.history.spare (ap (λ (g : GateData). next_of g c.args.a) c.self.view_is ∙ c.judge-judged.ensures.next) (record { more = c.keep_for.ensures.more; own = c.in_ok-keep_for.ensures.own; room = c.in_ok-keep_for.ensures.room }) }) killed
+    kill_ends_by_lift c.self.inside.policy c.self.inside.history.records (left_by c.args.a c.judge-outcome.result) account c.self.invariant.kept.legal
+    (record { is_next = (ap (λ (g : GateData). next_of g c.args.a) c.self.view_is ∙ c.judge-outcome.ensures.next); fits_day = asked_fits c.self.inside.policy c.self.inside.history.records c.args.a (left_by c.args.a c.judge-outcome.result) c.self.inside.history.spare c.keep_for.new.history.spare (ap (λ (g : GateData). next_of g c.args.a) c.self.view_is ∙ c.judge-outcome.ensures.next) (record { more = c.keep_for.ensures.more; own = c.in_ok-keep_for.ensures.own; room = c.in_ok-keep_for.ensures.room }) }) killed
     (sym
     (ap (λ (records : List RecordData). is_killed c.self.inside.policy records account)
     (c.push_reserved.ensures.records
@@ -59,16 +59,16 @@ returns-clause-lifted_by c =
 
 pub carry_on-requires : goal.carry_on-requires
 carry_on-requires c = record {
-  takes = takes c.self.inside.policy c.self.inside.history.records c.keep_for.new.history.records (steps.Asked c.args.a) c.judge-judged.result.moves (left_by c.args.a c.judge-judged.result.outcome) c.record_of-entry.result c.self.inside.history.spare c.self.inside.keepers c.self.invariant c.keep_for.ensures.records c.record_of-entry.ensures
-      (ap (λ (g : GateData). next_of g c.args.a) c.self.view_is ∙ c.judge-judged.ensures.next)
-      (c.judge-judged.ensures.does ∙ ap (λ (g : GateData). done_by g (left_by c.args.a c.judge-judged.result.outcome)) (sym c.self.view_is))
-      (asked_fits c.self.inside.policy c.self.inside.history.records c.args.a (left_by c.args.a c.judge-judged.result.outcome) c.self.inside.history.spare c.keep_for.new.history.spare (ap (λ (g : GateData). next_of g c.args.a) c.self.view_is ∙ c.judge-judged.ensures.next) (record { more = c.keep_for.ensures.more; own = c.in_ok-keep_for.ensures.own; room = c.in_ok-keep_for.ensures.room }));
+  takes = takes c.self.inside.policy c.self.inside.history.records c.keep_for.new.history.records (steps.Asked c.args.a) c.put_asked_move.new.moves (left_by c.args.a c.judge-outcome.result) c.record_of-entry.result c.self.inside.history.spare c.self.inside.keepers c.self.invariant c.keep_for.ensures.records c.record_of-entry.ensures
+      (ap (λ (g : GateData). next_of g c.args.a) c.self.view_is ∙ c.judge-outcome.ensures.next)
+      (c.put_asked_move.ensures.does ∙ ap (done_by c.args.self.now) c.record_of-entry.ensures ∙ ap (λ (g : GateData). done_by g (left_by c.args.a c.judge-outcome.result)) (sym c.self.view_is))
+      (asked_fits c.self.inside.policy c.self.inside.history.records c.args.a (left_by c.args.a c.judge-outcome.result) c.self.inside.history.spare c.keep_for.new.history.spare (ap (λ (g : GateData). next_of g c.args.a) c.self.view_is ∙ c.judge-outcome.ensures.next) (record { more = c.keep_for.ensures.more; own = c.in_ok-keep_for.ensures.own; room = c.in_ok-keep_for.ensures.room }));
   asks = ap (λ (r : RecordData). r.step) c.record_of-entry.ensures;
   kept = told_then c.self.inside.policy c.self.inside.history.records c.keep_for.new.history.records c.self.inside.history.spare c.self.inside.keepers c.self.invariant c.keep_for.ensures.records;
 }
 
 pub push_reserved-requires : goal.push_reserved-requires
-push_reserved-requires c = asked_has_place c.self.inside.policy c.self.inside.history.records c.args.a (left_by c.args.a c.judge-judged.result.outcome) c.self.inside.history.spare c.keep_for.new.history.spare c.self.inside.keepers c.self.invariant (ap (λ (g : GateData). next_of g c.args.a) c.self.view_is ∙ c.judge-judged.ensures.next) (record { more = c.keep_for.ensures.more; own = c.in_ok-keep_for.ensures.own; room = c.in_ok-keep_for.ensures.room })
+push_reserved-requires c = asked_has_place c.self.inside.policy c.self.inside.history.records c.args.a (left_by c.args.a c.judge-outcome.result) c.self.inside.history.spare c.keep_for.new.history.spare c.self.inside.keepers c.self.invariant (ap (λ (g : GateData). next_of g c.args.a) c.self.view_is ∙ c.judge-outcome.ensures.next) (record { more = c.keep_for.ensures.more; own = c.in_ok-keep_for.ensures.own; room = c.in_ok-keep_for.ensures.room })
 
 pub invariant_of-self-2 : goal.invariant_of-self-2
 invariant_of-self-2 c =
@@ -77,7 +77,7 @@ invariant_of-self-2 c =
     (c.push_reserved.ensures.records
     ∙ ap (λ (records : List RecordData). records ++ c.new-record.result ∷ []) c.keep_for.ensures.records
     ∙ ap (λ (r : RecordData). c.self.inside.history.records ++ r ∷ []) (c.new-record.ensures ∙ c.record_of-entry.ensures)))
-    (keep_asked c.self.inside.policy c.self.inside.history.records c.args.a (left_by c.args.a c.judge-judged.result.outcome) c.self.inside.history.spare c.keep_for.new.history.spare c.push_reserved.new.self.spare c.self.inside.keepers c.carry_on.new.keepers c.self.invariant (ap (λ (g : GateData). next_of g c.args.a) c.self.view_is ∙ c.judge-judged.ensures.next) (record { more = c.keep_for.ensures.more; own = c.in_ok-keep_for.ensures.own; room = c.in_ok-keep_for.ensures.room }) c.push_reserved.ensures.spare
+    (keep_asked c.self.inside.policy c.self.inside.history.records c.args.a (left_by c.args.a c.judge-outcome.result) c.self.inside.history.spare c.keep_for.new.history.spare c.push_reserved.new.self.spare c.self.inside.keepers c.carry_on.new.keepers c.self.invariant (ap (λ (g : GateData). next_of g c.args.a) c.self.view_is ∙ c.judge-outcome.ensures.next) (record { more = c.keep_for.ensures.more; own = c.in_ok-keep_for.ensures.own; room = c.in_ok-keep_for.ensures.room }) c.push_reserved.ensures.spare
     (subst (λ (records : List RecordData). AreCarried c.self.inside.policy records c.carry_on.new.keepers)
     (ap (λ (records : List RecordData). records ++ c.record_of-entry.result ∷ []) c.keep_for.ensures.records
     ∙ ap (λ (r : RecordData). c.self.inside.history.records ++ r ∷ []) c.record_of-entry.ensures)
@@ -97,19 +97,19 @@ invariant_of-self-in_err-carry_on c =
 
 pub returns-in_err-keep_for-clause-never_refused : goal.returns-in_err-keep_for-clause-never_refused
 returns-in_err-keep_for-clause-never_refused c = λ sure.
-    let clash : false ≡ true = sym (ap is_ok c.in_err-keep_for.was) ∙ c.keep_for.ensures.sure (ap (has_kept_places c.args.a.request) c.judge-judged.ensures.verdict ∙ sure) in cc
+    let clash : false ≡ true = sym (ap is_ok c.in_err-keep_for.was) ∙ c.keep_for.ensures.sure (ap (has_kept_places c.args.a.request) c.judge-outcome.ensures.verdict ∙ sure) in cc
 
 pub returns-in_err-carry_on-clause-never_refused : goal.returns-in_err-carry_on-clause-never_refused
 returns-in_err-carry_on-clause-never_refused c = λ sure.
     let clash : false ≡ true =
     sym (ap is_ok c.in_err-carry_on.was)
-    ∙ c.carry_on.ensures.sure (ap (λ (r : RecordData). has_kept_places c.args.a.request r.verdict) c.record_of-entry.ensures ∙ ap (has_kept_places c.args.a.request) c.judge-judged.ensures.verdict ∙ sure)
+    ∙ c.carry_on.ensures.sure (ap (λ (r : RecordData). has_kept_places c.args.a.request r.verdict) c.record_of-entry.ensures ∙ ap (has_kept_places c.args.a.request) c.judge-outcome.ensures.verdict ∙ sure)
     in cc
 
 pub returns-in_err-carry_on-clause-full : goal.returns-in_err-carry_on-clause-full
 returns-in_err-carry_on-clause-full c = λ full none.
-    absurd (omega (arith, c.in_ok-keep_for.ensures.room (ap (has_kept_places c.args.a.request) c.judge-judged.ensures.verdict ∙ none), full, ap (λ (g : GateData). length g.records) c.self.view_is))
+    absurd (omega (arith, c.in_ok-keep_for.ensures.room (ap (has_kept_places c.args.a.request) c.judge-outcome.ensures.verdict ∙ none), full, ap (λ (g : GateData). length g.records) c.self.view_is))
 
 pub returns-clause-full : goal.returns-clause-full
 returns-clause-full c = λ full none.
-    absurd (omega (arith, c.in_ok-keep_for.ensures.room (ap (has_kept_places c.args.a.request) c.judge-judged.ensures.verdict ∙ none), full, ap (λ (g : GateData). length g.records) c.self.view_is))
+    absurd (omega (arith, c.in_ok-keep_for.ensures.room (ap (has_kept_places c.args.a.request) c.judge-outcome.ensures.verdict ∙ none), full, ap (λ (g : GateData). length g.records) c.self.view_is))

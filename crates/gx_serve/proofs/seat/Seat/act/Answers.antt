@@ -1,4 +1,4 @@
-use Rattle.std.proofs.Common.{Some, Result, IfOk, sym, ◌∙◌, subst}
+use Rattle.std.proofs.Common.{Result, IfOk, sym, ◌∙◌, subst}
 use Rattle.gx_answers.specs.declared.outcome.StepFault.{StepFault}
 use Rattle.gx_answers.specs.Gates.{left_by}
 use Rattle.gx_door.specs.declared.matched.Turned.{Turned}

@@ -1,4 +1,4 @@
-use Rattle.gx_report.proofs.making.day_report.Goals as goal
+use Rattle.gx_report.proofs.making.see.Goals as goal
 
 pub replay_watched-requires : goal.replay_watched-requires
 replay_watched-requires g c = record {
