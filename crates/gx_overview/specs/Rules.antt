@@ -1,5 +1,5 @@
 -- What stands of the policy's rules, and of the day.
-use Rattle.std.specs.Prelude.{ℕ, ◌-◌, true, false, List, Option, None, option_map, option_and_then, length, if◌then◌else◌}
+use Rattle.std.specs.Prelude.{ℕ, ℤ, pos, negsuc, ◌+◌, ◌-◌, true, false, List, Option, None, option_map, option_and_then, length, if◌then◌else◌}
 use Rattle.gx_units.specs.declared.names.AccountName.{AccountName}
 use Rattle.gx_units.specs.declared.names.RuleId.{RuleId}
 use Rattle.gx_policy.specs.declared.policy.Account.{Account}
@@ -42,12 +42,23 @@ gross_row policy records rule a = record {
   left = left_of (limit_in_force policy records rule) (gross_used policy records rule a.name);
 }
 
--- what the account has used of the limit of a net rule on each side of a stock
+-- how many shares a net figure may rise by under a limit, none where it is past it
+abbrev pub room_of : ℕ → ℤ → ℕ
+room_of limit (pos used) = limit - used
+room_of limit (negsuc n) = limit + (n + 1)
+
+-- what is left of a net limit
+abbrev pub net_left_of : Option ℕ → Option ℤ → Option ℕ
+net_left_of limit used = option_and_then (λ (most : ℕ). option_map (room_of most) used) limit
+
+-- what the account has used of the limit of a net rule on each side of a stock, and what is left of it
 abbrev pub net_row : PolicyData → List RecordData → RuleId → AccountName → Stock → NetRow
 net_row policy records rule account s = record {
   stock = s.name;
   buys = net_used policy records rule account (record { stock = s.name; buys = true });
   sells = net_used policy records rule account (record { stock = s.name; buys = false });
+  buys_left = net_left_of (limit_in_force policy records rule) (net_used policy records rule account (record { stock = s.name; buys = true }));
+  sells_left = net_left_of (limit_in_force policy records rule) (net_used policy records rule account (record { stock = s.name; buys = false }));
 }
 
 -- whether the rule lists the stock now, and the Restrict that put it there

@@ -3,7 +3,7 @@
 ghost use Rattle.std.specs.Prelude.{◌≡◌, map, IfOk};
 ghost use Rattle.gx_history.specs.InForce.{limit_of};
 ghost use Rattle.gx_overview.specs.Commands.{granted_commands};
-ghost use Rattle.gx_overview.specs.Rules.{gross_row, left_of, limit_row, listing_row, net_row};
+ghost use Rattle.gx_overview.specs.Rules.{gross_row, left_of, limit_row, listing_row, net_left_of, net_row, room_of};
 
 use crate::commands::{GrantedCommand, Subject, last_about};
 use gx_history::facts::StockSide;
@@ -36,14 +36,16 @@ pub struct GrossRow {
     pub left: Option<u128>,
 }
 
-/// What is used of the limit of a net rule on each side of a stock, in shares: below 0 where more were executed on the other
-/// side.
+/// What is used of the limit of a net rule on each side of a stock, in shares, below 0 where more were executed on the other
+/// side; and what is left of the limit in force there: by how many shares more the figure may rise, 0 where it is past it.
 #[derive(Clone, Copy, PartialEq, Eq)]
 pub struct NetRow {
     pub stock: Symbol,
     /// None where the rule is no net rule, or not for the account.
     pub buys: Option<i128>,
     pub sells: Option<i128>,
+    pub buys_left: Option<u128>,
+    pub sells_left: Option<u128>,
 }
 
 /// Whether a rule lists a stock now.
@@ -179,17 +181,40 @@ pub fn gross_rows<G: ShowsState>(
     gross_rows_of(alloc, gate, rule, gate.policy().accounts())
 }
 
+/// By how many shares a net figure may rise under this limit.
+fn room_of(limit: u64, used: i128) -> u128
+    ensures { result ≡ room_of limit used }
+{
+    if used < 0 {
+        u128::from(limit) + used.unsigned_abs()
+    } else {
+        u128::from(limit).saturating_sub(used as u128)
+    }
+}
+
+fn net_left_of(limit: Option<u64>, used: Option<i128>) -> Option<u128>
+    ensures { result ≡ net_left_of limit used }
+{
+    match (limit, used) {
+        (Some(limit), Some(used)) => Some(room_of(limit, used)),
+        _ => None,
+    }
+}
+
 fn net_row<G: ShowsState>(gate: &G, rule: RuleId, account: AccountName, stock: &Stock) -> NetRow
     ensures { result ≡
         net_row (G.seen gate.now).policy (G.seen gate.now).records rule account stock.now }
 {
     let stock = stock.name;
-    let bought = StockSide { stock, buys: true };
-    let sold = StockSide { stock, buys: false };
+    let buys = gate.net_used(rule, account, StockSide { stock, buys: true });
+    let sells = gate.net_used(rule, account, StockSide { stock, buys: false });
+    let limit = gate.limit(rule);
     NetRow {
         stock,
-        buys: gate.net_used(rule, account, bought),
-        sells: gate.net_used(rule, account, sold),
+        buys,
+        sells,
+        buys_left: net_left_of(limit, buys),
+        sells_left: net_left_of(limit, sells),
     }
 }
 

@@ -1,18 +1,20 @@
 -- Samples that were taken stay those of the day as it goes on.
-use Rattle.std.proofs.Common.{◌≡◌, ℕ, ◌+◌, ◌≤◌, List, [], ◌∷◌, ◌++◌, length, take, map, sym, ap, ◌∙◌, subst, suc, arith, refl}
-use Rattle.std.specs.Prelude.{slice_get, Some}
+use Rattle.std.proofs.Common.{◌≡◌, ℕ, ◌+◌, ◌<◌, ◌≤◌, List, [], ◌∷◌, ◌++◌, fold, get_or, length, take, map, sym, ap, ◌∙◌, subst, suc, arith, refl}
+use Rattle.std.specs.Prelude.{Option, slice_get, Some, None}
 use Rattle.std.specs.List.{AllByRecursion}
 use Rattle.std.proofs.Math.Seq.{take-length, take-suc}
 use Rattle.std.proofs.lemmas.Grind.{flat_map-append}
-use Rattle.std.proofs.lemmas.List.{append-nil, length-append, take-append-le}
+use Rattle.std.proofs.lemmas.List.{append-nil, length-append, map-append, take-append-le, take_more}
+use Rattle.std.proofs.lemmas.List.Sums.{fold-append}
 use Rattle.std.proofs.lemmas.Option.{get_or_from_slice_get, slice_get_within}
 use Rattle.gx_policy.specs.declared.policy.PolicyData.{PolicyData}
+use Rattle.gx_policy.specs.declared.policy.Stock.{Stock}
 use Rattle.gx_history.specs.declared.record.RecordData.{RecordData}
 use Rattle.gx_history_laws.proofs.Pushing.{all_next}
 use Rattle.gx_records.specs.Watching.{earlier_of}
 use Rattle.gx_report.specs.declared.samples.Samples.{Samples}
 use Rattle.gx_report.specs.declared.samples.Seat.{Seat}
-use Rattle.gx_report.specs.Samples.{AreTaken, sample_of, samples_after, samples_at}
+use Rattle.gx_report.specs.Samples.{AreTaken, more_of, most_used, sample_of, samples_after, samples_at, used_in}
 
 -- so many, and one more
 take_one_more : (counts : List ℕ) (taken count : ℕ) → slice_get counts taken ≡ Some count → take (taken + 1) counts ≡ take taken counts ++ count ∷ []
@@ -61,3 +63,17 @@ goes_on policy samples earlier r are = record {
 -- what was taken in front of the last record stays so behind it
 pub stay_taken : (policy : PolicyData) (samples : Samples) (records : List RecordData) (r : RecordData) → records ≡ earlier_of records ++ r ∷ [] → AreTaken policy samples (earlier_of records) → AreTaken policy samples records
 stay_taken policy samples records r last are = subst (AreTaken policy samples) (sym last) (goes_on policy samples (earlier_of records) r are)
+
+-- the most that is used in one more stock
+pub most_more : (policy : PolicyData) (records : List RecordData) (seat : Seat) (stocks : List Stock) (i : ℕ) (other : Stock) (before after there : Option ℕ) → i < length stocks
+    → before ≡ most_used policy records seat (take i stocks) → there ≡ used_in policy records seat (get_or stocks i other).name → after ≡ more_of before there
+    → after ≡ most_used policy records seat (take (i + 1) stocks)
+most_more policy records seat stocks i other before after there within was is now =
+    now
+    ∙ (λ j. more_of (was j) (is j))
+    ∙ sym (fold-append more_of None (map used (take i stocks)) (used (get_or stocks i other) ∷ []))
+    ∙ sym (ap (fold more_of None) (map-append used (take i stocks) (get_or stocks i other ∷ [])))
+    ∙ sym (ap (most_used policy records seat) (take_more stocks i other within))
+  where
+    used : Stock → Option ℕ
+    used s = used_in policy records seat s.name

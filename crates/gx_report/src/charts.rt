@@ -218,6 +218,15 @@ fn append_seat(text: &mut Vec<u8>, alloc: Global, seat: &Seat) -> Result<(), Out
     append_escaped(text, name.as_slice())
 }
 
+/// What a person reads behind the rule and the account.
+fn caption_of(seat: &Seat) -> &'static [u8] {
+    if seat.is_net {
+        b": used share of the limit, on the side of a stock where it is greatest"
+    } else {
+        b": used share of the limit"
+    }
+}
+
 /// A line of the used share of a seat's limit at the end of each span, below the rule and the account.
 pub(crate) fn append_share_chart(
     text: &mut Vec<u8>,
@@ -232,7 +241,7 @@ pub(crate) fn append_share_chart(
     };
     begin_figure(text)?;
     append_seat(text, alloc, seat)?;
-    append(text, b": used share of the limit")?;
+    append(text, caption_of(seat))?;
     begin_chart(text)?;
     append_marks(text)?;
     append_line(text, spans, samples, place, seats.len())?;

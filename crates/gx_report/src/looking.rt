@@ -24,6 +24,7 @@ pub type ReportWatch = Both<Desk, Both<Samples, Peaks>>;
 fn push_seats(
     seats: &mut Vec<Seat>,
     rule: &FileRule,
+    is_net: bool,
     count: Count,
     accounts: &[Account],
 ) -> Result<(), OutOfMemory> {
@@ -32,6 +33,7 @@ fn push_seats(
             seats.push(Seat {
                 rule: rule.name,
                 account: account.name,
+                is_net,
             })?;
             if count == Count::Together {
                 return Ok(());
@@ -41,13 +43,16 @@ fn push_seats(
     Ok(())
 }
 
-/// The accounts of each gross rule whose figures differ: each that it is for, or one where it counts them together.
+/// The accounts of each gross and net rule whose figures differ: each that it is for, or one where it counts them together.
 pub(crate) fn seats_of(alloc: Global, policy: &Policy) -> Result<Vec<Seat>, OutOfMemory> {
     let mut seats = Vec::new(alloc);
     for rule in policy.rules() {
         match &rule.kind {
             RuleKind::GrossShares(_, count) | RuleKind::GrossValue(_, count) => {
-                push_seats(&mut seats, rule, *count, policy.accounts())?
+                push_seats(&mut seats, rule, false, *count, policy.accounts())?
+            }
+            RuleKind::NetShares(_, count) => {
+                push_seats(&mut seats, rule, true, *count, policy.accounts())?
             }
             _ => {}
         }

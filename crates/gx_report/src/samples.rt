@@ -1,24 +1,29 @@
-//! How much of gross limits was used at some times of the day.
+//! How much of gross and net limits was used at some times of the day.
 
 ghost use Rattle.std.specs.Prelude.{◌≡◌, ◌+◌, ◌++◌, [], length, map, slice_get, IsTrue, OnOk, Some};
-ghost use Rattle.gx_report.specs.Samples.{sample_of, AreTaken};
+ghost use Rattle.gx_report.specs.Samples.{more_of, most_used, sample_of, used_in, used_there, AreTaken};
 
+use gx_history::facts::StockSide;
 use gx_history::record::RecordData;
+use gx_peaks::Figure;
+use gx_policy::Stock;
 use gx_records::{ShowsState, Watches};
-use gx_units::{AccountName, OutOfMemory, RuleId};
+use gx_units::{AccountName, OutOfMemory, RuleId, Symbol};
 use std::alloc::Global;
 
-/// A gross rule, and an account that it is for.
+/// A gross or net rule, and an account that it is for.
 #[derive(Clone, Copy, PartialEq, Eq)]
 pub struct Seat {
     pub rule: RuleId,
     pub account: AccountName,
+    /// The rule counts on each side of a stock by itself: the side and the stock where most is used are meant.
+    pub is_net: bool,
 }
 
 /// How much was used of a limit, in shares or in ten-thousandths of a dollar, and the limit then.
 #[derive(Clone, Copy, PartialEq, Eq)]
 pub struct Sample {
-    /// None where the rule is no gross rule for the account.
+    /// None where the rule is none of this sort for the account.
     pub used: Option<u128>,
     pub limit: Option<u64>,
 }
@@ -35,11 +40,67 @@ pub struct Samples {
     pub list: Vec<Sample>,
 }
 
+/// The greater of two figures, or the one that there is.
+fn more_of(one: Option<u128>, other: Option<u128>) -> Option<u128>
+    ensures { result ≡ more_of one other }
+{
+    match (one, other) {
+        (None, _) => other,
+        (Some(_), None) => one,
+        (Some(one), Some(other)) => Some(one.max(other)),
+    }
+}
+
+/// What is used of a net rule's limit on this side of a stock, as far as it is above 0.
+fn used_there<G: ShowsState>(gate: &G, seat: &Seat, side: StockSide) -> Option<u128>
+    ensures { result
+        ≡ used_there (G.seen gate.now).policy (G.seen gate.now).records seat.now side }
+{
+    let figure = Figure {
+        rule: seat.rule,
+        account: seat.account,
+        side: Some(side),
+    };
+    figure.used(gate)
+}
+
+/// What is used of a net rule's limit on either side of the stock, where more is.
+fn used_in<G: ShowsState>(gate: &G, seat: &Seat, stock: Symbol) -> Option<u128>
+    ensures { result ≡ used_in (G.seen gate.now).policy (G.seen gate.now).records seat.now stock }
+{
+    let bought = used_there(gate, seat, StockSide { stock, buys: true });
+    let sold = used_there(gate, seat, StockSide { stock, buys: false });
+    more_of(bought, sold)
+}
+
+/// What is used of a net rule's limit in the stock where most is, of these.
+fn most_used<G: ShowsState>(gate: &G, seat: &Seat, stocks: &[Stock]) -> Option<u128>
+    ensures { result ≡
+        most_used (G.seen gate.now).policy (G.seen gate.now).records seat.now stocks.now }
+{
+    let mut most = None;
+    for stock in stocks {
+        most = more_of(most, used_in(gate, seat, stock.name));
+    }
+    most
+}
+
+fn used_of<G: ShowsState>(gate: &G, seat: &Seat) -> Option<u128>
+    ensures { result
+        ≡ (sample_of (G.seen gate.now).policy (G.seen gate.now).records seat.now).used }
+{
+    if seat.is_net {
+        most_used(gate, seat, gate.policy().stocks())
+    } else {
+        gate.gross_used(seat.rule, seat.account)
+    }
+}
+
 fn sample_of<G: ShowsState>(gate: &G, seat: &Seat) -> Sample
     ensures { result ≡ sample_of (G.seen gate.now).policy (G.seen gate.now).records seat.now }
 {
     Sample {
-        used: gate.gross_used(seat.rule, seat.account),
+        used: used_of(gate, seat),
         limit: gate.limit(seat.rule),
     }
 }

@@ -199,6 +199,10 @@ fn append_net_row(
     append_difference(text, row.buys)?;
     append(text, b",\"sells\":")?;
     append_difference(text, row.sells)?;
+    append(text, b",\"buys_left\":")?;
+    append_sum(text, row.buys_left)?;
+    append(text, b",\"sells_left\":")?;
+    append_sum(text, row.sells_left)?;
     append(text, b"}")
 }
 

@@ -197,8 +197,12 @@ fn append_net_line(
     append_padded(text, &row.stock.bytes)?;
     append(text, b"  B ")?;
     append_integer(text, buys)?;
+    append(text, b" left ")?;
+    append_integer(text, row.buys_left.unwrap_or(0))?;
     append(text, b"  S ")?;
     append_integer(text, sells)?;
+    append(text, b" left ")?;
+    append_integer(text, row.sells_left.unwrap_or(0))?;
     append(text, b"\n")
 }
 
