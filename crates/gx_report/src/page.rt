@@ -97,7 +97,7 @@ fn append_share_charts(
 ) -> Result<(), OutOfMemory> {
     let seats = report.samples.seats.as_slice();
     let samples = report.samples.list.as_slice();
-    append(text, b"<h2>Used share of gross limits</h2>")?;
+    append(text, b"<h2>Used share of limits</h2>")?;
     for place in 0..seats.len() {
         append_share_chart(text, alloc, report.spans, seats, samples, place)?;
     }
